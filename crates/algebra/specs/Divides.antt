@@ -1,0 +1,117 @@
+-- Divisibility between finite elements: g divides f if a finite q, of whatever bound, has g q = f. A divisor's degree is at most the degree.
+use mathlib.Core.Path.{_≡_, refl, sym, _∙_, ap, ap₂, fun-ext, subst}
+use mathlib.Core.Logic.{_⊎_, inl, inr}
+use Prim.Native.Nat.{ℕ, zero, suc, _+_ as _+ₙ_, _-_ as _-ₙ_, _≤_, _<_}
+use native.Mathlib.Decide.{ℕ-discrete, decLe}
+use native.Mathlib.Omega.{arith}
+use Rattle.algebra.specs.Ring.{CommRing, add-left-comm, mul-left-comm, zero-add, zero-mul, mul-zero, one-mul, distrib-l, neg-zero, neg-unique}
+use Rattle.algebra.specs.Solver.{_⊕_, _⊗_, _⊖_, ⊝, _≗_, k0, k1, ring1, ring2, ring3, ring4, ring5, ring6}
+use Rattle.algebra.specs.Series.{Seq, tail, addS, negS, zeroS, scale, constS, conv, conv-const, conv-comm, SeriesR}
+use Rattle.algebra.specs.Degree.{Ends, Top, Domain, Finite, SeriesD, Ends-weaken, conv-null, conv-ends, top-mul, finite-top, const-ends, const-P}
+use Rattle.algebra.specs.Maps.{Hom, const-mul}
+use Rattle.algebra.specs.Mono.{mono, mono-high, mono-ends}
+
+pub record Div (R : CommRing) (D : Domain R) (e f : R .Car) : Type 0 where
+  pub quo : R .Car
+  pub fin : D .P quo
+  pub eq : R .mul e quo ≡ f
+
+module _ (R : CommRing) (D : Domain R) where
+  open CommRing R using (Car, 𝟘, 𝟙, add as _+_, mul as _*_, neg)
+
+  infixl 60 _+_
+  infixl 70 _*_
+  pub div-refl : (e : Car) → Div R D e e
+  div-refl e = record { quo = 𝟙; fin = D .P-one; eq = R .mul-one e }
+
+  pub div-trans : (d e f : Car) → Div R D d e → Div R D e f → Div R D d f
+  div-trans d e f p q = record {
+    quo = p .quo * q .quo;
+    fin = D .P-mul _ _ (p .fin) (q .fin);
+    eq = sym (R .mul-assoc _ _ _) ∙ ap (_* q .quo) (p .eq) ∙ q .eq;
+  }
+
+  pub div-add : (e f g : Car) → Div R D e f → Div R D e g → Div R D e (f + g)
+  div-add e f g p q = record {
+    quo = p .quo + q .quo;
+    fin = D .P-add _ _ (p .fin) (q .fin);
+    eq = distrib-l R _ _ _ ∙ ap₂ _+_ (p .eq) (q .eq);
+  }
+
+  pub div-mul : (e f c : Car) → D .P c → Div R D e f → Div R D e (c * f)
+  div-mul e f c pc p = record {
+    quo = c * p .quo;
+    fin = D .P-mul _ _ pc (p .fin);
+    eq = mul-left-comm R _ _ _ ∙ ap (c *_) (p .eq);
+  }
+
+  pub div-zero : (e : Car) → Div R D e 𝟘
+  div-zero e = record { quo = 𝟘; fin = D .P-zero; eq = mul-zero R e }
+
+  pub div-to : (e a b : Car) → a ≡ b → Div R D e a → Div R D e b
+  div-to e a b p d = record { quo = d .quo; fin = d .fin; eq = d .eq ∙ p }
+
+  -- a factor that is not 0 is cancelled
+  pub cancel : (a b c : Car) → D .P a → D .P b → D .P c → ¬ (c ≡ 𝟘) → c * a ≡ c * b → a ≡ b
+  cancel a b c pa pb pc nc e = elim (D .dec0 (a + neg b) (D .P-add _ _ pa (D .P-neg _ pb))) [
+    | yes z ↦ ring2 R (λ a b. a ≗ (a ⊖ b) ⊕ b) tt a b ∙ ap (_+ b) z ∙ zero-add R b
+    | no q ↦ absurd (D .nzd c (a + neg b) pc (D .P-add _ _ pa (D .P-neg _ pb)) nc q
+        (ring3 R (λ a b c. c ⊗ (a ⊖ b) ≗ c ⊗ a ⊖ c ⊗ b) tt a b c ∙ ap (_+ neg (c * b)) e ∙ R .add-neg (c * b)))
+  ]
+
+module _ (R : CommRing) where
+  open CommRing R using (Car, 𝟘, 𝟙, add as _+_, mul as _*_, neg)
+
+  infixl 60 _+_
+  infixl 70 _*_
+  pub top-le : (m n : ℕ) (f : Seq R) → Top R m f → Top R n f → m ≤ n
+  top-le m n f s t = elim (decLe m n) [ yes l ↦ l | no q ↦ absurd (s .nonzero (t .ends m (omega arith))) ]
+
+  -- a divisor's degree is at most the degree
+  pub div-top : (D : Domain R) (m : ℕ) (e f : Seq R) → Finite R D e → Div (SeriesR R) (SeriesD R D) e f → Top R m f → (n : ℕ) × (n ≤ m) × Top R n e
+  div-top D m e f he d t = go (finite-top R D e he) (finite-top R D (d .quo) (d .fin))
+    where
+      go : ((n : ℕ) → e n ≡ 𝟘) ⊎ ((n : ℕ) × Top R n e) → ((n : ℕ) → d .quo n ≡ 𝟘) ⊎ ((n : ℕ) × Top R n (d .quo)) → (n : ℕ) × (n ≤ m) × Top R n e
+      go (inl z) b = absurd (t .nonzero (sym (ap (λ (u : Seq R). u m) (d .eq)) ∙ conv-null R e (d .quo) z m))
+      go (inr s) (inl z) = absurd (t .nonzero (sym (ap (λ (u : Seq R). u m) (d .eq)) ∙ conv-comm R e (d .quo) m ∙ conv-null R (d .quo) e z m))
+      go (inr s) (inr u) =
+          let w : Top R (s .0 +ₙ u .0) f = subst (Top R (s .0 +ₙ u .0)) (d .eq)
+          (top-mul R D (s .0) (u .0) e (d .quo) (he .coef (s .0)) (d .fin .coef (u .0)) (s .1) (u .1)) in
+          let l : s .0 +ₙ u .0 ≤ m = top-le (s .0 +ₙ u .0) m f w t in
+          (s .0, omega arith, s .1)
+
+  unfoldable pub pow : Car → ℕ → Car
+  pow a zero = 𝟙
+  pow a (suc k) = pow a k * a
+
+  pub scaled : (c : Car) (f : Seq R) (i : ℕ) → conv R (constS R c) f i ≡ f i * c
+  scaled c f i = conv-comm R (constS R c) f i ∙ conv-const R c f i
+
+module _ (R : CommRing) (D : Domain R) where
+  open CommRing R using (Car, 𝟘, 𝟙, add as _+_, mul as _*_, neg)
+  open Domain D using (P)
+
+  infixl 60 _+_
+  infixl 70 _*_
+  pub const-fin : (c : Car) → P c → Finite R D (constS R c)
+  const-fin c pc = record { bound = 1; ends = const-ends R D c; coef = const-P R D c pc }
+
+  pub mono-P : (n : ℕ) (c : Car) → P c → (k : ℕ) → P (mono R n c k)
+  unfolding mono
+  mono-P zero c pc zero = pc
+  mono-P zero c pc (suc k) = D .P-zero
+  mono-P (suc n) c pc zero = D .P-zero
+  mono-P (suc n) c pc (suc k) = mono-P n c pc k
+
+  pub mono-fin : (n : ℕ) (c : Car) → P c → Finite R D (mono R n c)
+  mono-fin n c pc = record { bound = suc n; ends = mono-ends R n c; coef = mono-P n c pc }
+
+  pub pow-P : (c : Car) → P c → (k : ℕ) → P (pow R c k)
+  unfolding pow
+  pow-P c pc zero = D .P-one
+  pow-P c pc (suc k) = D .P-mul _ _ (pow-P c pc k) pc
+
+  pub pow-nonzero : (c : Car) → P c → ¬ (c ≡ 𝟘) → (k : ℕ) → ¬ (pow R c k ≡ 𝟘)
+  unfolding pow
+  pow-nonzero c pc nc zero = D .one≢0
+  pow-nonzero c pc nc (suc k) = D .nzd _ _ (pow-P c pc k) pc (pow-nonzero c pc nc k) nc

@@ -1,0 +1,21 @@
+-- The mathematics that the layers cite: generic in the ring or the field, constructive, without a function of code.
+pub mod Ring
+pub mod Solver
+pub mod Series
+pub mod Degree
+pub mod Maps
+pub mod Mono
+pub mod Divides
+pub mod Finite
+pub mod Field
+pub mod GreatestCommon
+pub mod Univariate
+pub mod Four
+pub mod Lead
+pub mod GreatestExponent
+pub mod Monomial
+pub mod Division
+pub mod DivisionLaws
+pub mod Evaluate
+pub mod GoodValue
+pub mod SameDegree

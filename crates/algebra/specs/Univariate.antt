@@ -1,0 +1,229 @@
+-- Polynomials in one variable over a field: division with remainder, and the monic greatest common divisor, which exists and is unique.
+use mathlib.Core.Path.{_≡_, refl, sym, _∙_, ap, ap₂, fun-ext, subst}
+use mathlib.Core.Logic.{_⊎_, inl, inr}
+use Prim.Native.Nat.{ℕ, zero, suc, _+_ as _+ₙ_, _-_ as _-ₙ_, _≤_, _<_}
+use native.Mathlib.Decide.{ℕ-discrete, decLe}
+use native.Mathlib.Nat.{add-zero as add-zeroₙ}
+use native.Mathlib.Omega.{arith}
+use Rattle.algebra.specs.Ring.{CommRing, zero-add, zero-mul, mul-zero, one-mul, neg-zero}
+use Rattle.algebra.specs.Solver.{_⊕_, _⊗_, _⊖_, _≗_, k0, k1, ring2, ring4}
+use Rattle.algebra.specs.Series.{Seq, addS, negS, zeroS, constS, conv, conv-const, conv-comm, SeriesR}
+use Rattle.algebra.specs.Degree.{Ends, Top, Domain, Finite, SeriesD, Ends-weaken, conv-null, conv-ends, conv-top, top-mul, finite-top}
+use Rattle.algebra.specs.Maps.{const-mul}
+use Rattle.algebra.specs.Mono.{mono, mono-high, mono-ends}
+use Rattle.algebra.specs.Divides.{Div, top-le, div-top, scaled, mono-fin, const-fin}
+use Rattle.algebra.specs.Field.{Field, domain}
+use Rattle.algebra.specs.GreatestCommon.{GreatestCommon, Associate, greatest-swap, greatest-zero, greatest-subtract, greatest-first, greatest-second, greatest-associate}
+
+-- the highest coefficient is 1, and stands at n
+pub record Monic (R : CommRing) (n : ℕ) (f : Seq R) : Type 0 where
+  pub leads : f n ≡ R .𝟙
+  pub ends : Ends R (suc n) f
+
+module _ (F : Field) where
+  abbrev pub Poly : CommRing
+  Poly = SeriesR (F .ring)
+
+  abbrev pub PolyD : Domain Poly
+  PolyD = SeriesD (F .ring) (domain F)
+
+  open CommRing (F .ring) using (Car, 𝟘, 𝟙, add as _+_, mul as _*_, neg)
+
+  infixl 60 _+_
+  infixl 70 _*_
+  abbrev pub Fin : Seq (F .ring) → Type 0
+  Fin = Finite (F .ring) (domain F)
+
+  pub ends-fin : (n : ℕ) (f : Seq (F .ring)) → Ends (F .ring) n f → Fin f
+  ends-fin n f h = record { bound = n; ends = h; coef = λ i. tt }
+
+  pub monic-top : (n : ℕ) (f : Seq (F .ring)) → Monic (F .ring) n f → Top (F .ring) n f
+  monic-top n f m = record { nonzero = λ e. F .one≢0 (sym (m .leads) ∙ e); ends = m .ends }
+
+  pub monic-fin : (n : ℕ) (f : Seq (F .ring)) → Monic (F .ring) n f → Fin f
+  monic-fin n f m = ends-fin (suc n) f (m .ends)
+
+  -- f less c X^j g; with g's highest coefficient at n and c the quotient of the highest ones, the end of f comes down
+  unfoldable pub less : ℕ → Car → Seq (F .ring) → Seq (F .ring) → Seq (F .ring)
+  less j c f g = addS (F .ring) f (negS (F .ring) (conv (F .ring) (mono (F .ring) j c) g))
+
+  pub less-ends : (n j : ℕ) (c : Car) (f g : Seq (F .ring)) → Ends (F .ring) (suc (j +ₙ n)) f → Ends (F .ring) (suc n) g
+      → f (j +ₙ n) ≡ c * g n → Ends (F .ring) (j +ₙ n) (less j c f g)
+  unfolding less
+  less-ends n j c f g hf hg e i l = elim (ℕ-discrete i (j +ₙ n)) [
+    | yes p ↦ ap (less j c f g) p ∙ ap₂ (λ x y. x + neg y) e (mono-high (F .ring) j c g n) ∙ F .ring .add-neg _
+    | no q ↦ ap₂ (λ x y. x + neg y) (hf i (omega arith))
+        (conv-ends (F .ring) (suc j) (suc n) (mono (F .ring) j c) g (mono-ends (F .ring) j c) hg i (omega arith)) ∙ F .ring .add-neg 𝟘
+  ]
+
+  pub greatest-less : (j : ℕ) (c : Car) (f g h : Seq (F .ring)) → GreatestCommon Poly PolyD (less j c f g) g h → GreatestCommon Poly PolyD f g h
+  unfolding less
+  greatest-less j c f g h s = greatest-subtract Poly PolyD f g (mono (F .ring) j c) h (mono-fin (F .ring) (domain F) j c tt) s
+
+  -- division with remainder by g, whose highest coefficient stands at n
+  pub record WithRemainder (n : ℕ) (f g : Seq (F .ring)) : Type 0 where
+    pub quo : Seq (F .ring)
+    pub rest : Seq (F .ring)
+    pub quo-fin : Fin quo
+    pub eq : addS (F .ring) (conv (F .ring) quo g) rest ≡ f
+    pub ends : Ends (F .ring) n rest
+
+  whole : (n : ℕ) (f g : Seq (F .ring)) → Ends (F .ring) n f → WithRemainder n f g
+  whole n f g h = record {
+    quo = zeroS (F .ring);
+    rest = f;
+    quo-fin = PolyD .P-zero;
+    eq = ring2 Poly (λ f g. k0 ⊗ g ⊕ f ≗ f) tt f g;
+    ends = h;
+  }
+
+  more : (n j : ℕ) (c : Car) (f g : Seq (F .ring)) → WithRemainder n (less j c f g) g → WithRemainder n f g
+  unfolding less
+  more n j c f g d = record {
+    quo = addS (F .ring) (d .quo) (mono (F .ring) j c);
+    rest = d .rest;
+    quo-fin = PolyD .P-add _ _ (d .quo-fin) (mono-fin (F .ring) (domain F) j c tt);
+    eq = ring4 Poly (λ q m g r. (q ⊕ m) ⊗ g ⊕ r ≗ (q ⊗ g ⊕ r) ⊕ m ⊗ g) tt (d .quo) (mono (F .ring) j c) g (d .rest)
+        ∙ ap (λ (u : Seq (F .ring)). addS (F .ring) u (conv (F .ring) (mono (F .ring) j c) g)) (d .eq)
+        ∙ ring2 Poly (λ f t. (f ⊖ t) ⊕ t ≗ f) tt f (conv (F .ring) (mono (F .ring) j c) g);
+    ends = d .ends;
+  }
+
+  over : (a b : Car) → ¬ (b ≡ 𝟘) → a ≡ a * F .inv b * b
+  over a b n = sym (F .ring .mul-assoc _ _ _ ∙ ap (a *_) (F .ring .mul-comm _ _ ∙ F .mul-inv b n) ∙ F .ring .mul-one a)
+
+  pub divide : (N n : ℕ) (f g : Seq (F .ring)) → Ends (F .ring) N f → Top (F .ring) n g → WithRemainder n f g
+  divide zero n f g hf tg = whole n f g (Ends-weaken (F .ring) zero n f (omega arith) hf)
+  divide (suc N) n f g hf tg = go (decLe n N) λ f′ h. divide N n f′ g h tg
+    where
+      go : Dec (n ≤ N) → ((f′ : Seq (F .ring)) → Ends (F .ring) N f′ → WithRemainder n f′ g) → WithRemainder n f g
+      go (yes l) rec =
+          let e : (N -ₙ n) +ₙ n ≡ N = omega arith in
+          let c : Car = f N * F .inv (g n) in
+          more n (N -ₙ n) c f g (rec (less (N -ₙ n) c f g)
+          (subst (λ M. Ends (F .ring) M (less (N -ₙ n) c f g)) e
+          (less-ends n (N -ₙ n) c f g (subst (λ M. Ends (F .ring) (suc M) f) (sym e) hf) (tg .ends) (ap f e ∙ over (f N) (g n) (tg .nonzero)))))
+      go (no q) rec = whole n f g (Ends-weaken (F .ring) (suc N) n f (omega arith) hf)
+
+  -- the common divisors of f and g are those of g and the remainder
+  pub greatest-divided : (n : ℕ) (f g h : Seq (F .ring)) (d : WithRemainder n f g) → GreatestCommon Poly PolyD g (d .rest) h → GreatestCommon Poly PolyD f g h
+  greatest-divided n f g h d s = greatest-subtract Poly PolyD f g (d .quo) h (d .quo-fin)
+      (subst (λ (u : Seq (F .ring)). GreatestCommon Poly PolyD u g h)
+      (ring2 Poly (λ t r. r ≗ (t ⊕ r) ⊖ t) tt (conv (F .ring) (d .quo) g) (d .rest)
+      ∙ ap (λ (u : Seq (F .ring)). addS (F .ring) u (negS (F .ring) (conv (F .ring) (d .quo) g))) (d .eq))
+      (greatest-swap Poly PolyD g (d .rest) h s))
+
+  -- a nonzero polynomial over its highest coefficient
+  unfoldable pub over-lead : ℕ → Seq (F .ring) → Seq (F .ring)
+  over-lead n f = λ i. F .inv (f n) * f i
+
+  pub over-lead-monic : (n : ℕ) (f : Seq (F .ring)) → Top (F .ring) n f → Monic (F .ring) n (over-lead n f)
+  unfolding over-lead
+  over-lead-monic n f t = record {
+    leads = F .ring .mul-comm _ _ ∙ F .mul-inv (f n) (t .nonzero);
+    ends = λ i l. ap (F .inv (f n) *_) (t .ends i l) ∙ mul-zero (F .ring) _;
+  }
+
+  by-const : (c : Car) (f : Seq (F .ring)) → (λ i. c * f i) ≡ conv (F .ring) f (constS (F .ring) c)
+  by-const c f = fun-ext λ i. F .ring .mul-comm _ _ ∙ sym (conv-const (F .ring) c f i)
+
+  -- a multiple by a number but 0 has the same divisors
+  pub scale-associate : (c b : Car) (f : Seq (F .ring)) → c * b ≡ 𝟙 → Associate Poly PolyD f (λ i. b * f i)
+  scale-associate c b f e = record {
+    to = record { quo = constS (F .ring) b; fin = const-fin (F .ring) (domain F) b tt; eq = sym (by-const b f) };
+    from = record {
+      quo = constS (F .ring) c;
+      fin = const-fin (F .ring) (domain F) c tt;
+      eq = sym (by-const c (λ i. b * f i)) ∙ fun-ext λ i. sym (F .ring .mul-assoc _ _ _) ∙ ap (_* f i) e ∙ one-mul (F .ring) _;
+    };
+  }
+
+  pub over-lead-associate : (n : ℕ) (f : Seq (F .ring)) → Top (F .ring) n f → Associate Poly PolyD f (over-lead n f)
+  unfolding over-lead
+  over-lead-associate n f t = scale-associate (f n) (F .inv (f n)) f (F .mul-inv (f n) (t .nonzero))
+
+  -- the monic greatest common divisor of f and g
+  pub record MonicGreatest (f g : Seq (F .ring)) : Type 0 where
+    pub degree : ℕ
+    pub gcd : Seq (F .ring)
+    pub monic : Monic (F .ring) degree gcd
+    pub greatest : GreatestCommon Poly PolyD f g gcd
+
+  -- it exists: f is not zero, and g ends at N
+  pub monic-greatest : (N m : ℕ) (f g : Seq (F .ring)) → Top (F .ring) m f → Ends (F .ring) N g → MonicGreatest f g
+  monic-greatest N m f g tf hg = step N m f g tf hg (finite-top (F .ring) (domain F) g (ends-fin N g hg))
+    where
+      alone : (m : ℕ) (f g : Seq (F .ring)) → Top (F .ring) m f → ((i : ℕ) → g i ≡ 𝟘) → MonicGreatest f g
+      alone m f g tf z = record {
+        degree = m;
+        gcd = over-lead m f;
+        monic = over-lead-monic m f tf;
+        greatest = subst (λ (u : Seq (F .ring)). GreatestCommon Poly PolyD f u (over-lead m f)) (sym (fun-ext z))
+            (greatest-first Poly PolyD (over-lead m f) f (zeroS (F .ring)) (over-lead m f)
+            (record { to = over-lead-associate m f tf .from; from = over-lead-associate m f tf .to })
+            (greatest-zero Poly PolyD (over-lead m f)));
+      }
+
+      step : (N m : ℕ) (f g : Seq (F .ring)) → Top (F .ring) m f → Ends (F .ring) N g
+          → ((i : ℕ) → g i ≡ 𝟘) ⊎ ((n : ℕ) × Top (F .ring) n g) → MonicGreatest f g
+      step zero m f g tf hg (inl z) = alone m f g tf z
+      step zero m f g tf hg (inr t) = absurd (t .1 .nonzero (hg (t .0) (omega arith)))
+      step (suc N) m f g tf hg (inl z) = alone m f g tf z
+      step (suc N) m f g tf hg (inr t) =
+          let d = divide (suc m) (t .0) f g (tf .ends) (t .1) in
+          let l : t .0 ≤ N = elim (decLe (t .0) N) [ yes l ↦ l | no q ↦ absurd (t .1 .nonzero (hg (t .0) (omega arith))) ] in
+          let r : Ends (F .ring) N (d .rest) = Ends-weaken (F .ring) (t .0) N (d .rest) l (d .ends) in
+          let w = step N (t .0) g (d .rest) (t .1) r (finite-top (F .ring) (domain F) (d .rest) (ends-fin N (d .rest) r)) in
+          record {
+            degree = w .degree;
+            gcd = w .gcd;
+            monic = w .monic;
+            greatest = greatest-divided (t .0) f g (w .gcd) d (w .greatest);
+          }
+
+  constant : (u : Seq (F .ring)) → Ends (F .ring) 1 u → u 0 ≡ 𝟙 → (i : ℕ) → u i ≡ constS (F .ring) 𝟙 i
+  unfolding constS
+  constant u h e zero = e
+  constant u h e (suc i) = h (suc i) (omega arith)
+
+  -- monic polynomials that divide each other are equal
+  pub monic-associate : (m n : ℕ) (f g : Seq (F .ring)) → Monic (F .ring) m f → Monic (F .ring) n g → Associate Poly PolyD f g → (m ≡ n) × (f ≡ g)
+  monic-associate m n f g mf mg s = (same, go (finite-top (F .ring) (domain F) (s .to .quo) (s .to .fin)))
+    where
+      tf : Top (F .ring) m f
+      tf = monic-top m f mf
+
+      tg : Top (F .ring) n g
+      tg = monic-top n g mg
+
+      same : m ≡ n
+      same =
+          let a = div-top (F .ring) (domain F) n f g (monic-fin m f mf) (s .to) tg in
+          let b = div-top (F .ring) (domain F) m g f (monic-fin n g mg) (s .from) tf in
+          let l : m ≤ a .0 = top-le (F .ring) m (a .0) f tf (a .2) in
+          let k : n ≤ b .0 = top-le (F .ring) n (b .0) g tg (b .2) in
+          let l′ : a .0 ≤ n = a .1 in
+          let k′ : b .0 ≤ m = b .1 in
+          omega arith
+
+      go : ((i : ℕ) → s .to .quo i ≡ 𝟘) ⊎ ((k : ℕ) × Top (F .ring) k (s .to .quo)) → f ≡ g
+      go (inl z) = absurd (tg .nonzero (sym (ap (λ (u : Seq (F .ring)). u n) (s .to .eq)) ∙ conv-comm (F .ring) f (s .to .quo) n
+          ∙ conv-null (F .ring) (s .to .quo) f z n))
+      go (inr t) =
+          let w : Top (F .ring) (m +ₙ t .0) g = subst (Top (F .ring) (m +ₙ t .0)) (s .to .eq)
+          (top-mul (F .ring) (domain F) m (t .0) f (s .to .quo) tt tt tf (t .1)) in
+          let l : m +ₙ t .0 ≤ n = top-le (F .ring) (m +ₙ t .0) n g w tg in
+          let k0 : t .0 ≡ 0 = omega (arith, same) in
+          let q : Ends (F .ring) 1 (s .to .quo) = subst (λ k. Ends (F .ring) (suc k) (s .to .quo)) k0 (t .1 .ends) in
+          let one : s .to .quo 0 ≡ 𝟙 =
+          sym (one-mul (F .ring) _) ∙ ap (_* s .to .quo 0) (sym (mf .leads))
+          ∙ sym (conv-top (F .ring) m 0 f (s .to .quo) (mf .ends) q)
+          ∙ ap (conv (F .ring) f (s .to .quo)) (add-zeroₙ m ∙ same)
+          ∙ ap (λ (u : Seq (F .ring)). u n) (s .to .eq) ∙ mg .leads in
+          sym (Poly .mul-one f) ∙ ap (conv (F .ring) f) (sym (fun-ext (constant (s .to .quo) q one))) ∙ s .to .eq
+
+  -- and it is unique
+  pub monic-greatest-unique : (m n : ℕ) (f g u v : Seq (F .ring)) → Monic (F .ring) m u → Monic (F .ring) n v
+      → GreatestCommon Poly PolyD f g u → GreatestCommon Poly PolyD f g v → (m ≡ n) × (u ≡ v)
+  monic-greatest-unique m n f g u v mu mv su sv = monic-associate m n u v mu mv
+      (greatest-associate Poly PolyD f g u v (monic-fin m u mu) (monic-fin n v mv) su sv)
