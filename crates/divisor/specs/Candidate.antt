@@ -1,0 +1,103 @@
+-- The candidate call: what is lent, the refusals in table order, and what is found and left behind in every case.
+use mathlib.Core.Path.{_≡_}
+use mathlib.Core.Logic.{_⊎_}
+use mathlib.Core.List.{List, [], _∷_, _++_, map}
+use lib.ListN.{length, take}
+use Prim.Native.Nat.{ℕ, _%_, _<_}
+use Rattle.algebra.specs.Field.{Field}
+use Rattle.algebra.specs.Four.{Exponents}
+use Rattle.field.specs.Fp.{el}
+use Rattle.field.specs.Prime.{Prime}
+use Rattle.field.specs.Moduli.{Listed}
+use Rattle.field.specs.ModuliLaws.{listed-prime}
+use Rattle.field.specs.Modulo.{Modulo}
+use Rattle.field.specs.Numbers.{SKELETON_COUNT, SKELETON_KEY, POINTS_COUNT, POINT_NUMBER, OUTPUT_SHORT, WORK_SHORT}
+use Rattle.field.specs.Refusal.{Line, line, whole, first, Refuses, Passes}
+use Rattle.field.specs.declared.Fault.{Fault}
+use Rattle.poly.specs.Keys.{exponents}
+use Rattle.poly.specs.Terms.{Polynomial, terms-of, numbers-of}
+use Rattle.poly.specs.Value.{Point}
+use Rattle.poly.specs.Lists.{Count, WrongKey, WrongNumber, of-lists}
+use Rattle.poly.specs.Room.{work-room, written, cleared}
+use Rattle.divisor.specs.declared.CandidateRecord.{CandidateRecord}
+use Rattle.divisor.specs.Rule.{Answer}
+
+pub record Call : Type 0 where
+  pub modulus : ℕ
+  pub first-list : List ℕ
+  pub second-list : List ℕ
+  pub skeleton : List ℕ
+  pub points : List ℕ
+  pub output : List ℕ
+  pub work : List ℕ
+
+abbrev pub most-keys : ℕ
+most-keys = 32
+
+abbrev pub most-point-numbers : ℕ
+most-point-numbers = 96
+
+-- the refusals of the inputs, tested in this order
+abbrev pub table : Call → List Line
+table c =
+    of-lists (c .modulus) (c .first-list) (c .second-list)
+    ++ (line SKELETON_COUNT (whole (Count most-keys (c .skeleton)))
+    ∷ line SKELETON_KEY (first (WrongKey (c .skeleton)))
+    ∷ line POINTS_COUNT (whole (Count most-point-numbers (c .points) ⊎ (¬ (length (c .points) % 3 ≡ 0))))
+    ∷ line POINT_NUMBER (first (WrongNumber (c .modulus) (c .points)))
+    ∷ line OUTPUT_SHORT (whole (length (c .output) < length (c .skeleton)))
+    ∷ line WORK_SHORT (whole (length (c .work) < work-room))
+    ∷ [])
+
+-- what the point numbers mean modulo p
+module _ (p : ℕ) (P : Prime p) where
+  unfoldable pub points-of : List ℕ → List (Point (Modulo p P .ring))
+  points-of [] = []
+  points-of (y ∷ []) = []
+  points-of (y ∷ z ∷ []) = []
+  points-of (y ∷ z ∷ w ∷ ns) = record { y = el p y; z = el p z; w = el p w } ∷ points-of ns
+
+-- the question that a call asks
+module _ (c : Call) (listed : Listed (c .modulus)) where
+  abbrev pub prime : Prime (c .modulus)
+  prime = listed-prime listed
+
+  abbrev pub Numbers : Field
+  Numbers = Modulo (c .modulus) prime
+
+  abbrev pub A : Polynomial Numbers
+  A = terms-of (c .modulus) prime (c .first-list)
+
+  abbrev pub B : Polynomial Numbers
+  B = terms-of (c .modulus) prime (c .second-list)
+
+  abbrev pub monomials : List Exponents
+  monomials = map exponents (c .skeleton)
+
+  abbrev pub lent-points : List (Point (Numbers .ring))
+  lent-points = points-of (c .modulus) prime (c .points)
+
+pub record Result : Type 0 where
+  pub found : CandidateRecord
+  pub output : List ℕ
+  pub work : List ℕ
+
+-- the record of a refusal by the table
+abbrev pub refusal : Fault → CandidateRecord
+refusal f = record { fault = f; degree = 0; bad = 0; unlucky = 0; kept = 0; terms = 0 }
+
+-- the promise of the candidate call
+pub data Candidate (c : Call) : Result → Type 0 where
+  refused : (f : Fault) → Refuses (table c) f
+      → Candidate c (record { found = refusal f; output = c .output; work = c .work })
+  answered : Passes (table c) → (listed : Listed (c .modulus)) (found : CandidateRecord) (G : Polynomial (Numbers c listed))
+      → Answer (Numbers c listed) (A c listed) (B c listed) (monomials c listed) (lent-points c listed) found G
+      → Candidate c (record {
+        found = found;
+        output = written (numbers-of (c .modulus) (prime c listed) G) (c .output);
+        work = cleared (c .work);
+      })
+
+-- the polynomial that is handed out: the terms first in the output
+abbrev pub handed-out : (c : Call) (listed : Listed (c .modulus)) → Result → Polynomial (Numbers c listed)
+handed-out c listed r = terms-of (c .modulus) (prime c listed) (take (r .found .terms) (r .output))

@@ -1,0 +1,3 @@
+-- Layer 3, the candidate: the rule, the call, and what follows from them.
+pub mod Rule
+pub mod Candidate

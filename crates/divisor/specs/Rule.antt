@@ -1,0 +1,109 @@
+-- The rule of the candidate, 3 to 6, over any field. (Rules 1 and 2, bad points and images, stand in the layer below.)
+use mathlib.Core.Path.{_≡_}
+use mathlib.Core.List.{List, [], _∷_, map}
+use lib.ListN.{length}
+use Prim.Native.Nat.{ℕ, suc, _<_}
+use Rattle.algebra.specs.Ring.{CommRing}
+use Rattle.algebra.specs.Series.{Seq}
+use Rattle.algebra.specs.Four.{Exponents}
+use Rattle.algebra.specs.Monomial.{Term, polynomial}
+use Rattle.algebra.specs.Field.{Field}
+use Rattle.field.specs.Numbers.{NO_GOOD_POINT, NO_SOLUTION, SEVERAL_SOLUTIONS, DOES_NOT_DIVIDE}
+use Rattle.poly.specs.Terms.{Polynomial}
+use Rattle.poly.specs.Value.{Point, value}
+use Rattle.poly.specs.Image.{Divides, Bad, Image}
+use Rattle.divisor.specs.declared.CandidateRecord.{CandidateRecord}
+
+-- what the caller is told where the inputs pass: the place is 0
+abbrev pub report : ℕ → ℕ → ℕ → ℕ → ℕ → ℕ → CandidateRecord
+report number degree bad unlucky kept terms =
+    record { fault = record { number = number; place = 0 }; degree = degree; bad = bad; unlucky = unlucky; kept = kept; terms = terms }
+
+module _ (K : Field) where
+  open Field K using (ring as R)
+  open CommRing R using (Car, 𝟘, 𝟙, mul as _*_)
+
+  infixl 70 _*_
+  -- a good point that is kept, with its image
+  pub record Kept : Type 0 where
+    pub point : Point R
+    pub image : Seq R
+
+  module _ (A B : Polynomial K) where
+    -- 3. The points in the order lent, with d the least degree if any is kept: the numbers of bad and of unlucky ones, and those kept.
+    pub data Sorted (d : ℕ) : List (Point R) → ℕ → ℕ → List Kept → Type 0 where
+      done : Sorted d [] 0 0 []
+      bad : {at : Point R} {points : List (Point R)} {b u : ℕ} {kept : List Kept}
+          → Bad K A B at → Sorted d points b u kept → Sorted d (at ∷ points) (suc b) u kept
+      unlucky : {at : Point R} {points : List (Point R)} {b u : ℕ} {kept : List Kept} (degree : ℕ) (U : Seq R)
+          → Image K A B at degree U → d < degree → Sorted d points b u kept → Sorted d (at ∷ points) b (suc u) kept
+      keep : {at : Point R} {points : List (Point R)} {b u : ℕ} {kept : List Kept} (U : Seq R)
+          → Image K A B at d U → Sorted d points b u kept → Sorted d (at ∷ points) b u (record { point = at; image = U } ∷ kept)
+
+    abbrev pub AllBad : List (Point R) → Type 0
+    AllBad [] = Unit {0}
+    AllBad (at ∷ points) = Bad K A B at × AllBad points
+
+  -- 4. Unknowns: one coefficient for each skeleton monomial, one multiplier for each kept point; the first multiplier is fixed at 1.
+  pub record Unknowns : Type 0 where
+    pub skeleton : Polynomial K
+    pub multipliers : List Car
+
+  abbrev pub First : Car → List Car → Type 0
+  First m [] = ⊥
+  First m (n ∷ ns) = n ≡ m
+
+  -- Equations: at each kept point, for each power x^0 to x^7, the skeleton polynomial has there the multiplier times the coefficient of the image.
+  abbrev pub Equations : Polynomial K → List Kept → List Car → Type 0
+  Equations f [] [] = Unit {0}
+  Equations f [] (m ∷ ms) = ⊥
+  Equations f (k ∷ ks) [] = ⊥
+  Equations f (k ∷ ks) (m ∷ ms) = ((i : ℕ) → i < 8 → value R f (k .point) i ≡ m * k .image i) × Equations f ks ms
+
+  pub record Solution (monomials : List Exponents) (kept : List Kept) (s : Unknowns) : Type 0 where
+    pub proposed : map (λ (t : Term R). t .exponents) (s .skeleton) ≡ monomials
+    pub one-first : First 𝟙 (s .multipliers)
+    pub holds : Equations (s .skeleton) kept (s .multipliers)
+
+  abbrev pub NoSolution : List Exponents → List Kept → Type 0
+  NoSolution monomials kept = (s : Unknowns) → ¬ Solution monomials kept s
+
+  abbrev pub OnlySolution : List Exponents → List Kept → Unknowns → Type 0
+  OnlySolution monomials kept s = Solution monomials kept s × ((t : Unknowns) → Solution monomials kept t → t ≡ s)
+
+  abbrev pub SeveralSolutions : List Exponents → List Kept → Type 0
+  SeveralSolutions monomials kept = (s t : Unknowns) × Solution monomials kept s × Solution monomials kept t × (¬ (s ≡ t))
+
+  -- 5. G is the skeleton polynomial, zero coefficients dropped, all divided by its leading coefficient.
+  unfoldable pub without-zeros : Polynomial K → Polynomial K
+  without-zeros [] = []
+  without-zeros (t ∷ ts) = elim (K .decide (t .coefficient)) [ yes e ↦ without-zeros ts | no n ↦ t ∷ without-zeros ts ]
+
+  unfoldable pub divided-by : Car → Polynomial K → Polynomial K
+  divided-by c [] = []
+  divided-by c (t ∷ ts) = record { exponents = t .exponents; coefficient = t .coefficient * K .inv c } ∷ divided-by c ts
+
+  unfoldable pub made-monic : Polynomial K → Polynomial K
+  made-monic [] = []
+  made-monic (t ∷ ts) = divided-by (t .coefficient) (t ∷ ts)
+
+  abbrev pub divisor : Unknowns → Polynomial K
+  divisor s = made-monic (without-zeros (s .skeleton))
+
+  -- 6. G is accepted if it divides A and B.
+  abbrev pub DividesBoth : Polynomial K → Polynomial K → Polynomial K → Type 0
+  DividesBoth A B G = Divides K (polynomial R G) (polynomial R A) × Divides K (polynomial R G) (polynomial R B)
+
+  -- What the kept points settle: the number, and the polynomial to be handed out.
+  pub data Verdict (A B : Polynomial K) (monomials : List Exponents) (kept : List Kept) : ℕ → Polynomial K → Type 0 where
+    none : NoSolution monomials kept → Verdict A B monomials kept NO_SOLUTION []
+    several : SeveralSolutions monomials kept → Verdict A B monomials kept SEVERAL_SOLUTIONS []
+    rejected : (s : Unknowns) → OnlySolution monomials kept s → ¬ DividesBoth A B (divisor s) → Verdict A B monomials kept DOES_NOT_DIVIDE []
+    accepted : (s : Unknowns) → OnlySolution monomials kept s → DividesBoth A B (divisor s) → Verdict A B monomials kept 0 (divisor s)
+
+  -- What the rule answers: the record, and the polynomial to be handed out.
+  pub data Answer (A B : Polynomial K) (monomials : List Exponents) (points : List (Point R)) : CandidateRecord → Polynomial K → Type 0 where
+    all-bad : AllBad A B points → Answer A B monomials points (report NO_GOOD_POINT 0 (length points) 0 0 0) []
+    some-good : (d b u : ℕ) (k : Kept) (kept : List Kept) → Sorted A B d points b u (k ∷ kept)
+        → (number : ℕ) (G : Polynomial K) → Verdict A B monomials (k ∷ kept) number G
+        → Answer A B monomials points (report number d b u (length (k ∷ kept)) (length G)) G

@@ -1,0 +1,7 @@
+-- Layer 2, polynomials: definitions and laws.
+pub mod Keys
+pub mod Terms
+pub mod Value
+pub mod Image
+pub mod Lists
+pub mod Room
