@@ -12,3 +12,4 @@ pub mod Modulo
 pub mod Numbers
 pub mod Refusal
 pub mod RefusalLaws
+pub mod ElLaws

@@ -5,3 +5,4 @@ pub mod Value
 pub mod Image
 pub mod Lists
 pub mod Room
+pub mod Laws
