@@ -51,6 +51,9 @@ module _ (R : CommRing) (D : Domain R) where
   pub div-to : (e a b : Car) → a ≡ b → Div R D e a → Div R D e b
   div-to e a b p d = record { quo = d .quo; fin = d .fin; eq = d .eq ∙ p }
 
+  pub div-from : (a b f : Car) → a ≡ b → Div R D a f → Div R D b f
+  div-from a b f p d = record { quo = d .quo; fin = d .fin; eq = ap (_* d .quo) (sym p) ∙ d .eq }
+
   -- a factor that is not 0 is cancelled
   pub cancel : (a b c : Car) → D .P a → D .P b → D .P c → ¬ (c ≡ 𝟘) → c * a ≡ c * b → a ≡ b
   cancel a b c pa pb pc nc e = elim (D .dec0 (a + neg b) (D .P-add _ _ pa (D .P-neg _ pb))) [

@@ -1,3 +1,5 @@
 -- Layer 3, the candidate: the rule, the call, and what follows from them.
 pub mod Rule
 pub mod Candidate
+pub mod Demands
+pub mod Laws

@@ -1,0 +1,74 @@
+-- Demand 3, stated over the promise of the candidate call alone: what an accepted polynomial is, and when a common divisor must come out.
+use mathlib.Core.Path.{_≡_}
+use mathlib.Core.Logic.{_⊎_}
+use mathlib.Core.List.{List, [], _∷_}
+use Prim.Native.Nat.{ℕ, _≤_}
+use Rattle.algebra.specs.Series.{SeriesR, S4}
+use Rattle.algebra.specs.Degree.{Top}
+use Rattle.algebra.specs.Four.{Exponents, coef, D4}
+use Rattle.algebra.specs.Monomial.{polynomial, monomial}
+use Rattle.algebra.specs.Field.{Field, domain}
+use Rattle.field.specs.Moduli.{Listed}
+use Rattle.field.specs.Refusal.{Passes}
+use Rattle.poly.specs.Terms.{Polynomial}
+use Rattle.poly.specs.Image.{Divides}
+use Rattle.divisor.specs.Rule.{DividesBoth, Kept, Sorted, Unknowns, OnlySolution}
+use Rattle.divisor.specs.Candidate.{Call, table, Numbers, A, B, monomials, lent-points, handed-out, Result, Candidate}
+
+module _ (K : Field) where
+  open Field K using (ring as R)
+
+  -- f has the degree n in x
+  abbrev pub DegreeX : ℕ → S4 R .Car → Type 0
+  DegreeX = Top (SeriesR (SeriesR (SeriesR R)))
+
+  -- f has finitely many terms, of whatever exponents
+  abbrev pub IsPolynomial : S4 R .Car → Type 0
+  IsPolynomial = D4 R (domain K) .P
+
+  -- G divides A and B, it has the degree d in x, and no common divisor, of whatever exponents, has a higher one
+  pub record GreatestInX (A B G : Polynomial K) (d : ℕ) : Type 0 where
+    pub divides : DividesBoth K A B G
+    pub degree : DegreeX d (polynomial R G)
+    pub greatest : (H : S4 R .Car) → IsPolynomial H → Divides K H (polynomial R A) → Divides K H (polynomial R B) → (h : ℕ) → DegreeX h H → h ≤ d
+
+  abbrev pub Proposed : List Exponents → Exponents → Type 0
+  Proposed [] e = ⊥
+  Proposed (m ∷ ms) e = (m ≡ e) ⊎ Proposed ms e
+
+  -- f has only proposed monomials
+  abbrev pub OnlyProposed : List Exponents → S4 R .Car → Type 0
+  OnlyProposed ms f = (e : Exponents) → ¬ (coef R f e ≡ R .𝟘) → Proposed ms e
+
+  abbrev pub Leading : R .Car → Polynomial K → Type 0
+  Leading c [] = ⊥
+  Leading c (t ∷ ts) = t .coefficient ≡ c
+
+  -- a number as a polynomial
+  abbrev pub constant : R .Car → S4 R .Car
+  constant c = monomial R (record { x = 0; y = 0; z = 0; w = 0 }) c
+
+  -- G is C made monic: its leading coefficient is 1, and C is a number times G
+  pub record MadeMonic (C : S4 R .Car) (G : Polynomial K) : Type 0 where
+    pub leading : Leading (R .𝟙) G
+    pub factor : R .Car
+    pub multiple : S4 R .mul (polynomial R G) (constant factor) ≡ C
+
+-- First half: where the number is 0, what stands first in the output divides A and B, has the degree d in x, and no common divisor has more x.
+abbrev pub AcceptedIsGreatest : Call → Result → Type 0
+AcceptedIsGreatest c r =
+    r .found .fault .number ≡ 0
+    → (listed : Listed (c .modulus)) × GreatestInX (Numbers c listed) (A c listed) (B c listed) (handed-out c listed r) (r .found .degree)
+
+-- Second half: where the inputs pass, a point is good, the equations have exactly one solution, and a polynomial C divides A and B, has the least
+-- image degree in x and only proposed monomials, the number is 0 and C, made monic, is handed out.
+abbrev pub CommonDivisorComesOut : Call → Result → Type 0
+CommonDivisorComesOut c r =
+    Passes (table c) → (listed : Listed (c .modulus))
+    → (d b u : ℕ) (k : Kept (Numbers c listed)) (kept : List (Kept (Numbers c listed)))
+    → Sorted (Numbers c listed) (A c listed) (B c listed) d (lent-points c listed) b u (k ∷ kept)
+    → (s : Unknowns (Numbers c listed)) → OnlySolution (Numbers c listed) (monomials c listed) (k ∷ kept) s
+    → (C : S4 (Numbers c listed .ring) .Car) → IsPolynomial (Numbers c listed) C
+    → Divides (Numbers c listed) C (polynomial (Numbers c listed .ring) (A c listed)) → Divides (Numbers c listed) C (polynomial (Numbers c listed .ring) (B c listed))
+    → DegreeX (Numbers c listed) d C → OnlyProposed (Numbers c listed) (monomials c listed) C
+    → (r .found .fault .number ≡ 0) × MadeMonic (Numbers c listed) C (handed-out c listed r)

@@ -1,0 +1,4 @@
+-- Laws of the definitions of this layer, each file one subject.
+pub mod Monic
+pub mod Degree
+pub mod Determined
