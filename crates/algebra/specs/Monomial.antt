@@ -52,7 +52,7 @@ module _ (R : CommRing) where
   pub monomial-above : (e f : Exponents) (u : Car) → e ≺ f → coef R (monomial e u) f ≡ 𝟘
   monomial-above e f u l = monomial-off e f u (λ p. below-irreflexive f (subst (_≺ f) p l))
 
-  same-exponents : (e f : Exponents) → Dec (e ≡ f)
+  pub same-exponents : (e f : Exponents) → Dec (e ≡ f)
   same-exponents e f = go (ℕ-discrete (e .x) (f .x)) (ℕ-discrete (e .y) (f .y)) (ℕ-discrete (e .z) (f .z)) (ℕ-discrete (e .w) (f .w))
     where
       go : Dec (e .x ≡ f .x) → Dec (e .y ≡ f .y) → Dec (e .z ≡ f .z) → Dec (e .w ≡ f .w) → Dec (e ≡ f)

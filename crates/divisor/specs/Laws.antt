@@ -2,3 +2,8 @@
 pub mod Monic
 pub mod Degree
 pub mod Determined
+pub mod CandidateDetermined
+pub mod Proposed
+pub mod Complete
+pub mod Output
+pub mod Demands

@@ -132,4 +132,3 @@ module _ (K : Field) where
       go n H (several s) e = absurd (omega arith)
       go n H (rejected s only not-both) e = absurd (omega arith)
       go n H (accepted s only both) e = accepted-degree A B monomials points w d b u k kept sorted s (only .0) both
-

@@ -1,0 +1,97 @@
+-- DEMAND 3, both halves: proved of every result that meets the candidate call's promise. Assumes nothing.
+use mathlib.Core.Path.{_≡_, refl, sym, _∙_, ap, subst}
+use mathlib.Core.Logic.{inl, inr}
+use mathlib.Core.List.{List, [], _∷_, map}
+use Prim.Native.Nat.{ℕ, _≤_, _<_}
+use native.Mathlib.Omega.{arith}
+use Rattle.algebra.specs.Series.{S4}
+use Rattle.algebra.specs.Four.{Exponents, _≺_}
+use Rattle.algebra.specs.Field.{Field}
+use Rattle.algebra.specs.Monomial.{polynomial}
+use Rattle.field.specs.Moduli.{Listed}
+use Rattle.field.specs.Refusal.{Line, Refuses, Passes}
+use Rattle.field.specs.declared.Fault.{Fault}
+use Rattle.poly.specs.Keys.{exponents, keys}
+use Rattle.poly.specs.Terms.{Polynomial, terms-of}
+use Rattle.poly.specs.Value.{x-degree}
+use Rattle.poly.specs.Image.{Divides}
+use Rattle.poly.specs.Lists.{WrongKey}
+use Rattle.poly.specs.Laws.Keys.{exponents-order}
+use Rattle.poly.specs.Laws.Lists.{none-wrong, FallFrom, keys-fall, terms-fall, falling-within}
+use Rattle.poly.specs.Laws.Value.{WithinX}
+use Rattle.divisor.specs.Rule.{Kept, Sorted, Unknowns, OnlySolution, without-zeros, made-monic}
+use Rattle.divisor.specs.Candidate.{Call, table, prime, Numbers, A, B, monomials, lent-points, handed-out, Result, Candidate, refused, answered}
+use Rattle.divisor.specs.Demands.{DegreeX, IsPolynomial, GreatestInX, OnlyProposed, MadeMonic, AcceptedIsGreatest, CommonDivisorComesOut}
+use Rattle.divisor.specs.Laws.Monic.{monic-is-made-monic}
+use Rattle.divisor.specs.Laws.Degree.{accepted-greatest}
+use Rattle.divisor.specs.Laws.CandidateDetermined.{candidate-determined}
+use Rattle.divisor.specs.Laws.Proposed.{Under, Falling, terms-at, terms-at-monomials, polynomial-of-terms-at}
+use Rattle.divisor.specs.Laws.Complete.{common-divisor-found}
+use Rattle.divisor.specs.Laws.Output.{answered-output}
+
+abbrev AllPositive : List Line → Type 0
+AllPositive [] = Unit {0}
+AllPositive (l ∷ ls) = (0 < l .number) × AllPositive ls
+
+-- a refusal has a number
+refuses-positive : (lines : List Line) → AllPositive lines → (f : Fault) → Refuses lines f → 0 < f .number
+refuses-positive [] h f r = absurd r
+refuses-positive (l ∷ ls) h f (inl r) = let e : f .number ≡ l .number = r .0 in let m : 0 < l .number = h .0 in omega arith
+refuses-positive (l ∷ ls) h f (inr r) = refuses-positive ls (h .1) f (r .1)
+
+table-positive : (c : Call) → AllPositive (table c)
+table-positive c = omega arith
+
+-- no power of x in a first list that passes is above the first term's
+first-within : (c : Call) → Passes (table c) → (listed : Listed (c .modulus)) → WithinX (Numbers c listed) (x-degree (Numbers c listed .ring) (A c listed)) (A c listed)
+first-within c pass listed = falling-within (c .modulus) (prime c listed) keys (c .first-list) (terms-fall (c .modulus) (c .first-list) (pass .1 .1 .0))
+
+-- DEMAND 3, first half
+pub accepted-is-greatest : (c : Call) (r : Result) → Candidate c r → AcceptedIsGreatest c r
+accepted-is-greatest c r (refused f h) e = let l : 0 < f .number = refuses-positive (table c) (table-positive c) f h in absurd (omega arith)
+accepted-is-greatest c r (answered pass listed f G x) e = (
+  listed,
+  subst (λ (H : Polynomial (Numbers c listed)). GreatestInX (Numbers c listed) (A c listed) (B c listed) H (f .degree))
+      (sym (answered-output c listed f G x))
+      (accepted-greatest (Numbers c listed) (A c listed) (B c listed) (monomials c listed) (lent-points c listed) (first-within c pass listed) f G x e),
+)
+
+-- keys that fall have monomials that fall
+under-of : (b k : ℕ) (ks : List ℕ) → b ≤ k → FallFrom b ks → Under (exponents k) (map exponents ks)
+under-of b k [] l h = tt
+under-of b k (j ∷ js) l h = (
+  exponents-order j k (let m : j < b = h .0 in omega arith),
+  under-of j k js (let m : j < b = h .0 in omega arith) (h .1),
+)
+
+falling-of : (b : ℕ) (ks : List ℕ) → FallFrom b ks → Falling (map exponents ks)
+falling-of b [] h = tt
+falling-of b (k ∷ ks) h = (under-of k k ks (omega arith) (h .1), falling-of k ks (h .1))
+
+-- DEMAND 3, second half
+pub common-divisor-comes-out : (c : Call) (r : Result) → Candidate c r → CommonDivisorComesOut c r
+common-divisor-comes-out c r meets pass listed d b u k kept sorted s only C fin dA dB degree proposed =
+    let answer = common-divisor-found F (A c listed) (B c listed) (first-within c pass listed)
+    L divides-both d (subst (DegreeX F d) (sym of-L) degree) (monomials c listed) (terms-at-monomials F (monomials c listed) C) (lent-points c listed) b u k kept sorted s only in
+    let same = candidate-determined c _ r (answered pass listed _ _ answer) meets in
+    subst (λ (q : Result). (q .found .fault .number ≡ 0) × MadeMonic F C (handed-out c listed q)) same (
+      refl,
+      subst (λ (H : Polynomial F). MadeMonic F C H) (sym (answered-output c listed _ _ answer))
+          (subst (λ (f : S4 (F .ring) .Car). MadeMonic F f (made-monic F (without-zeros F L))) of-L (monic-is-made-monic F L not-zero)),
+    )
+  where
+    F : Field
+    F = Numbers c listed
+
+    L : Polynomial F
+    L = terms-at F (monomials c listed) C
+
+    of-L : polynomial (F .ring) L ≡ C
+    of-L = polynomial-of-terms-at F (monomials c listed)
+        (falling-of keys (c .skeleton) (keys-fall (c .skeleton) (none-wrong (WrongKey (c .skeleton)) (pass .1 .1 .1 .1 .1 .1 .0)))) C proposed
+
+    not-zero : ¬ (polynomial (F .ring) L ≡ S4 (F .ring) .𝟘)
+    not-zero e = degree .nonzero (ap (λ (f : S4 (F .ring) .Car). f d) (sym of-L ∙ e))
+
+    divides-both : Divides F (polynomial (F .ring) L) (polynomial (F .ring) (A c listed)) × Divides F (polynomial (F .ring) L) (polynomial (F .ring) (B c listed))
+    divides-both = subst (λ (f : S4 (F .ring) .Car). Divides F f (polynomial (F .ring) (A c listed)) × Divides F f (polynomial (F .ring) (B c listed))) (sym of-L) (dA, dB)
