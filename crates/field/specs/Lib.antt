@@ -12,3 +12,6 @@ pub mod Modulo
 pub mod Numbers
 pub mod Refusal
 pub mod RefusalLaws
+pub mod RefusalDecision
+pub mod Contract
+pub mod Arithmetic
