@@ -13,3 +13,7 @@ pub mod Numbers
 pub mod Refusal
 pub mod RefusalLaws
 pub mod ElLaws
+pub mod RefusalDecision
+pub mod Contract
+pub mod Arithmetic
+pub mod ArithmeticLaws
