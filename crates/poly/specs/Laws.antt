@@ -1,4 +1,10 @@
--- Laws of the definitions of this layer, each file one subject.
+-- Laws of the definitions and models of this layer, each file one subject.
 pub mod Keys
 pub mod Value
 pub mod Lists
+pub mod Powers
+pub mod EightNumbers
+pub mod EightMeaning
+pub mod EightTurns
+pub mod ValueModel
+pub mod ValueMeaning

@@ -1,8 +1,10 @@
--- Layer 2, polynomials: definitions and laws.
+-- Layer 2, polynomials: definitions, models of the code, and laws.
 pub mod Keys
 pub mod Terms
 pub mod Value
 pub mod Image
 pub mod Lists
 pub mod Room
+pub mod Coefficients
+pub mod Models
 pub mod Laws

@@ -1,0 +1,5 @@
+-- Models: what the code computes, step by step, on lists of numbers. Nobody has to believe a model: its laws carry it to the definitions.
+pub mod Cells
+pub mod Powers
+pub mod Value
+pub mod Eight
