@@ -6,5 +6,8 @@ pub mod Image
 pub mod Lists
 pub mod Room
 pub mod Coefficients
+pub mod LeadingPart
+pub mod ImageCall
+pub mod Quotient
 pub mod Models
 pub mod Laws

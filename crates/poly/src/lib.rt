@@ -1,0 +1,21 @@
+// Layer 2, polynomials in x, y, z, w modulo a listed prime: keys and lists, the value and the image at a point, division.
+use field::Fault;
+
+// A term: its key times 65536, plus its coefficient.
+pub type Term = u32;
+
+// Eight numbers below the modulus: the coefficients of x^0 to x^7, or the powers 0 to 7 of a number.
+pub type Eight = [u16; 8];
+
+// What the image service answers: U's coefficients and its degree; on refusal all are 0.
+pub struct ImageRecord {
+    pub fault: Fault,
+    pub coefficients: Eight,
+    pub degree: usize,
+}
+
+// What the quotient service answers: the count of terms, 0 on refusal.
+pub struct QuotientRecord {
+    pub fault: Fault,
+    pub terms: usize,
+}

@@ -1,0 +1,60 @@
+-- The image service: what is lent, the refusals in table order, and what is answered in every case.
+use mathlib.Core.Path.{_≡_}
+use mathlib.Core.List.{List, [], _∷_, _++_}
+use lib.ListN.{length, getD, replicate}
+use Prim.Native.Nat.{ℕ}
+use Rattle.algebra.specs.Field.{Field}
+use Rattle.field.specs.Prime.{Prime}
+use Rattle.field.specs.Fp.{el}
+use Rattle.field.specs.Moduli.{Listed}
+use Rattle.field.specs.ModuliLaws.{listed-prime}
+use Rattle.field.specs.Modulo.{Modulo}
+use Rattle.field.specs.Numbers.{POINTS_COUNT, POINT_NUMBER, NO_GOOD_POINT}
+use Rattle.field.specs.Refusal.{Line, line, whole, first, fault, none, Refuses, Passes}
+use Rattle.field.specs.declared.Fault.{Fault}
+use Rattle.poly.specs.declared.ImageRecord.{ImageRecord}
+use Rattle.poly.specs.Terms.{Polynomial, terms-of}
+use Rattle.poly.specs.Value.{Point}
+use Rattle.poly.specs.Image.{Bad, Image}
+use Rattle.poly.specs.Lists.{WrongNumber, of-lists}
+use Rattle.poly.specs.Coefficients.{Eight, series}
+
+pub record ImageCall : Type 0 where
+  pub modulus : ℕ
+  pub first-list : List ℕ
+  pub second-list : List ℕ
+  pub point : List ℕ
+
+-- a point that isn't three numbers, or of which one is at least p
+abbrev pub of-point : ℕ → List ℕ → List Line
+of-point p numbers =
+    line POINTS_COUNT (whole (¬ (length numbers ≡ 3)))
+    ∷ line POINT_NUMBER (first (WrongNumber p numbers))
+    ∷ []
+
+-- the refusals of the inputs, tested in this order
+abbrev pub image-table : ImageCall → List Line
+image-table c = of-lists (c .modulus) (c .first-list) (c .second-list) ++ of-point (c .modulus) (c .point)
+
+-- the point that three numbers are
+abbrev pub point-of : (p : ℕ) (P : Prime p) → List ℕ → Point (Modulo p P .ring)
+point-of p P numbers = record { y = el p (getD numbers 0 0); z = el p (getD numbers 1 0); w = el p (getD numbers 2 0) }
+
+-- on refusal the coefficients and the degree are 0
+abbrev pub refusal : Fault → ImageRecord
+refusal f = record { fault = f; coefficients = replicate 8 0; degree = 0 }
+
+-- what a point settles: 12 where it is bad, else the image
+pub data PointAnswer (p : ℕ) (P : Prime p) (A B : Polynomial (Modulo p P)) (at : Point (Modulo p P .ring)) : ImageRecord → Type 0 where
+  bad : Bad (Modulo p P) A B at → PointAnswer p P A B at (refusal (fault NO_GOOD_POINT 0))
+  good : (degree : ℕ) (coefficients : List ℕ) → Eight p coefficients → Image (Modulo p P) A B at degree (series p coefficients)
+      → PointAnswer p P A B at (record { fault = none; coefficients = coefficients; degree = degree })
+
+-- the promise of the image service
+pub data ImageAnswer (c : ImageCall) : ImageRecord → Type 0 where
+  refused : (f : Fault) → Refuses (image-table c) f → ImageAnswer c (refusal f)
+  answered : Passes (image-table c) → (listed : Listed (c .modulus)) (found : ImageRecord)
+      → PointAnswer (c .modulus) (listed-prime listed)
+      (terms-of (c .modulus) (listed-prime listed) (c .first-list)) (terms-of (c .modulus) (listed-prime listed) (c .second-list))
+      (point-of (c .modulus) (listed-prime listed) (c .point)) found
+      → ImageAnswer c found
