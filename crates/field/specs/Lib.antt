@@ -14,5 +14,6 @@ pub mod Refusal
 pub mod RefusalLaws
 pub mod RefusalDecision
 pub mod Contract
+pub mod Link
 pub mod Arithmetic
 pub mod ArithmeticLaws
