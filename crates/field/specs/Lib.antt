@@ -15,5 +15,6 @@ pub mod RefusalLaws
 pub mod ElLaws
 pub mod RefusalDecision
 pub mod Contract
+pub mod Link
 pub mod Arithmetic
 pub mod ArithmeticLaws
