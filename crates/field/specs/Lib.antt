@@ -1,0 +1,17 @@
+-- What the layers above cite of the arithmetic: definitions (Prime, Moduli, Fp, Residues, Numbers, Refusal), and their laws in files apart.
+pub mod Prime
+pub mod PrimeLaws
+pub mod Moduli
+pub mod ModuliLaws
+pub mod RemainderLaws
+pub mod Fp
+pub mod FpLaws
+pub mod InverseLaws
+pub mod Residues
+pub mod Modulo
+pub mod Numbers
+pub mod Refusal
+pub mod RefusalLaws
+pub mod RefusalDecision
+pub mod Contract
+pub mod Arithmetic

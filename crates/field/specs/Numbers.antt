@@ -1,0 +1,72 @@
+-- The refusal numbers by name: those of the table, and the reader's. 0 is no refusal.
+use Prim.Native.Nat.{ℕ}
+
+abbrev pub MODULUS : ℕ
+MODULUS = 1
+
+abbrev pub FIRST_COUNT : ℕ
+FIRST_COUNT = 2
+
+abbrev pub FIRST_TERM : ℕ
+FIRST_TERM = 3
+
+abbrev pub SECOND_COUNT : ℕ
+SECOND_COUNT = 4
+
+abbrev pub SECOND_TERM : ℕ
+SECOND_TERM = 5
+
+abbrev pub SKELETON_COUNT : ℕ
+SKELETON_COUNT = 6
+
+abbrev pub SKELETON_KEY : ℕ
+SKELETON_KEY = 7
+
+abbrev pub POINTS_COUNT : ℕ
+POINTS_COUNT = 8
+
+abbrev pub POINT_NUMBER : ℕ
+POINT_NUMBER = 9
+
+abbrev pub OUTPUT_SHORT : ℕ
+OUTPUT_SHORT = 10
+
+abbrev pub WORK_SHORT : ℕ
+WORK_SHORT = 11
+
+abbrev pub NO_GOOD_POINT : ℕ
+NO_GOOD_POINT = 12
+
+abbrev pub NO_SOLUTION : ℕ
+NO_SOLUTION = 13
+
+abbrev pub SEVERAL_SOLUTIONS : ℕ
+SEVERAL_SOLUTIONS = 14
+
+abbrev pub DOES_NOT_DIVIDE : ℕ
+DOES_NOT_DIVIDE = 15
+
+abbrev pub INVERSE_OF_ZERO : ℕ
+INVERSE_OF_ZERO = 16
+
+abbrev pub OPERAND : ℕ
+OPERAND = 17
+
+-- the reader's
+abbrev pub KIND_UNKNOWN : ℕ
+KIND_UNKNOWN = 20
+
+abbrev pub BODY_CUT : ℕ
+BODY_CUT = 21
+
+abbrev pub ORDER : ℕ
+ORDER = 22
+
+abbrev pub AFTER_END : ℕ
+AFTER_END = 23
+
+abbrev pub NO_END : ℕ
+NO_END = 24
+
+abbrev pub TOO_MANY : ℕ
+TOO_MANY = 25

@@ -1,0 +1,48 @@
+-- Refusals: a table of lines, tested in order. Each line gives a number, at a place, exactly when something holds.
+use mathlib.Core.Path.{_≡_}
+use mathlib.Core.Logic.{_⊎_}
+use mathlib.Core.List.{List, [], _∷_}
+use Prim.Native.Nat.{ℕ, _<_}
+use Rattle.field.specs.declared.Fault.{Fault}
+
+pub record Line : Type 1 where
+  pub number : ℕ
+  pub given : ℕ → Type 0
+
+abbrev pub line : ℕ → (ℕ → Type 0) → Line
+line number given = record { number = number; given = given }
+
+-- a line with one stated place
+abbrev pub placed : ℕ → Type 0 → ℕ → Type 0
+placed stated X place = X × (place ≡ stated)
+
+-- a line whose place is 0
+abbrev pub whole : Type 0 → ℕ → Type 0
+whole X = placed 0 X
+
+-- a line whose place is the first at which something is wrong
+abbrev pub first : (ℕ → Type 0) → ℕ → Type 0
+first Wrong place = Wrong place × ((before : ℕ) → before < place → ¬ Wrong before)
+
+abbrev pub fault : ℕ → ℕ → Fault
+fault number place = record { number = number; place = place }
+
+-- acceptance is number 0, place 0
+abbrev pub none : Fault
+none = fault 0 0
+
+-- the first line that applies gives the fault
+abbrev pub Refuses : List Line → Fault → Type 0
+Refuses [] f = ⊥
+Refuses (l ∷ lines) f =
+    ((f .number ≡ l .number) × l .given (f .place)) ⊎ (((place : ℕ) → ¬ l .given place) × Refuses lines f)
+
+-- no line applies
+abbrev pub Passes : List Line → Type 0
+Passes [] = Unit {0}
+Passes (l ∷ lines) = ((place : ℕ) → ¬ l .given place) × Passes lines
+
+-- what a test of the lines gives: the fault of the first that applies, or none
+pub data Tested (lines : List Line) (f : Fault) : Type 0 where
+  refused : Refuses lines f → Tested lines f
+  passed : Passes lines → f ≡ none → Tested lines f
