@@ -1,0 +1,3 @@
+-- The equation table: its model in plain numbers, and what it means over the field.
+pub mod TableModel
+pub mod TableSteps
