@@ -15,3 +15,4 @@ pub mod RefusalLaws
 pub mod RefusalDecision
 pub mod Contract
 pub mod Arithmetic
+pub mod ArithmeticLaws

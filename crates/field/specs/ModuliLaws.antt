@@ -42,3 +42,11 @@ listed-positive h = omega (arith, listed-above h)
 
 pub listed-below : {p : ℕ} → Listed p → p < 65522
 listed-below {p} h = ltb→lt p 65522 (listed-every (λ n. ltb n 65522) tt p h)
+
+-- a modulus that is not unlisted is listed
+pub listed-stable : (p : ℕ) → ¬ (¬ Listed p) → Listed p
+listed-stable p = go (listed p)
+  where
+    go : (b : Bool) → ¬ (¬ (b ≡ true)) → b ≡ true
+    go true n = refl
+    go false n = absurd (n (λ e. subst T (sym e) tt))

@@ -1,12 +1,12 @@
 -- A computed check of each line decides a table. Assumes nothing.
 use mathlib.Core.Path.{_≡_, refl}
-use mathlib.Core.Logic.{inl, inr}
 use mathlib.Core.List.{List, [], _∷_}
 use Prim.Native.Nat.{ℕ, zero, suc, _+_, _≤_, _<_}
-use native.Mathlib.Decide.{decLt, ℕ-discrete}
+use native.Mathlib.Decide.{decLt}
 use native.Mathlib.Omega.{arith}
 use Rattle.field.specs.declared.Fault.{Fault}
-use Rattle.field.specs.Refusal.{Line, line, placed, first, fault, none, Refuses, Passes, Tested, refused, passed}
+use Rattle.field.specs.Refusal.{Line, line, placed, first, fault, none, Tested}
+use Rattle.field.specs.RefusalLaws.{tested-line, tested-past, tested-end}
 
 -- what a check of a line finds: the place at which it applies, or that it does not
 pub data Check (l : Line) : Type 0 where
@@ -46,11 +46,10 @@ decided (l ∷ lines) cs = elim (cs .0) [ applies place g ↦ fault (l .number) 
 
 pub decided-tested : (lines : List Line) (cs : Checks lines) → Tested lines (decided lines cs)
 unfolding decided
-decided-tested [] cs = passed tt refl
+decided-tested [] cs = tested-end refl
 decided-tested (l ∷ lines) cs = go (cs .0) (decided-tested lines (cs .1))
   where
     go : (c : Check l) → Tested lines (decided lines (cs .1))
         → Tested (l ∷ lines) (elim c [ applies place g ↦ fault (l .number) place | never n ↦ decided lines (cs .1) ])
-    go (applies place g) rest = refused (inl (refl, g))
-    go (never n) (refused h) = refused (inr (n, h))
-    go (never n) (passed h e) = passed (n, h) e
+    go (applies place g) rest = tested-line place g refl
+    go (never n) rest = tested-past n rest

@@ -1,6 +1,6 @@
 -- Laws of tables of refusals: a table gives one fault at most, and does not both pass and refuse; a table may be tested part by part.
 -- Assumes nothing.
-use mathlib.Core.Path.{_≡_, sym, _∙_, ap}
+use mathlib.Core.Path.{_≡_, refl, sym, _∙_, ap}
 use mathlib.Core.Logic.{_⊎_, inl, inr}
 use mathlib.Core.Bool.{Bool, true, false, _&&_}
 use mathlib.Core.List.{List, [], _∷_, _++_}
@@ -58,6 +58,24 @@ tested-determined lines one f g (refused h) (passed k e) = absurd (not-passes-an
 tested-determined lines one f g (passed h e) (refused k) = absurd (not-passes-and-refuses lines g h k)
 tested-determined lines one f g (passed h e) (passed k d) = e ∙ sym d
 
+-- a line with one stated place
+pub placed-never : {k : ℕ} {X : Type 0} → ¬ X → (place : ℕ) → ¬ placed k X place
+placed-never n place h = n (h .0)
+
+pub never-placed : {k : ℕ} {X : Type 0} → ((place : ℕ) → ¬ placed k X place) → ¬ X
+never-placed {k} n x = n k (x, refl)
+
+-- a test line by line: the line that applies, a line that does not, and the end
+pub tested-line : {l : Line} {lines : List Line} (place : ℕ) → l .given place → {f : Fault} → f ≡ fault (l .number) place → Tested (l ∷ lines) f
+tested-line {l} place g e = refused (inl (ap (λ (f : Fault). f .number) e, rw (ap (λ (f : Fault). f .place) e) g))
+
+pub tested-past : {l : Line} {lines : List Line} {f : Fault} → ((place : ℕ) → ¬ l .given place) → Tested lines f → Tested (l ∷ lines) f
+tested-past n (refused h) = refused (inr (n, h))
+tested-past n (passed h e) = passed (n, h) e
+
+pub tested-end : {f : Fault} → f ≡ none → Tested [] f
+tested-end e = passed tt e
+
 -- a table in two parts
 pub refuses-front : (front back : List Line) (f : Fault) → Refuses front f → Refuses (front ++ back) f
 refuses-front [] back f h = absurd h
@@ -79,13 +97,6 @@ passes-front (l ∷ front) back h = (h .0, passes-front front back (h .1))
 pub passes-back : (front back : List Line) → Passes (front ++ back) → Passes back
 passes-back [] back h = h
 passes-back (l ∷ front) back h = passes-back front back (h .1)
-
-pub tested-front : (front back : List Line) (f : Fault) → Refuses front f → Tested (front ++ back) f
-tested-front front back f h = refused (refuses-front front back f h)
-
-pub tested-back : (front back : List Line) (f : Fault) → Passes front → Tested back f → Tested (front ++ back) f
-tested-back front back f h (refused k) = refused (refuses-back front back f h k)
-tested-back front back f h (passed k e) = passed (passes-append front back h k) e
 
 -- Where each number is above 0, the fault's number tells whether the table passed. A table of literals has it by `tt`.
 abbrev pub numbered : List Line → Bool
@@ -110,3 +121,12 @@ tested-passes lines t f (passed h e) z = (h, e)
 pub tested-refuses : (lines : List Line) (f : Fault) → Tested lines f → ¬ (f .number ≡ 0) → Refuses lines f
 tested-refuses lines f (refused h) n = h
 tested-refuses lines f (passed h e) n = absurd (n (ap (λ (g : Fault). g .number) e))
+
+-- a table tested in two parts by the first fault's number: it stops there, or goes on with the second part
+module _ (front back : List Line) (f : Fault) (t : Tested front f) where
+  pub tested-stops : ¬ (f .number ≡ 0) → Tested (front ++ back) f
+  tested-stops n = refused (refuses-front front back f (tested-refuses front f t n))
+
+  pub tested-goes-on : T (numbered front) → f .number ≡ 0 → {g : Fault} → Tested back g → Tested (front ++ back) g
+  tested-goes-on some z {g} (refused h) = refused (refuses-back front back g (tested-passes front some f t z .0) h)
+  tested-goes-on some z {g} (passed h e) = passed (passes-append front back (tested-passes front some f t z .0) h) e

@@ -194,7 +194,7 @@ pub struct Answer {
 }
 
 // The lines of the table that every service tests: the modulus, and the first operand.
-fn first_fault(a: Element) -> Fault
+fn first_operand_fault(a: Element) -> Fault
     ensures { λ r. ⌜ Tested (first-operand a) r ⌝ }
 {
     if !is_modulus(a.modulus) {
@@ -206,10 +206,10 @@ fn first_fault(a: Element) -> Fault
     Fault::none()
 }
 
-fn operands_fault(a: Element, b: Element) -> Fault
+fn two_operands_fault(a: Element, b: Element) -> Fault
     ensures { λ r. ⌜ Tested (two-operands a b) r ⌝ }
 {
-    let fault = first_fault(a);
+    let fault = first_operand_fault(a);
     if fault.number != 0 {
         return fault;
     }
@@ -222,10 +222,10 @@ fn operands_fault(a: Element, b: Element) -> Fault
     Fault::none()
 }
 
-fn inverse_fault(a: Element) -> Fault
+fn inverse_operand_fault(a: Element) -> Fault
     ensures { λ r. ⌜ Tested (inverse-operand a) r ⌝ }
 {
-    let fault = first_fault(a);
+    let fault = first_operand_fault(a);
     if fault.number != 0 {
         return fault;
     }
@@ -238,7 +238,7 @@ fn inverse_fault(a: Element) -> Fault
 pub fn ask_sum(a: Element, b: Element) -> Answer
     ensures { λ r. ⌜ AskSum a b r ⌝ }
 {
-    let fault = operands_fault(a, b);
+    let fault = two_operands_fault(a, b);
     let element = if fault.number != 0 {
         Element::zero(a.modulus)
     } else {
@@ -250,7 +250,7 @@ pub fn ask_sum(a: Element, b: Element) -> Answer
 pub fn ask_difference(a: Element, b: Element) -> Answer
     ensures { λ r. ⌜ AskDifference a b r ⌝ }
 {
-    let fault = operands_fault(a, b);
+    let fault = two_operands_fault(a, b);
     let element = if fault.number != 0 {
         Element::zero(a.modulus)
     } else {
@@ -262,7 +262,7 @@ pub fn ask_difference(a: Element, b: Element) -> Answer
 pub fn ask_product(a: Element, b: Element) -> Answer
     ensures { λ r. ⌜ AskProduct a b r ⌝ }
 {
-    let fault = operands_fault(a, b);
+    let fault = two_operands_fault(a, b);
     let element = if fault.number != 0 {
         Element::zero(a.modulus)
     } else {
@@ -274,7 +274,7 @@ pub fn ask_product(a: Element, b: Element) -> Answer
 pub fn ask_inverse(a: Element) -> Answer
     ensures { λ r. ⌜ AskInverse a r ⌝ }
 {
-    let fault = inverse_fault(a);
+    let fault = inverse_operand_fault(a);
     let element = if fault.number != 0 {
         Element::zero(a.modulus)
     } else {
