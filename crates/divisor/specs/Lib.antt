@@ -1,3 +1,5 @@
 -- The equation table: its model in plain numbers, and what it means over the field.
 pub mod TableModel
 pub mod TableSteps
+pub mod TableRows
+pub mod TableNumbers

@@ -38,12 +38,12 @@ element-copy-out-if1 c = search needs
 
 -- src/table.rt:126:9
 returns : tie.Need-returns Inv-loop μ-loop
-returns c = sym (kind-none (c .before .before .before .args .t) (c .if1 .taken))
+returns c = sym (kind-none (c .before .before .before .args .t1) (c .if1 .taken))
 
 -- src/table.rt:129:5
 loop-holds : tie.Need-loop-holds Inv-loop μ-loop
 loop-holds c =
-    let t = c .before .before .before .args .t in
+    let t = c .before .before .before .args .t1 in
     (search needs, ap (λ n. kind-from n 0 t) (sub-zero (t .columns - 1)) ∙ sym (kind-some t (c .if1 .left)))
 
 -- src/table.rt:130:19
@@ -66,7 +66,7 @@ element-copy-out-if2 c = search needs
 returns-2 : tie.Need-returns-2 Inv-loop μ-loop
 returns-2 c =
     let at = c .before .before .before .before in
-    let t = at .before .before .before .before .args .t in
+    let t = at .before .before .before .before .args .t1 in
     sym (kind-several t (at .loop .j) (t .columns - 1) (c .before .before .before .loop-test .taken) (c .if2 .taken)) ∙ at .loop .inv .1
 
 -- src/table.rt:134:9
@@ -81,14 +81,14 @@ loop-less c = search needs
 loop-again : tie.Need-loop-again Inv-loop μ-loop
 loop-again c =
     let at = c .before .before .before .before in
-    let t = at .before .before .before .before .args .t in
+    let t = at .before .before .before .before .args .t1 in
     (search needs, sym (kind-turn t (at .loop .j) (t .columns - 1) (c .before .before .before .loop-test .taken) (c .if2 .left)) ∙ at .loop .inv .1)
 
 -- src/table.rt:119:1
 returns-3 : tie.Need-returns-3 Inv-loop μ-loop
 returns-3 c =
     let at = c .before in
-    let t = at .before .before .before .before .args .t in
+    let t = at .before .before .before .before .args .t1 in
     sym (kind-one t (at .loop .j) (t .columns - 1) (c .loop-test .left)) ∙ at .loop .inv .1
 
 pub kind-of-spec : {M : Type 1} → statement M

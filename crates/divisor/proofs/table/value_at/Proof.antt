@@ -1,4 +1,5 @@
-use mathlib.Core.Path.{_≡_, refl, sym, ap, _∙_}
+use native.Mathlib.Nat.{mod-lt}
+use mathlib.Core.Path.{_≡_, refl, sym, ap, _∙_, subst}
 use Prim.Native.Nat.{ℕ, _+_, _-_, _*_, _%_, _<_, _≤_}
 use native.Mathlib.Omega.{arith}
 use Rattle.divisor.specs.TableModel.{cell, total}
@@ -65,8 +66,9 @@ loop-again : tie.Need-loop-again Inv-loop μ-loop
 loop-again c =
     let at = c .before .before .before in
     let a = at .before .before .args in
-    (search needs, (search needs, ap (λ s. total (a .last - (at .loop .k + 1)) (at .loop .k + 1) (a .p) (a .row) (a .values) s) (c .plus-times .ensures)
-    ∙ sym (total-turn (at .loop .k) (a .last) (a .p) (a .row) (a .values) (at .loop .sum) (c .before .before .loop-test .taken)) ∙ at .loop .inv .1 .1))
+    let positive : 0 < a .p = omega arith in
+    (search needs, (subst (λ s. s < a .p) (sym (c .plus-times .ensures)) (mod-lt _ positive), ap (λ s. total (a .last - (at .loop .k + 1)) (at .loop .k + 1) (a .p) (a .t1) (a .t2) s) (c .plus-times .ensures)
+    ∙ sym (total-turn (at .loop .k) (a .last) (a .p) (a .t1) (a .t2) (at .loop .sum) (c .before .before .loop-test .taken)) ∙ at .loop .inv .1 .1))
 
 -- src/table.rt:150:6
 sub-result : tie.Need-sub-result Inv-loop μ-loop
@@ -81,7 +83,7 @@ returns : tie.Need-returns Inv-loop μ-loop
 returns c =
     let at = c .before in
     let a = at .before .before .args in
-    ap (λ s. (a .p - s) % a .p) (sym (total-end (at .loop .k) (a .last) (a .p) (a .row) (a .values) (at .loop .sum) (c .loop-test .left)) ∙ at .loop .inv .1 .1)
+    ap (λ s. (a .p - s) % a .p) (sym (total-end (at .loop .k) (a .last) (a .p) (a .t1) (a .t2) (at .loop .sum) (c .loop-test .left)) ∙ at .loop .inv .1 .1)
 
 pub value-at-spec : {M : Type 1} → statement M
 value-at-spec =
