@@ -54,12 +54,12 @@ unfoldable pub insert : ℕ → ℕ → ℕ → Table → Row → Table
 insert zero j p t e = t
 insert (suc n) j p t e =
     elim (eqb (cell e j) 0) [
-      true ↦ insert n (suc j) p t e
-    | false ↦
-        elim (eqb (diagonal t j) 0) [
-          true ↦ kept p t j e
-        | false ↦ insert n (suc j) p t (minus p e (row-at t j) j (t .columns))
-        ]
+      | true ↦ insert n (suc j) p t e
+      | false ↦
+          elim (eqb (diagonal t j) 0) [
+            | true ↦ kept p t j e
+            | false ↦ insert n (suc j) p t (minus p e (row-at t j) j (t .columns))
+          ]
     ]
 
 -- one more equation

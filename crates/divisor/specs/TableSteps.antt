@@ -42,12 +42,12 @@ module _ (p : ℕ) (t : Table) (e : Row) (j : ℕ) where
       ∙ ap
       (λ b.
       elim b [
-        true ↦ insert left (suc j) p t e
-      | false ↦
-          elim (eqb (diagonal t j) 0) [
-            true ↦ kept p t j e
-          | false ↦ insert left (suc j) p t (minus p e (row-at t j) j (t .columns))
-          ]
+        | true ↦ insert left (suc j) p t e
+        | false ↦
+            elim (eqb (diagonal t j) 0) [
+              | true ↦ kept p t j e
+              | false ↦ insert left (suc j) p t (minus p e (row-at t j) j (t .columns))
+            ]
       ])
       (eq-eqb (cell e j) 0 z)
       ∙ ap (λ i. insert left i p t e) (sym (add-one j))
@@ -61,12 +61,12 @@ module _ (p : ℕ) (t : Table) (e : Row) (j : ℕ) where
       ∙ ap
       (λ b.
       elim b [
-        true ↦ insert left (suc j) p t e
-      | false ↦
-          elim (eqb (diagonal t j) 0) [
-            true ↦ kept p t j e
-          | false ↦ insert left (suc j) p t (minus p e (row-at t j) j (t .columns))
-          ]
+        | true ↦ insert left (suc j) p t e
+        | false ↦
+            elim (eqb (diagonal t j) 0) [
+              | true ↦ kept p t j e
+              | false ↦ insert left (suc j) p t (minus p e (row-at t j) j (t .columns))
+            ]
       ])
       (ne-eqb (cell e j) 0 z)
       ∙ ap

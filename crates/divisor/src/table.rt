@@ -2,8 +2,8 @@
 // where its cell is 1; where no row is kept the cell on the diagonal is 0. A row kept in the last column says 1 = 0: there is no solution.
 ghost use mathlib.Core.Path.{_≡_};
 ghost use Rattle.divisor.specs.TableModel.{Columns, Column, Back, TableReady, Ready, empty-table, minus, scaled-row, with-row, kind, value, values, solved};
-use field::Number;
 use field::Element;
+use field::Number;
 
 pub struct Row {
     pub cells: [Number; 64],

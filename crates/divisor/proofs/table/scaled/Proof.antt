@@ -70,9 +70,11 @@ loop-again : tie.Need-loop-again Inv-loop μ-loop
 loop-again c =
     let at = c .before .before .before in
     let a = at .before .before .before .args in
-    let g : ℕ → ℕ → ℕ = λ k x. at .before .inverse .result .value * x % a .p in
-    (search needs, ap (λ v. altered g (at .loop .i + 1) (a .columns - (at .loop .i + 1)) (set (at .loop .r .cells) (at .loop .i) v)) (c .times .ensures)
-    ∙ sym (altered-turn g (at .loop .i) (a .columns) (at .loop .r .cells) (c .before .before .loop-test .taken)) ∙ at .loop .inv .1)
+    let g : ℕ → ℕ → ℕ = λ k x. at .before .inverse .result .value * x % a .p in (
+      search needs,
+      ap (λ v. altered g (at .loop .i + 1) (a .columns - (at .loop .i + 1)) (set (at .loop .r .cells) (at .loop .i) v)) (c .times .ensures)
+          ∙ sym (altered-turn g (at .loop .i) (a .columns) (at .loop .r .cells) (c .before .before .loop-test .taken)) ∙ at .loop .inv .1,
+    )
 
 -- src/table.rt:58:1
 returns : tie.Need-returns Inv-loop μ-loop
@@ -81,7 +83,7 @@ returns c =
     let a = at .before .before .before .args in
     let g : ℕ → ℕ → ℕ = λ k x. at .before .inverse .result .value * x % a .p in
     let is : at .before .inverse .result .value ≡ inv (el (a .p) (cell (a .row) (a .j))) .val =
-        inverse-val (record { modulus = a .p; value = cell (a .row) (a .j) }) (at .before .inverse .result) (listed-prime (at .before .before .before .pre .listed)) (at .before .inverse .ensures) in
+    inverse-val (record { modulus = a .p; value = cell (a .row) (a .j) }) (at .before .inverse .result) (listed-prime (at .before .before .before .pre .listed)) (at .before .inverse .ensures) in
     ap (λ x. record { cells = x }) (sym (altered-end g (at .loop .i) (a .columns) (at .loop .r .cells) (c .loop-test .left)) ∙ at .loop .inv .1)
     ∙ ap (λ f. record { cells = altered (λ k x. f * x % a .p) (a .j) (a .columns - a .j) (a .row .cells) }) is
 

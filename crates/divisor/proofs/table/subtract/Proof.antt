@@ -74,9 +74,11 @@ loop-again : tie.Need-loop-again Inv-loop μ-loop
 loop-again c =
     let at = c .before .before .before .before in
     let a = at .before .before .args in
-    let g : ℕ → ℕ → ℕ = λ k x. (x + (a .p - cell (a .row) (a .j)) * cell (a .t2) k) % a .p in
-    (search needs, ap (λ v. altered g (at .loop .i + 1) (a .columns - (at .loop .i + 1)) (set (at .loop .r .cells) (at .loop .i) v)) (c .plus-times .ensures)
-    ∙ sym (altered-turn g (at .loop .i) (a .columns) (at .loop .r .cells) (c .before .before .before .loop-test .taken)) ∙ at .loop .inv .1)
+    let g : ℕ → ℕ → ℕ = λ k x. (x + (a .p - cell (a .row) (a .j)) * cell (a .t2) k) % a .p in (
+      search needs,
+      ap (λ v. altered g (at .loop .i + 1) (a .columns - (at .loop .i + 1)) (set (at .loop .r .cells) (at .loop .i) v)) (c .plus-times .ensures)
+          ∙ sym (altered-turn g (at .loop .i) (a .columns) (at .loop .r .cells) (c .before .before .before .loop-test .taken)) ∙ at .loop .inv .1,
+    )
 
 -- src/table.rt:43:1
 returns : tie.Need-returns Inv-loop μ-loop

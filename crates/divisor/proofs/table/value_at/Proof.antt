@@ -66,9 +66,14 @@ loop-again : tie.Need-loop-again Inv-loop μ-loop
 loop-again c =
     let at = c .before .before .before in
     let a = at .before .before .args in
-    let positive : 0 < a .p = omega arith in
-    (search needs, (subst (λ s. s < a .p) (sym (c .plus-times .ensures)) (mod-lt _ positive), ap (λ s. total (a .last - (at .loop .k + 1)) (at .loop .k + 1) (a .p) (a .t1) (a .t2) s) (c .plus-times .ensures)
-    ∙ sym (total-turn (at .loop .k) (a .last) (a .p) (a .t1) (a .t2) (at .loop .sum) (c .before .before .loop-test .taken)) ∙ at .loop .inv .1 .1))
+    let positive : 0 < a .p = omega arith in (
+      search needs,
+      (
+        subst (λ s. s < a .p) (sym (c .plus-times .ensures)) (mod-lt _ positive),
+        ap (λ s. total (a .last - (at .loop .k + 1)) (at .loop .k + 1) (a .p) (a .t1) (a .t2) s) (c .plus-times .ensures)
+            ∙ sym (total-turn (at .loop .k) (a .last) (a .p) (a .t1) (a .t2) (at .loop .sum) (c .before .before .loop-test .taken)) ∙ at .loop .inv .1 .1,
+      ),
+    )
 
 -- src/table.rt:150:6
 sub-result : tie.Need-sub-result Inv-loop μ-loop

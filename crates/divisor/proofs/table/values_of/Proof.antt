@@ -65,9 +65,11 @@ loop-less c = search needs
 loop-again : tie.Need-loop-again Inv-loop μ-loop
 loop-again c =
     let at = c .before .before .before in
-    let a = at .before .args in
-    (search needs, ap (λ v. back (at .loop .j - 1) (a .p) (a .t1) (set (at .loop .values) (at .loop .j - 1) v)) (c .value-at .ensures)
-    ∙ sym (back-turn (a .p) (a .t1) (at .loop .values) (at .loop .j) (c .before .before .loop-test .taken)) ∙ at .loop .inv .1)
+    let a = at .before .args in (
+      search needs,
+      ap (λ v. back (at .loop .j - 1) (a .p) (a .t1) (set (at .loop .values) (at .loop .j - 1) v)) (c .value-at .ensures)
+          ∙ sym (back-turn (a .p) (a .t1) (at .loop .values) (at .loop .j) (c .before .before .loop-test .taken)) ∙ at .loop .inv .1,
+    )
 
 -- src/table.rt:154:1
 returns : tie.Need-returns Inv-loop μ-loop

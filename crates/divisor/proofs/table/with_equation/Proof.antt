@@ -104,16 +104,20 @@ loop-again c =
     let a = at .before .args in
     let j = at .loop .j in
     let within = c .before .before .loop-test .taken in
-    let left = a .t1 .columns - (j + 1) in
-    (search needs, ⊎-elim
-    (λ w.
-    let is : c .if1 .row ≡ minus (a .p) (at .loop .row) (row-at (a .t1) j) j (a .t1 .columns) = w .5 ∙ w .4 .ensures in
-    (λ k. subst (λ x. cell x k < a .p) (sym is) (minus-below (a .p) (at .loop .row) j (a .t1 .columns) (at .loop .inv .1 .0) (row-at (a .t1) j) k),
-    ap (λ x. insert left (j + 1) (a .p) (a .t1) x) is ∙ sym (insert-minus (a .p) (a .t1) (at .loop .row) j within (w .0 .taken) (w .3 .left)) ∙ at .loop .inv .1 .1))
-    (λ w.
-    (λ k. subst (λ x. cell x k < a .p) (sym (w .1)) (at .loop .inv .1 .0 k),
-    ap (λ x. insert left (j + 1) (a .p) (a .t1) x) (w .1) ∙ sym (insert-skip (a .p) (a .t1) (at .loop .row) j within (w .0 .left)) ∙ at .loop .inv .1 .1))
-    (c .if1 .came))
+    let left = a .t1 .columns - (j + 1) in (
+      search needs,
+      ⊎-elim
+          (λ w.
+          let is : c .if1 .row ≡ minus (a .p) (at .loop .row) (row-at (a .t1) j) j (a .t1 .columns) = w .5 ∙ w .4 .ensures in (
+            λ k. subst (λ x. cell x k < a .p) (sym is) (minus-below (a .p) (at .loop .row) j (a .t1 .columns) (at .loop .inv .1 .0) (row-at (a .t1) j) k),
+            ap (λ x. insert left (j + 1) (a .p) (a .t1) x) is ∙ sym (insert-minus (a .p) (a .t1) (at .loop .row) j within (w .0 .taken) (w .3 .left)) ∙ at .loop .inv .1 .1,
+          ))
+          (λ w. (
+            λ k. subst (λ x. cell x k < a .p) (sym (w .1)) (at .loop .inv .1 .0 k),
+            ap (λ x. insert left (j + 1) (a .p) (a .t1) x) (w .1) ∙ sym (insert-skip (a .p) (a .t1) (at .loop .row) j within (w .0 .left)) ∙ at .loop .inv .1 .1,
+          ))
+          (c .if1 .came),
+    )
 
 -- src/table.rt:78:1
 returns-2 : tie.Need-returns-2 Inv-loop μ-loop
