@@ -19,3 +19,5 @@ pub mod DivisionLaws
 pub mod Evaluate
 pub mod GoodValue
 pub mod SameDegree
+pub mod Linear
+pub mod LinearLaws

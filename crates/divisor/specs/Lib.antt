@@ -1,5 +1,9 @@
--- Layer 3, the candidate: the rule, the call, and what follows from them.
+-- Layer 3, the candidate: the rule, the call, and what follows from them; the equation table of the code and what it means.
 pub mod Rule
 pub mod Candidate
 pub mod Demands
 pub mod Laws
+pub mod TableModel
+pub mod TableNumbers
+pub mod TableRows
+pub mod TableSteps

@@ -1,0 +1,97 @@
+use mathlib.Core.Path.{_≡_, refl, sym, ap, _∙_}
+use Prim.Native.Nat.{ℕ, _+_, _-_, _<_, _≤_}
+use native.Mathlib.Omega.{arith}
+use lib.ListN.{set}
+use Rattle.divisor.specs.TableModel.{zeros, back}
+use Rattle.divisor.specs.TableSteps.{back-turn, back-end}
+use borrow.Author.Needs.{needs}
+use Rattle.divisor.proofs.table.values_of.Statement.{statement}
+use Rattle.divisor.proofs.table.values_of.Tie as tie
+use Rattle.divisor.proofs.table.values_of.Reads as reads
+use Rattle.divisor.proofs.table.values_of.Lts as lts
+use Rattle.divisor.proofs.table.value_at.Reads as value-at-reads
+
+abbrev Inv-loop : tie.InvT-loop
+Inv-loop p t last values₀ j₀ values j = (j ≤ last) × (back j p t values ≡ back last p t zeros)
+
+abbrev μ-loop : tie.MeasureT-loop
+μ-loop p t last values₀ j₀ values j = j
+
+-- src/table.rt:158:16
+sub-last : tie.Need-sub-last Inv-loop μ-loop
+sub-last c = search needs
+
+-- src/table.rt:161:5
+loop-holds : tie.Need-loop-holds Inv-loop μ-loop
+loop-holds c = search needs
+
+-- src/table.rt:162:9
+sub-j : tie.Need-sub-j Inv-loop μ-loop
+sub-j c = search needs
+
+-- src/table.rt:163:19
+mul-row : tie.Need-mul-row Inv-loop μ-loop
+mul-row c = search needs
+
+-- src/table.rt:163:19
+element-copy-out-row : tie.Need-element-copy-out-row Inv-loop μ-loop
+element-copy-out-row c = search needs
+
+-- src/table.rt:164:21
+value-at-requires : tie.Need-value-at-requires Inv-loop μ-loop
+value-at-requires c κs =
+    let at = c .before .before in
+    let t = at .before .args .t1 in
+    record {
+      listed = at .before .pre .listed;
+      below = at .before .pre .below (at .loop .j - 1) (t .columns - 1);
+      within = omega arith;
+      most = omega (arith, at .before .pre .columns .some);
+    }
+
+-- src/table.rt:164:9
+mul-values : tie.Need-mul-values Inv-loop μ-loop
+mul-values c = search needs
+
+-- src/table.rt:164:9
+array-write-values : tie.Need-array-write-values Inv-loop μ-loop
+array-write-values c = search needs
+
+-- src/table.rt:161:5
+loop-less : tie.Need-loop-less Inv-loop μ-loop
+loop-less c = search needs
+
+-- src/table.rt:161:5
+loop-again : tie.Need-loop-again Inv-loop μ-loop
+loop-again c =
+    let at = c .before .before .before in
+    let a = at .before .args in (
+      search needs,
+      ap (λ v. back (at .loop .j - 1) (a .p) (a .t1) (set (at .loop .values) (at .loop .j - 1) v)) (c .value-at .ensures)
+          ∙ sym (back-turn (a .p) (a .t1) (at .loop .values) (at .loop .j) (c .before .before .loop-test .taken)) ∙ at .loop .inv .1,
+    )
+
+-- src/table.rt:154:1
+returns : tie.Need-returns Inv-loop μ-loop
+returns c =
+    let at = c .before in
+    let a = at .before .args in
+    sym (back-end (a .p) (a .t1) (at .loop .values) (at .loop .j) (c .loop-test .left)) ∙ at .loop .inv .1
+
+pub values-of-spec : {M : Type 1} → statement M
+values-of-spec =
+    tie.close
+    (tie.spec
+    Inv-loop
+    μ-loop
+    sub-last
+    loop-holds
+    sub-j
+    mul-row
+    element-copy-out-row
+    value-at-requires
+    mul-values
+    array-write-values
+    loop-less
+    loop-again
+    returns)

@@ -1,0 +1,136 @@
+-- The equation table in plain numbers, as the code goes through it, and what its functions ask for. A model, which nobody has to believe: TableMeaning says what it means.
+use mathlib.Core.Path.{_≡_}
+use mathlib.Core.Bool.{true, false}
+use mathlib.Core.List.{List, []}
+use Prim.Native.Nat.{ℕ, zero, suc, _+_, _-_, _*_, _%_, _<_, _≤_}
+use lib.Dec.{eqb}
+use lib.ListN.{length, getD, set, replicate}
+use Rattle.field.specs.Moduli.{Listed}
+use Rattle.field.specs.Fp.{el, inv}
+use Rattle.divisor.specs.declared.table.Row.{Row}
+use Rattle.divisor.specs.declared.table.Table.{Table}
+use Rattle.divisor.specs.declared.table.Kind.{Kind}
+use Rattle.divisor.specs.declared.table.Kind.the-variants.{None, One, Several}
+use Rattle.divisor.specs.declared.table.Solved.{Solved}
+
+abbrev pub no-row : Row
+no-row = record { cells = [] }
+
+abbrev pub cell : Row → ℕ → ℕ
+cell e k = getD (e .cells) k 0
+
+abbrev pub row-at : Table → ℕ → Row
+row-at t j = getD (t .rows) j no-row
+
+abbrev pub diagonal : Table → ℕ → ℕ
+diagonal t j = cell (row-at t j) j
+
+abbrev pub zeros : List ℕ
+zeros = replicate 64 0
+
+abbrev pub empty-table : ℕ → Table
+empty-table columns = record { rows = replicate 64 (record { cells = zeros }); columns = columns }
+
+-- n places from i on, each with what g makes of the place and of what stood there
+unfoldable pub altered : (ℕ → ℕ → ℕ) → ℕ → ℕ → List ℕ → List ℕ
+altered g i zero l = l
+altered g i (suc n) l = altered g (suc i) n (set l i (g i (getD l i 0)))
+
+-- the row e from column j on less so often the row d that cell j becomes 0
+abbrev pub minus : ℕ → Row → Row → ℕ → ℕ → Row
+minus p e d j columns =
+    record { cells = altered (λ k a. (a + (p - cell e j) * cell d k) % p) j (columns - j) (e .cells) }
+
+-- the row e from column j on times the inverse of cell j
+abbrev pub scaled-row : ℕ → Row → ℕ → ℕ → Row
+scaled-row p e j columns =
+    record { cells = altered (λ k a. inv (el p (cell e j)) .val * a % p) j (columns - j) (e .cells) }
+
+abbrev pub kept : ℕ → Table → ℕ → Row → Table
+kept p t j e = record { rows = set (t .rows) j (scaled-row p e j (t .columns)); columns = t .columns }
+
+-- the equation e at the columns from j on, n of them
+unfoldable pub insert : ℕ → ℕ → ℕ → Table → Row → Table
+insert zero j p t e = t
+insert (suc n) j p t e =
+    elim (eqb (cell e j) 0) [
+      | true ↦ insert n (suc j) p t e
+      | false ↦
+          elim (eqb (diagonal t j) 0) [
+            | true ↦ kept p t j e
+            | false ↦ insert n (suc j) p t (minus p e (row-at t j) j (t .columns))
+          ]
+    ]
+
+-- one more equation
+abbrev pub with-row : ℕ → Table → Row → Table
+with-row p t e = insert (t .columns) 0 p t e
+
+-- None, if a row is kept in the last column; else whether a row is kept in each column before it
+unfoldable pub kind-from : ℕ → ℕ → Table → Kind
+kind-from zero j t = One
+kind-from (suc n) j t = elim (eqb (diagonal t j) 0) [ true ↦ Several | false ↦ kind-from n (suc j) t ]
+
+unfoldable pub kind : Table → Kind
+kind t = elim (eqb (diagonal t (t .columns - 1)) 0) [ true ↦ kind-from (t .columns - 1) 0 t | false ↦ None ]
+
+-- a and the row e at the values from column k on, n of them
+unfoldable pub total : ℕ → ℕ → ℕ → Row → List ℕ → ℕ → ℕ
+total zero k p e values a = a
+total (suc n) k p e values a = total n (suc k) p e values ((a + cell e k * getD values k 0) % p)
+
+-- what the row e, kept in column j, leaves for the unknown of that column
+abbrev pub value : ℕ → Row → List ℕ → ℕ → ℕ → ℕ
+value p e values j last = (p - total (last - (j + 1)) (j + 1) p e values (cell e last)) % p
+
+-- the unknowns before j, the last one first
+unfoldable pub back : ℕ → ℕ → Table → List ℕ → List ℕ
+back zero p t values = values
+back (suc j) p t values = back j p t (set values j (value p (row-at t j) values j (t .columns - 1)))
+
+abbrev pub values : ℕ → Table → List ℕ
+values p t = back (t .columns - 1) p t zeros
+
+abbrev pub solved-as : Kind → ℕ → Table → Solved
+solved-as None p t = record { kind = None; values = zeros }
+solved-as One p t = record { kind = One; values = values p t }
+solved-as Several p t = record { kind = Several; values = zeros }
+
+abbrev pub solved : ℕ → Table → Solved
+solved p t = solved-as (kind t) p t
+
+-- at most 63 unknowns, and the last column
+pub record Columns (n : ℕ) : Type 0 where
+  pub some : 0 < n
+  pub most : n ≤ 64
+
+-- an equation's row of numbers below p
+pub record RowReady (p : ℕ) (e : Row) : Type 0 where
+  pub size : length (e .cells) ≡ 64
+  pub below : (k : ℕ) → cell e k < p
+
+pub record TableReady (p : ℕ) (t : Table) : Type 0 where
+  pub listed : Listed p
+  pub columns : Columns (t .columns)
+  pub size : length (t .rows) ≡ 64
+  pub below : (i k : ℕ) → cell (row-at t i) k < p
+
+-- what a step asks for
+pub record Ready (p : ℕ) (t : Table) (e : Row) : Type 0 where
+  pub table : TableReady p t
+  pub row : RowReady p e
+
+-- what work on a row at a column asks for
+pub record Column (p : ℕ) (e : Row) (j columns : ℕ) : Type 0 where
+  pub listed : Listed p
+  pub below : cell e j < p
+  pub nonzero : 0 < cell e j
+  pub within : j < columns
+  pub most : columns ≤ 64
+
+-- what the value of an unknown asks for
+pub record Back (p : ℕ) (e : Row) (j last : ℕ) : Type 0 where
+  pub listed : Listed p
+  pub below : cell e last < p
+  pub within : j < last
+  pub most : last < 64

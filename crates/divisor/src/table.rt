@@ -1,0 +1,189 @@
+// The equation table: at most 63 unknowns and a last one that is fixed at 1, so 64 columns. A row that is kept stands at the index of its pivot column,
+// where its cell is 1; where no row is kept the cell on the diagonal is 0. A row kept in the last column says 1 = 0: there is no solution.
+ghost use mathlib.Core.Path.{_≡_};
+ghost use Rattle.divisor.specs.TableModel.{Columns, Column, Back, TableReady, Ready, empty-table, minus, scaled-row, with-row, kind, value, values, solved};
+use field::Element;
+use field::Number;
+
+pub struct Row {
+    pub cells: [Number; 64],
+}
+
+// `columns` is one more than the number of unknowns.
+pub struct Table {
+    pub rows: [Row; 64],
+    pub columns: usize,
+}
+
+pub enum Kind {
+    None,
+    One,
+    Several,
+}
+
+// The values of the unknowns where there is one solution, and zeros behind them; zeros otherwise.
+pub struct Solved {
+    pub kind: Kind,
+    pub values: [Number; 64],
+}
+
+impl Table {
+    pub fn empty(columns: usize) -> Table
+        ensures { λ r. ⌜ r ≡ empty-table columns ⌝ }
+    {
+        let row = Row { cells: [0; 64] };
+        Table {
+            rows: [row; 64],
+            columns,
+        }
+    }
+}
+
+// The row less the multiple of the pivot's row that makes its cell in column j 0. Before column j both have zeros.
+fn subtract(row: Row, pivot: Row, j: usize, columns: usize, p: Number) -> Row
+    requires { ⌜ Column p row j columns ⌝ }
+    ensures { λ r. ⌜ r ≡ minus p row pivot j columns ⌝ }
+{
+    let mut r = row;
+    let factor = p - r.cells[j];
+    let mut i = j;
+    while i < columns {
+        r.cells[i] = field::plus_times(p, r.cells[i], factor, pivot.cells[i]);
+        i += 1;
+    }
+    r
+}
+
+// The row times the inverse of its cell in column j, which becomes 1.
+fn scaled(row: Row, j: usize, columns: usize, p: Number) -> Row
+    requires { ⌜ Column p row j columns ⌝ }
+    ensures { λ r. ⌜ r ≡ scaled-row p row j columns ⌝ }
+{
+    let mut r = row;
+    let first = Element {
+        modulus: p,
+        value: r.cells[j],
+    };
+    let inverse = first.inverse();
+    let factor = inverse.value;
+    let mut i = j;
+    while i < columns {
+        r.cells[i] = field::times(p, factor, r.cells[i]);
+        i += 1;
+    }
+    r
+}
+
+// One more equation: column after column the kept row is taken off, and the equation is kept in the first column where none is and its cell is not 0.
+pub fn with_equation(t: Table, e: Row, p: Number) -> Table
+    requires { ⌜ Ready p t e ⌝ }
+    ensures { λ r. ⌜ r ≡ with-row p t e ⌝ }
+{
+    let columns = t.columns;
+    let mut row = e;
+    let mut j: usize = 0;
+    while j < columns {
+        if row.cells[j] != 0 {
+            let pivot = t.rows[j];
+            if pivot.cells[j] == 0 {
+                let mut s = t;
+                s.rows[j] = scaled(row, j, columns, p);
+                return s;
+            }
+            row = subtract(row, pivot, j, columns, p);
+        }
+        j += 1;
+    }
+    t
+}
+
+// The same on a table that is lent.
+pub fn add_equation(t: &mut Table, e: Row, p: Number)
+    requires { ⌜ Ready p (now t) e ⌝ }
+    ensures { λ _. ⌜ now (t .exit) ≡ with-row p (now (t .entry)) e ⌝ }
+{
+    let next = with_equation(*t, e, p);
+    *t = next;
+}
+
+// The lender: by value outside, lent inside, so that a loop over equations carries the table by value.
+pub fn with_added(t: Table, e: Row, p: Number) -> Table
+    requires { ⌜ Ready p t e ⌝ }
+    ensures { λ r. ⌜ r ≡ with-row p t e ⌝ }
+{
+    let mut s = t;
+    add_equation(&mut s, e, p);
+    s
+}
+
+fn kind_of(t: Table) -> Kind
+    requires { ⌜ Columns (t .columns) ⌝ }
+    ensures { λ r. ⌜ r ≡ kind t ⌝ }
+{
+    let last = t.columns - 1;
+    let end = t.rows[last];
+    if end.cells[last] != 0 {
+        return Kind::None;
+    }
+    let mut j: usize = 0;
+    while j < last {
+        let row = t.rows[j];
+        if row.cells[j] == 0 {
+            return Kind::Several;
+        }
+        j += 1;
+    }
+    Kind::One
+}
+
+// The unknown of column j, by its row, from the values of those behind it; the last one is 1.
+fn value_at(row: Row, values: [Number; 64], j: usize, last: usize, p: Number) -> Number
+    requires { ⌜ Back p row j last ⌝ }
+    ensures { λ r. ⌜ r ≡ value p row values j last ⌝ }
+{
+    let mut sum = row.cells[last];
+    let mut k = j + 1;
+    while k < last {
+        sum = field::plus_times(p, sum, row.cells[k], values[k]);
+        k += 1;
+    }
+    (p - sum) % p
+}
+
+// Back substitution, from the last unknown to the first.
+fn values_of(t: Table, p: Number) -> [Number; 64]
+    requires { ⌜ TableReady p t ⌝ }
+    ensures { λ r. ⌜ r ≡ values p t ⌝ }
+{
+    let last = t.columns - 1;
+    let mut values: [Number; 64] = [0; 64];
+    let mut j = last;
+    while j > 0 {
+        j -= 1;
+        let row = t.rows[j];
+        values[j] = value_at(row, values, j, last, p);
+    }
+    values
+}
+
+pub fn solution(t: Table, p: Number) -> Solved
+    requires { ⌜ TableReady p t ⌝ }
+    ensures { λ r. ⌜ r ≡ solved p t ⌝ }
+{
+    let kind = kind_of(t);
+    let zeros: [Number; 64] = [0; 64];
+    match kind {
+        Kind::None => Solved {
+            kind: Kind::None,
+            values: zeros,
+        },
+        Kind::Several => Solved {
+            kind: Kind::Several,
+            values: zeros,
+        },
+        Kind::One => Solved {
+            kind: Kind::One,
+            values: values_of(t, p),
+        },
+    }
+}
