@@ -7,3 +7,5 @@ pub mod Proposed
 pub mod Complete
 pub mod Output
 pub mod Demands
+pub mod Equations
+pub mod Solutions

@@ -2,6 +2,7 @@
 pub mod Rule
 pub mod Candidate
 pub mod Demands
+pub mod Models
 pub mod Laws
 pub mod TableModel
 pub mod TableNumbers
