@@ -1,6 +1,6 @@
 -- The tables of the arithmetic services are decided by computed checks, and the inverse of the field computes: examples. Assumes nothing.
 use mathlib.Core.Path.{_≡_, refl}
-use Prim.Native.Nat.{ℕ, _*_, _%_}
+use Prim.Native.Nat.{_*_, _%_}
 use native.Mathlib.Decide.{decLt, ℕ-discrete}
 use Rattle.field.specs.Fp.{el, mul, neg, chase, inv}
 use Rattle.field.specs.Moduli.{listed}

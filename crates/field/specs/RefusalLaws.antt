@@ -1,16 +1,16 @@
 -- Laws of tables of refusals: a table gives one fault at most, and does not both pass and refuse; a table may be tested part by part.
 -- Assumes nothing.
 use mathlib.Core.Path.{_≡_, refl, sym, _∙_, ap}
-use mathlib.Core.Logic.{_⊎_, inl, inr}
-use mathlib.Core.Bool.{Bool, true, false, _&&_}
+use mathlib.Core.Logic.{inl, inr}
+use mathlib.Core.Bool.{Bool, true, _&&_}
 use mathlib.Core.List.{List, [], _∷_, _++_}
-use Prim.Native.Nat.{ℕ, _<_}
+use Prim.Native.Nat.{ℕ}
 use native.Mathlib.Decide.{decLt}
 use native.Mathlib.Omega.{arith}
 use lib.Dec.{T, ltb, ltb→lt}
 use mir.Facts.{and-yes}
 use Rattle.field.specs.declared.Fault.{Fault}
-use Rattle.field.specs.Refusal.{Line, line, placed, whole, first, fault, none, Refuses, Passes, Tested, refused, passed}
+use Rattle.field.specs.Refusal.{Line, placed, whole, first, fault, none, Refuses, Passes, Tested, refused, passed}
 
 -- a line has one place
 abbrev pub OnePlace : Line → Type 0
