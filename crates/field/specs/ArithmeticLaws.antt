@@ -1,5 +1,5 @@
 -- The promises of the arithmetic services settle their answers, and what is known where no line applies. Assumes nothing.
-use mathlib.Core.Path.{_≡_, refl, sym, ap, _∙_}
+use mathlib.Core.Path.{_≡_, sym, ap, _∙_}
 use mathlib.Core.Logic.{inl, inr}
 use mathlib.Core.List.{List}
 use Prim.Native.Nat.{ℕ, _*_, _%_, _≤_, _<_}
@@ -11,7 +11,7 @@ use Rattle.field.specs.Fp.{el}
 use Rattle.field.specs.FpLaws.{el-below-inj}
 use Rattle.field.specs.InverseLaws.{inverse-unique}
 use Rattle.field.specs.Link.{inverse-mul}
-use Rattle.field.specs.Refusal.{Line, none, Refuses, Passes, Tested}
+use Rattle.field.specs.Refusal.{Line, none, Passes, Tested}
 use Rattle.field.specs.RefusalLaws.{OnePlaceEach, placed-one-place, whole-one-place, never-placed, refuses-determined, not-passes-and-refuses, numbered, tested-passes, tested-refuses}
 use Rattle.field.specs.Contract.{element, Fit, Invertible, sum-of, difference-of, product-of, Inverse}
 use Rattle.field.specs.Arithmetic.{two-operands, inverse-operand, Arithmetic, refused, answered, AskSum, AskDifference, AskProduct, AskInverse}

@@ -4,23 +4,7 @@ use mathlib.Core.HLevel.{hedberg, isProp→PathP}
 use Prim.Native.Nat.{ℕ, _+_, _*_, _-_, _/_, _%_, _<_}
 use native.Mathlib.Decide.{ℕ-discrete}
 use native.Mathlib.Omega.{arith}
-use native.Mathlib.Nat.{
-  add-assoc,
-  add-comm,
-  add-mod-mod,
-  add-mul,
-  add-zero,
-  div-add-mod,
-  mod-add-mod,
-  mod-eq-of-lt,
-  mod-lt,
-  mod-mod,
-  mod-self,
-  mul-assoc,
-  mul-comm,
-  mul-one,
-  zero-mod,
-}
+use native.Mathlib.Nat.{add-assoc, add-comm, add-mod-mod, add-mul, add-zero, div-add-mod, mod-add-mod, mod-eq-of-lt, mod-lt, mod-mod, mod-self, mul-assoc, mul-comm, mul-one, zero-mod}
 use Rattle.field.specs.Fp.{Fp, el, add, mul, neg}
 use Rattle.field.specs.RemainderLaws.{mod-mul-mod, mul-mod-mod}
 

@@ -6,7 +6,7 @@ use Prim.Native.Nat.{ℕ, _<_}
 use native.Mathlib.Omega.{arith}
 use lib.Dec.{T, eqb, ltb, eqb→eq, ltb→lt}
 use Rattle.field.specs.Prime.{Prime}
-use Rattle.field.specs.PrimeLaws.{isPrime, prime}
+use Rattle.field.specs.PrimeLaws.{prime-test, test-prime}
 use Rattle.field.specs.Moduli.{moduli, among, listed, Listed}
 
 abbrev pub every : (ℕ → Bool) → List ℕ → Bool
@@ -32,7 +32,7 @@ unfolding listed
 listed-every f t p h = among-every f moduli t p (subst T (sym h) tt)
 
 pub listed-prime : {p : ℕ} → Listed p → Prime p
-listed-prime {p} h = prime p (listed-every isPrime tt p h)
+listed-prime {p} h = test-prime p (listed-every prime-test tt p h)
 
 pub listed-above : {p : ℕ} → Listed p → 1 < p
 listed-above h = listed-prime h .above

@@ -218,10 +218,8 @@ fn two_operands_fault(a: Element, b: Element) -> Fault
     if fault.number != 0 {
         return fault;
     }
-    if b.value >= a.modulus {
-        return Fault::at(Fault::OPERAND, 1);
-    }
-    if b.modulus != a.modulus {
+    let fits = (b.value < a.modulus) & (b.modulus == a.modulus);
+    if !fits {
         return Fault::at(Fault::OPERAND, 1);
     }
     Fault::none()
