@@ -9,3 +9,4 @@ pub mod Output
 pub mod Demands
 pub mod Equations
 pub mod Solutions
+pub mod Sorting

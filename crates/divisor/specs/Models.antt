@@ -1,2 +1,3 @@
 -- Models: what the code computes, step by step. Nobody has to believe a model: its laws carry it to the definitions.
 pub mod Rows
+pub mod Sorting
