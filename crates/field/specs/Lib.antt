@@ -13,7 +13,6 @@ pub mod Modulo
 pub mod Numbers
 pub mod Refusal
 pub mod RefusalLaws
-pub mod ElLaws
 pub mod RefusalDecision
 pub mod Contract
 pub mod Link

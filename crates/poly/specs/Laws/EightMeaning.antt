@@ -16,14 +16,14 @@ use Rattle.algebra.specs.Mono.{mono, mono-low, mono-high, mono-ends}
 use Rattle.algebra.specs.GreatestCommon.{GreatestCommon, Associate, greatest-swap, greatest-zero, greatest-first, greatest-second}
 use Rattle.algebra.specs.Univariate.{Monic, Poly, PolyD, less, greatest-less, over-lead, over-lead-associate}
 use Rattle.field.specs.Fp.{Fp, el, add, mul, neg}
-use Rattle.field.specs.FpLaws.{Fp-path, el-val, el-mod, el-inj, el-add, el-mul, el-neg, val-lt, val-of-el, val-el}
+use Rattle.field.specs.FpLaws.{Fp-path, el-val, el-mod, el-inj, el-add, el-mul, el-neg, val-lt, val-of-el, val-el, el-nonzero}
 use Rattle.field.specs.Prime.{Prime}
 use Rattle.field.specs.Fp.{inv}
 use Rattle.field.specs.InverseLaws.{mul-inv}
 use Rattle.field.specs.PrimeLaws.{prime-positive}
 use Rattle.field.specs.Residues.{Residues}
 use Rattle.field.specs.Modulo.{Modulo}
-use Rattle.field.specs.ElLaws.{el-nonzero}
+use Rattle.field.specs.Link.{minus-times-el}
 use Rattle.poly.specs.Coefficients.{Eight, series}
 use Rattle.poly.specs.Models.Cells.{cells, cells-length, cells-at, cells-past, past-end}
 use Rattle.poly.specs.Models.Eight.{size-to, size, scaled, monic, less-at, subtract, remainder, euclid, gcd}
@@ -47,14 +47,6 @@ module _ {p : ℕ} (P : Prime p) where
   abbrev ring : CommRing
   ring = Residues p (prime-positive P)
 
-  el-less : (c x y : ℕ) → c < p → el p ((x + (p - c) * y) % p) ≡ add (el p x) (neg (mul (el p c) (el p y)))
-  el-less c x y l =
-      el-mod p _ ∙ el-add p x ((p - c) * y)
-      ∙ ap (add (el p x))
-      (el-mul p (p - c) y
-      ∙ ap (λ (u : Fp p). mul u (el p y)) (ap (λ (n : ℕ). el p (p - n)) (sym (mod-eq-of-lt l)) ∙ el-neg p c)
-      ∙ neg-mul ring (el p c) (el p y))
-
   -- a step of the model is a step of the mathematics
   pub subtract-series : (c k n : ℕ) (f g : List ℕ) → c < p → Eight p f → Clear n g → k + n ≤ 8
       → series p (subtract p c k f g) ≡ less (Modulo p P) k (el p c) (series p f) (series p g)
@@ -75,7 +67,7 @@ module _ {p : ℕ} (P : Prime p) where
               | no a ↦
                   let e : k + (i - k) ≡ i = omega arith in
                   ap (el p) (cells-at (less-at p c k f g) 8 i b ∙ less-high p (prime-positive P) c k f g i (omega arith))
-                  ∙ el-less c (getD f i 0) (getD g (i - k) 0) l
+                  ∙ minus-times-el p (getD f i 0) c (getD g (i - k) 0) (prime-positive P) (omega arith)
                   ∙ ap (λ (u : Fp p). add (series p f i) (neg u))
                   (sym (mono-high ring k (el p c) (series p g) (i - k)) ∙ ap (conv ring (mono ring k (el p c)) (series p g)) e)
             ]
