@@ -10,3 +10,4 @@ pub mod Demands
 pub mod Equations
 pub mod Solutions
 pub mod Sorting
+pub mod MonicTerms

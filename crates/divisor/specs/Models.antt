@@ -1,3 +1,4 @@
 -- Models: what the code computes, step by step. Nobody has to believe a model: its laws carry it to the definitions.
 pub mod Rows
 pub mod Sorting
+pub mod Monic

@@ -1,0 +1,143 @@
+-- The numbers that the code makes of a solution are the terms of its divisor. Assumes nothing.
+use mathlib.Core.Path.{_≡_, refl, sym, _∙_, ap, ap₂, subst}
+use mathlib.Core.Bool.{Bool, true, false}
+use mathlib.Core.List.{List, [], _∷_, map}
+use Prim.Native.Nat.{ℕ, suc, _+_, _*_, _%_, _<_}
+use native.Mathlib.Decide.{ℕ-discrete}
+use native.Mathlib.Nat.{mod-mod}
+use native.Mathlib.Omega.{arith}
+use lib.Dec.{eqb}
+use lib.ListN.{length}
+use borrow.Author.Tests.{eq-eqb, ne-eqb}
+use Rattle.algebra.specs.Ring.{CommRing}
+use Rattle.algebra.specs.Monomial.{Term}
+use Rattle.algebra.specs.Field.{Field}
+use Rattle.field.specs.Prime.{Prime}
+use Rattle.field.specs.Fp.{Fp, el, inv, mul}
+use Rattle.field.specs.FpLaws.{el-nonzero, el-val, val-of-el}
+use Rattle.field.specs.Link.{product-el}
+use Rattle.field.specs.Modulo.{Modulo}
+use Rattle.poly.specs.Keys.{key, exponents}
+use Rattle.poly.specs.Terms.{Polynomial, numbers-of}
+use Rattle.poly.specs.Laws.Keys.{key-of-exponents}
+use Rattle.divisor.specs.Rule.{without-zeros, divided-by, made-monic}
+use Rattle.divisor.specs.Models.Monic.{leading, scaled-terms, monic-terms}
+use Rattle.divisor.specs.Laws.Equations.{with-coefficients}
+
+-- each number is below p
+abbrev pub AllBelow : ℕ → List ℕ → Type 0
+AllBelow p [] = Unit {0}
+AllBelow p (c ∷ cs) = (c < p) × AllBelow p cs
+
+leading-zero : (c : ℕ) (cs : List ℕ) → c ≡ 0 → leading (c ∷ cs) ≡ leading cs
+unfolding leading
+leading-zero c cs e = rw (eq-eqb c 0 e, leading)
+
+leading-here : (c : ℕ) (cs : List ℕ) → ¬ (c ≡ 0) → leading (c ∷ cs) ≡ c
+unfolding leading
+leading-here c cs n = rw (ne-eqb c 0 n, leading)
+
+scaled-zero : (p f k c : ℕ) (ks cs : List ℕ) → c ≡ 0 → scaled-terms p f (k ∷ ks) (c ∷ cs) ≡ scaled-terms p f ks cs
+unfolding scaled-terms
+scaled-zero p f k c ks cs e = rw (eq-eqb c 0 e, scaled-terms)
+
+scaled-here : (p f k c : ℕ) (ks cs : List ℕ) → ¬ (c ≡ 0) → scaled-terms p f (k ∷ ks) (c ∷ cs) ≡ (k * 65536 + (c * f) % p) ∷ scaled-terms p f ks cs
+unfolding scaled-terms
+scaled-here p f k c ks cs n = rw (ne-eqb c 0 n, scaled-terms)
+
+module _ (p : ℕ) (P : Prime p) where
+  abbrev K : Field
+  K = Modulo p P
+
+  abbrev R : CommRing
+  R = K .ring
+
+  -- the skeleton polynomial whose coefficients are these numbers
+  abbrev pub skeleton-of : List ℕ → List ℕ → Polynomial (Modulo p P)
+  skeleton-of ks cs = with-coefficients (Modulo p P) (map exponents ks) (map (el p) cs)
+
+  module _ (k : ℕ) (ks : List ℕ) (c : ℕ) (cs : List ℕ) where
+    abbrev first-term : Term R
+    first-term = record { exponents = exponents k; coefficient = el p c }
+
+    without-zero : c ≡ 0 → without-zeros K (skeleton-of (k ∷ ks) (c ∷ cs)) ≡ without-zeros K (skeleton-of ks cs)
+    unfolding without-zeros
+    without-zero e = go (K .decide (el p c))
+      where
+        go : (t : Dec (el p c ≡ el p 0)) → _≡_ {A = Polynomial K} (elim t [ yes q ↦ without-zeros K (skeleton-of ks cs) | no n ↦ first-term ∷ without-zeros K (skeleton-of ks cs) ]) (without-zeros K (skeleton-of ks cs))
+        go (yes q) = refl
+        go (no n) = absurd (n (ap (el p) e))
+
+    with-first : c < p → ¬ (c ≡ 0) → without-zeros K (skeleton-of (k ∷ ks) (c ∷ cs)) ≡ first-term ∷ without-zeros K (skeleton-of ks cs)
+    unfolding without-zeros
+    with-first l n = go (K .decide (el p c))
+      where
+        go : (t : Dec (el p c ≡ el p 0)) → _≡_ {A = Polynomial K} (elim t [ yes q ↦ without-zeros K (skeleton-of ks cs) | no n ↦ first-term ∷ without-zeros K (skeleton-of ks cs) ]) (first-term ∷ without-zeros K (skeleton-of ks cs))
+        go (yes q) = absurd (el-nonzero p c l n q)
+        go (no m) = refl
+
+  number-divided : (k c : ℕ) (u : Fp p) → key (exponents k) * 65536 + mul (el p c) u .val ≡ k * 65536 + (c * u .val) % p
+  number-divided k c u = ap₂ (λ (a b : ℕ). a * 65536 + b) (key-of-exponents k)
+      (ap (λ (x : Fp p). mul (el p c) x .val) (sym (el-val u)) ∙ ap (λ (x : Fp p). x .val) (sym (product-el p c (u .val))) ∙ val-of-el p ((c * u .val) % p) ∙ again)
+    where
+      again : (c * u .val) % p % p ≡ (c * u .val) % p
+      again = mod-mod (c * u .val) p
+
+  -- zeros dropped and all divided by a number
+  divided-numbers : (a : Fp p) (ks cs : List ℕ) → length cs ≡ length ks → AllBelow p cs
+      → numbers-of p P (divided-by K a (without-zeros K (skeleton-of ks cs))) ≡ scaled-terms p (inv a .val) ks cs
+  unfolding divided-by
+  divided-numbers a [] [] l h = (unfold without-zeros scaled-terms in refl)
+  divided-numbers a [] (c ∷ cs) l h = absurd (omega arith)
+  divided-numbers a (k ∷ ks) [] l h = absurd (omega arith)
+  divided-numbers a (k ∷ ks) (c ∷ cs) l h = go (ℕ-discrete c 0) (divided-numbers a ks cs (omega arith) (h .1))
+    where
+      go : Dec (c ≡ 0) → numbers-of p P (divided-by K a (without-zeros K (skeleton-of ks cs))) ≡ scaled-terms p (inv a .val) ks cs
+          → numbers-of p P (divided-by K a (without-zeros K (skeleton-of (k ∷ ks) (c ∷ cs)))) ≡ scaled-terms p (inv a .val) (k ∷ ks) (c ∷ cs)
+      go (yes e) r = ap (λ (f : Polynomial K). numbers-of p P (divided-by K a f)) (without-zero k ks c cs e) ∙ r ∙ sym (scaled-zero p (inv a .val) k c ks cs e)
+      go (no n) r = ap (λ (f : Polynomial K). numbers-of p P (divided-by K a f)) (with-first k ks c cs (h .0) n)
+          ∙ ap₂ _∷_ (number-divided k c (inv a)) r ∙ sym (scaled-here p (inv a .val) k c ks cs n)
+
+  -- the first term that is left has the leading coefficient
+  pub data Led (ks cs : List ℕ) : Type 0 where
+    no-term : without-zeros K (skeleton-of ks cs) ≡ [] → leading cs ≡ 0 → Led ks cs
+    first-left : (t : Term (Modulo p P .ring)) (ts : Polynomial (Modulo p P)) → without-zeros K (skeleton-of ks cs) ≡ t ∷ ts
+        → t .coefficient ≡ el p (leading cs) → ¬ (leading cs ≡ 0) → leading cs < p → Led ks cs
+
+  pub led : (ks cs : List ℕ) → length cs ≡ length ks → AllBelow p cs → Led ks cs
+  led [] [] l h = no-term (unfold without-zeros in refl) (unfold leading in refl)
+  led [] (c ∷ cs) l h = absurd (omega arith)
+  led (k ∷ ks) [] l h = absurd (omega arith)
+  led (k ∷ ks) (c ∷ cs) l h = go (ℕ-discrete c 0) (led ks cs (omega arith) (h .1))
+    where
+      go : Dec (c ≡ 0) → Led ks cs → Led (k ∷ ks) (c ∷ cs)
+      go (yes e) (no-term w z) = no-term (without-zero k ks c cs e ∙ w) (leading-zero c cs e ∙ z)
+      go (yes e) (first-left t ts w q n b) =
+          first-left t ts (without-zero k ks c cs e ∙ w) (q ∙ ap (el p) (sym (leading-zero c cs e))) (λ z. n (sym (leading-zero c cs e) ∙ z))
+          (subst (λ (m : ℕ). m < p) (sym (leading-zero c cs e)) b)
+      go (no n) r = first-left (first-term k ks c cs) (without-zeros K (skeleton-of ks cs)) (with-first k ks c cs (h .0) n)
+          (ap (el p) (sym (leading-here c cs n))) (λ z. n (sym (leading-here c cs n) ∙ z)) (subst (λ (m : ℕ). m < p) (sym (leading-here c cs n)) (h .0))
+
+  monic-none : made-monic K [] ≡ []
+  unfolding made-monic
+  monic-none = refl
+
+  divided-none : (a : Fp p) → divided-by K a [] ≡ []
+  unfolding divided-by
+  divided-none a = refl
+
+  monic-first : (t : Term R) (ts : Polynomial K) → made-monic K (t ∷ ts) ≡ divided-by K (t .coefficient) (t ∷ ts)
+  unfolding made-monic
+  monic-first t ts = refl
+
+  -- the numbers of the divisor
+  pub divisor-numbers : (ks cs : List ℕ) → length cs ≡ length ks → AllBelow p cs
+      → numbers-of p P (made-monic K (without-zeros K (skeleton-of ks cs))) ≡ monic-terms p ks cs
+  divisor-numbers ks cs l h = go (led ks cs l h) (divided-numbers (el p (leading cs)) ks cs l h)
+    where
+      go : Led ks cs → numbers-of p P (divided-by K (el p (leading cs)) (without-zeros K (skeleton-of ks cs))) ≡ monic-terms p ks cs
+          → numbers-of p P (made-monic K (without-zeros K (skeleton-of ks cs))) ≡ monic-terms p ks cs
+      go (no-term w z) r =
+          ap (numbers-of p P) (ap (made-monic K) w ∙ monic-none ∙ sym (ap (divided-by K (el p (leading cs))) w ∙ divided-none (el p (leading cs)))) ∙ r
+      go (first-left t ts w q n b) r =
+          ap (numbers-of p P) (ap (made-monic K) w ∙ monic-first t ts ∙ ap (λ (a : Fp p). divided-by K a (t ∷ ts)) q ∙ ap (divided-by K (el p (leading cs))) (sym w)) ∙ r
