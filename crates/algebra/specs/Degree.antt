@@ -1,12 +1,12 @@
 -- Degrees: where a series ends, its top, the top of a product; finite series over a ring without zero divisors are such a ring again.
 use mathlib.Core.Path.{_≡_, refl, sym, _∙_, ap, ap₂, fun-ext}
 use mathlib.Core.Logic.{_⊎_, inl, inr}
-use Prim.Native.Nat.{ℕ, zero, suc, _+_ as _+ₙ_, _≤_, _<_}
+use Prim.Native.Nat.{ℕ, zero, suc, _+_ as _+ₙ_, _≤_}
 use native.Mathlib.Nat.{suc-add, zero-add as zero-addₙ}
 use native.Mathlib.Decide.{ℕ-discrete}
 use native.Mathlib.Omega.{arith}
-use Rattle.algebra.specs.Ring.{CommRing, add-left-comm, mul-left-comm, zero-add, zero-mul, mul-zero, one-mul, distrib-l, neg-zero}
-use Rattle.algebra.specs.Series.{Seq, tail, addS, negS, zeroS, scale, constS, conv, SeriesR}
+use Rattle.algebra.specs.Ring.{CommRing, zero-add, zero-mul, mul-zero, neg-zero}
+use Rattle.algebra.specs.Series.{Seq, tail, zeroS, constS, conv, SeriesR}
 
 abbrev pub Ends : (R : CommRing) → ℕ → Seq R → Type 0
 Ends R N f = (n : ℕ) → N ≤ n → f n ≡ R .𝟘

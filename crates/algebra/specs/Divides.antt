@@ -1,15 +1,14 @@
 -- Divisibility between finite elements: g divides f if a finite q, of whatever bound, has g q = f. A divisor's degree is at most the degree.
-use mathlib.Core.Path.{_≡_, refl, sym, _∙_, ap, ap₂, fun-ext, subst}
+use mathlib.Core.Path.{_≡_, sym, _∙_, ap, ap₂, subst}
 use mathlib.Core.Logic.{_⊎_, inl, inr}
-use Prim.Native.Nat.{ℕ, zero, suc, _+_ as _+ₙ_, _-_ as _-ₙ_, _≤_, _<_}
-use native.Mathlib.Decide.{ℕ-discrete, decLe}
+use Prim.Native.Nat.{ℕ, zero, suc, _+_ as _+ₙ_, _≤_}
+use native.Mathlib.Decide.{decLe}
 use native.Mathlib.Omega.{arith}
-use Rattle.algebra.specs.Ring.{CommRing, add-left-comm, mul-left-comm, zero-add, zero-mul, mul-zero, one-mul, distrib-l, neg-zero, neg-unique}
-use Rattle.algebra.specs.Solver.{_⊕_, _⊗_, _⊖_, ⊝, _≗_, k0, k1, ring1, ring2, ring3, ring4, ring5, ring6}
-use Rattle.algebra.specs.Series.{Seq, tail, addS, negS, zeroS, scale, constS, conv, conv-const, conv-comm, SeriesR}
-use Rattle.algebra.specs.Degree.{Ends, Top, Domain, Finite, SeriesD, Ends-weaken, conv-null, conv-ends, top-mul, finite-top, const-ends, const-P}
-use Rattle.algebra.specs.Maps.{Hom, const-mul}
-use Rattle.algebra.specs.Mono.{mono, mono-high, mono-ends}
+use Rattle.algebra.specs.Ring.{CommRing, mul-left-comm, zero-add, mul-zero, distrib-l}
+use Rattle.algebra.specs.Solver.{_⊕_, _⊗_, _⊖_, _≗_, ring2, ring3}
+use Rattle.algebra.specs.Series.{Seq, constS, conv, conv-const, conv-comm, SeriesR}
+use Rattle.algebra.specs.Degree.{Top, Domain, Finite, SeriesD, conv-null, top-mul, finite-top, const-ends, const-P}
+use Rattle.algebra.specs.Mono.{mono, mono-ends}
 
 pub record Div (R : CommRing) (D : Domain R) (e f : R .Car) : Type 0 where
   pub quo : R .Car

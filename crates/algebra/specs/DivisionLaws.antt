@@ -2,18 +2,18 @@
 use mathlib.Core.Path.{_≡_, refl, sym, _∙_, ap, ap₂, subst}
 use mathlib.Core.Logic.{_⊎_, inl, inr, _↔_}
 use mathlib.Core.Bool.{Bool, true, false}
-use mathlib.Core.List.{List, [], _∷_}
-use Prim.Native.Nat.{ℕ, zero, suc, _+_ as _+ₙ_, _≤_, _<_}
+use mathlib.Core.List.{List, _∷_}
+use Prim.Native.Nat.{ℕ, _+_ as _+ₙ_, _≤_, _<_}
 use native.Mathlib.Decide.{decLe}
 use native.Mathlib.Omega.{arith}
-use Rattle.algebra.specs.Ring.{CommRing, zero-mul, mul-zero, neg-zero}
-use Rattle.algebra.specs.Solver.{_⊕_, _⊗_, _⊖_, ⊝, _≗_, k0, k1, ring2, ring3, ring4}
+use Rattle.algebra.specs.Ring.{CommRing, zero-mul}
+use Rattle.algebra.specs.Solver.{_⊕_, _⊗_, _⊖_, _≗_, ring2, ring3}
 use Rattle.algebra.specs.Series.{S4}
 use Rattle.algebra.specs.Degree.{Domain}
 use Rattle.algebra.specs.Divides.{Div, cancel}
-use Rattle.algebra.specs.Four.{Exponents, _⊞_, _≼_, _≺_, compare, below-irreflexive, below-cancel, exponents-cancel, exponents-path, coef, D4}
+use Rattle.algebra.specs.Four.{Exponents, _⊞_, _≼_, _≺_, compare, below-cancel, exponents-cancel, exponents-path, coef, D4}
 use Rattle.algebra.specs.Lead.{Lead, Upto, lead-unique, lead-of-product, lead-exists, lead-nonzero, coef-of-product, upto-of-product}
-use Rattle.algebra.specs.GreatestExponent.{Variable, in-x, in-y, in-z, in-w, exponent, GreatestExponent, greatest-unique, factor-within}
+use Rattle.algebra.specs.GreatestExponent.{Variable, in-x, in-y, in-z, in-w, exponent, greatest-unique, factor-within}
 use Rattle.algebra.specs.Monomial.{Term, term, polynomial, monomial, monomial-at, monomial-off, monomial-above, monomial-fin, polynomial-fin, FallsBelow, Falls}
 use Rattle.algebra.specs.Division.{Most, Sizes, Over, Goes, done, stop, step, Division}
 

@@ -1,12 +1,12 @@
 -- Homomorphisms that keep the finite elements: coefficientwise maps and swaps of variables.
-use mathlib.Core.Path.{_≡_, refl, sym, _∙_, ap, ap₂, fun-ext, subst}
+use mathlib.Core.Path.{sym, _∙_, ap, fun-ext, subst}
 use Prim.Native.Nat.{ℕ, zero, suc, _+_ as _+ₙ_, _≤_, _<_}
 use native.Mathlib.Decide.{ℕ-discrete, decLe}
 use native.Mathlib.Omega.{arith}
 use Rattle.algebra.specs.Ring.{CommRing}
-use Rattle.algebra.specs.Series.{Seq, tail, addS, negS, zeroS, scale, constS, conv, SeriesR, S4}
-use Rattle.algebra.specs.Degree.{Ends, Top, Domain, Finite, SeriesD}
-use Rattle.algebra.specs.Maps.{Hom, SeriesH, mapS, flip, flipH}
+use Rattle.algebra.specs.Series.{Seq, SeriesR}
+use Rattle.algebra.specs.Degree.{Domain, SeriesD}
+use Rattle.algebra.specs.Maps.{Hom, SeriesH, flipH}
 use Rattle.algebra.specs.Divides.{Div}
 
 unfoldable pub sum : ℕ → (ℕ → ℕ) → ℕ

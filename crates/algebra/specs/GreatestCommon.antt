@@ -1,6 +1,6 @@
 -- GreatestCommon common divisors of two elements, and what leaves the common divisors of a pair as they are.
-use mathlib.Core.Path.{_≡_, refl, sym, _∙_, ap, ap₂, subst}
-use Rattle.algebra.specs.Ring.{CommRing, one-mul}
+use mathlib.Core.Path.{_∙_, ap₂}
+use Rattle.algebra.specs.Ring.{CommRing}
 use Rattle.algebra.specs.Solver.{_⊕_, _⊗_, _⊖_, _≗_, ring3}
 use Rattle.algebra.specs.Degree.{Domain}
 use Rattle.algebra.specs.Divides.{Div, div-refl, div-trans, div-add, div-mul, div-zero, div-to}

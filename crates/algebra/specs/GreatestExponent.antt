@@ -1,18 +1,16 @@
 -- The greatest exponent of a polynomial in each of the four variables: unique, and additive under products.
 -- A swap of variables is a homomorphism; it brings the variable to the front, where the greatest exponent is the degree.
-use mathlib.Core.Path.{_≡_, refl, sym, _∙_, ap, ap₂, fun-ext, subst}
-use mathlib.Core.Logic.{_⊎_, inl, inr}
-use Prim.Native.Nat.{ℕ, zero, suc, _+_ as _+ₙ_, _≤_, _<_}
+use mathlib.Core.Path.{_≡_, refl, sym, _∙_, ap, fun-ext, subst}
+use Prim.Native.Nat.{ℕ, zero, suc, _+_ as _+ₙ_, _<_}
 use native.Mathlib.Decide.{decLt}
 use native.Mathlib.Omega.{arith}
 use Rattle.algebra.specs.Ring.{CommRing}
-use Rattle.algebra.specs.Series.{Seq, SeriesR, S4}
+use Rattle.algebra.specs.Series.{SeriesR, S4}
 use Rattle.algebra.specs.Degree.{Ends, Top, Domain, SeriesD, top-mul, series-top, series-dec0}
 use Rattle.algebra.specs.Maps.{Hom, SeriesH, flipH}
 use Rattle.algebra.specs.Finite.{Keeps, keeps-map, keeps-flip}
-use Rattle.algebra.specs.Divides.{Div, top-le}
 use Rattle.algebra.specs.Four.{Exponents, coef, D4}
-use Rattle.algebra.specs.Lead.{Lead, lead-exists}
+use Rattle.algebra.specs.Lead.{lead-exists}
 
 pub data Variable : Type 0 where
   in-x in-y in-z in-w : Variable

@@ -1,12 +1,12 @@
 -- The leading monomial in the order x, y, z, w: unique, there for each polynomial that is not 0, and multiplicative.
-use mathlib.Core.Path.{_≡_, refl, sym, _∙_, ap, ap₂, fun-ext, subst}
-use mathlib.Core.Logic.{_⊎_, inl, inr}
-use Prim.Native.Nat.{ℕ, zero, suc, _+_ as _+ₙ_, _≤_, _<_}
+use mathlib.Core.Path.{_≡_, refl, sym, _∙_, ap, ap₂, fun-ext}
+use mathlib.Core.Logic.{inl, inr}
+use Prim.Native.Nat.{suc, _+_ as _+ₙ_}
 use native.Mathlib.Omega.{arith}
-use Rattle.algebra.specs.Ring.{CommRing, zero-mul}
-use Rattle.algebra.specs.Series.{Seq, conv, zeroS, SeriesR, S4}
-use Rattle.algebra.specs.Degree.{Ends, Top, Domain, SeriesD, conv-ends, conv-top, series-top}
-use Rattle.algebra.specs.Four.{Exponents, _⊞_, _≺_, by-x, by-y, by-z, by-w, exponents-path, compare, below-irreflexive, coef, D4}
+use Rattle.algebra.specs.Ring.{CommRing}
+use Rattle.algebra.specs.Series.{SeriesR, S4}
+use Rattle.algebra.specs.Degree.{Ends, Domain, SeriesD, conv-ends, conv-top, series-top}
+use Rattle.algebra.specs.Four.{Exponents, _⊞_, _≺_, by-x, by-y, by-z, by-w, compare, coef, D4}
 
 module _ (R : CommRing) where
   open CommRing R using (Car, 𝟘, mul as _*_)

@@ -1,12 +1,12 @@
 -- Homomorphisms of rings, coefficientwise, and the swap of the two outermost variables; the value of a series that is cut off.
 use mathlib.Core.Path.{_≡_, refl, sym, _∙_, ap, ap₂, fun-ext, subst}
-use Prim.Native.Nat.{ℕ, zero, suc, _+_ as _+ₙ_, _≤_, _<_}
-use native.Mathlib.Nat.{suc-add, zero-add as zero-addₙ}
+use Prim.Native.Nat.{ℕ, zero, suc, _+_ as _+ₙ_, _≤_}
+use native.Mathlib.Nat.{suc-add}
 use native.Mathlib.Omega.{arith}
-use Rattle.algebra.specs.Ring.{CommRing, add-left-comm, mul-left-comm, zero-add, zero-mul, mul-zero, one-mul, distrib-l, neg-zero, neg-unique}
-use Rattle.algebra.specs.Solver.{_⊕_, _⊗_, _⊖_, ⊝, _≗_, k0, ring2, ring3, ring4, ring5, ring6}
-use Rattle.algebra.specs.Series.{Seq, tail, addS, negS, zeroS, scale, constS, conv, conv-const, SeriesR}
-use Rattle.algebra.specs.Degree.{Ends, Top, Domain, Finite, SeriesD, Ends-tail, conv-null, conv-ends, top-mul}
+use Rattle.algebra.specs.Ring.{CommRing, zero-mul, mul-zero, neg-unique}
+use Rattle.algebra.specs.Solver.{_⊕_, _⊗_, _≗_, ring4, ring5, ring6}
+use Rattle.algebra.specs.Series.{Seq, tail, addS, scale, constS, conv, conv-const, SeriesR}
+use Rattle.algebra.specs.Degree.{Ends, Top, Domain, Ends-tail, conv-null, top-mul}
 
 -- ring homomorphisms
 pub record Hom (R S : CommRing) : Type 0 where

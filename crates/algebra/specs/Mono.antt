@@ -1,12 +1,11 @@
 -- c X^n as a series, in one variable and in four, and products with it.
-use mathlib.Core.Path.{_≡_, refl, sym, _∙_, ap, ap₂, fun-ext, subst}
-use Prim.Native.Nat.{ℕ, zero, suc, _+_ as _+ₙ_, _≤_, _<_}
+use mathlib.Core.Path.{_≡_, refl, sym, _∙_, ap, ap₂, fun-ext}
+use Prim.Native.Nat.{ℕ, zero, suc, _+_ as _+ₙ_, _<_}
 use native.Mathlib.Nat.{suc-add, zero-add as zero-addₙ}
 use native.Mathlib.Omega.{arith}
-use Rattle.algebra.specs.Ring.{CommRing, add-left-comm, mul-left-comm, zero-add, zero-mul, mul-zero, one-mul, distrib-l, neg-zero, neg-unique}
-use Rattle.algebra.specs.Series.{Seq, tail, addS, negS, zeroS, scale, constS, conv, conv-const, conv-comm, SeriesR, S4}
-use Rattle.algebra.specs.Degree.{Ends, Top, Domain, Finite, SeriesD, Ends-tail, conv-null, conv-ends, conv-first, const-ends}
-use Rattle.algebra.specs.Maps.{const-mul}
+use Rattle.algebra.specs.Ring.{CommRing, zero-add, zero-mul, mul-zero}
+use Rattle.algebra.specs.Series.{Seq, conv, SeriesR, S4}
+use Rattle.algebra.specs.Degree.{Ends, conv-null}
 
 module _ (R : CommRing) where
   open CommRing R using (Car, 𝟘, 𝟙, add as _+_, mul as _*_, neg)

@@ -1,11 +1,11 @@
 -- One monomial with its coefficient, as a polynomial; a list of such terms, and what it means.
-use mathlib.Core.Path.{_≡_, refl, sym, _∙_, ap, ap₂, fun-ext, subst}
+use mathlib.Core.Path.{_≡_, sym, _∙_, ap, ap₂, fun-ext, subst}
 use mathlib.Core.List.{List, [], _∷_}
-use Prim.Native.Nat.{ℕ, zero, suc}
+use Prim.Native.Nat.{ℕ}
 use native.Mathlib.Decide.{ℕ-discrete}
 use Rattle.algebra.specs.Ring.{CommRing, neg-unique}
 use Rattle.algebra.specs.Series.{Seq, SeriesR, S4}
-use Rattle.algebra.specs.Degree.{Domain, SeriesD}
+use Rattle.algebra.specs.Degree.{Domain}
 use Rattle.algebra.specs.Mono.{mono, mono4, mono4-mul, mono-at, mono-off}
 use Rattle.algebra.specs.Divides.{mono-fin}
 use Rattle.algebra.specs.Four.{Exponents, _⊞_, _≺_, exponents-path, below-irreflexive, coef, D4}

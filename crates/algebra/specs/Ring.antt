@@ -1,5 +1,5 @@
 -- Commutative rings with path equality, and the laws that follow from the axioms.
-use mathlib.Core.Path.{_≡_, refl, sym, _∙_, ap, ap₂, fun-ext}
+use mathlib.Core.Path.{_≡_, sym, _∙_, ap, ap₂}
 
 -- a commutative ring whose carrier is a set; equality is the path
 pub record CommRing : Type 1 where

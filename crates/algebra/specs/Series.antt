@@ -2,7 +2,7 @@
 use mathlib.Core.Path.{_≡_, refl, sym, _∙_, ap, ap₂, fun-ext}
 use mathlib.Core.HLevel.{→-set}
 use Prim.Native.Nat.{ℕ, zero, suc}
-use Rattle.algebra.specs.Ring.{CommRing, add-left-comm, mul-left-comm, zero-add, zero-mul, mul-zero, one-mul, distrib-l}
+use Rattle.algebra.specs.Ring.{CommRing, add-left-comm, zero-add, mul-zero, distrib-l}
 
 -- formal power series: the coefficient functions
 abbrev pub Seq : CommRing → Type 0

@@ -1,19 +1,18 @@
 -- Polynomials in one variable over a field: division with remainder, and the monic greatest common divisor, which exists and is unique.
-use mathlib.Core.Path.{_≡_, refl, sym, _∙_, ap, ap₂, fun-ext, subst}
+use mathlib.Core.Path.{_≡_, sym, _∙_, ap, ap₂, fun-ext, subst}
 use mathlib.Core.Logic.{_⊎_, inl, inr}
-use Prim.Native.Nat.{ℕ, zero, suc, _+_ as _+ₙ_, _-_ as _-ₙ_, _≤_, _<_}
+use Prim.Native.Nat.{ℕ, zero, suc, _+_ as _+ₙ_, _-_ as _-ₙ_, _≤_}
 use native.Mathlib.Decide.{ℕ-discrete, decLe}
 use native.Mathlib.Nat.{add-zero as add-zeroₙ}
 use native.Mathlib.Omega.{arith}
-use Rattle.algebra.specs.Ring.{CommRing, zero-add, zero-mul, mul-zero, one-mul, neg-zero}
-use Rattle.algebra.specs.Solver.{_⊕_, _⊗_, _⊖_, _≗_, k0, k1, ring2, ring4}
+use Rattle.algebra.specs.Ring.{CommRing, mul-zero, one-mul}
+use Rattle.algebra.specs.Solver.{_⊕_, _⊗_, _⊖_, _≗_, k0, ring2, ring4}
 use Rattle.algebra.specs.Series.{Seq, addS, negS, zeroS, constS, conv, conv-const, conv-comm, SeriesR}
 use Rattle.algebra.specs.Degree.{Ends, Top, Domain, Finite, SeriesD, Ends-weaken, conv-null, conv-ends, conv-top, top-mul, finite-top}
-use Rattle.algebra.specs.Maps.{const-mul}
 use Rattle.algebra.specs.Mono.{mono, mono-high, mono-ends}
-use Rattle.algebra.specs.Divides.{Div, top-le, div-top, scaled, mono-fin, const-fin}
+use Rattle.algebra.specs.Divides.{top-le, div-top, mono-fin, const-fin}
 use Rattle.algebra.specs.Field.{Field, domain}
-use Rattle.algebra.specs.GreatestCommon.{GreatestCommon, Associate, greatest-swap, greatest-zero, greatest-subtract, greatest-first, greatest-second, greatest-associate}
+use Rattle.algebra.specs.GreatestCommon.{GreatestCommon, Associate, greatest-swap, greatest-zero, greatest-subtract, greatest-first, greatest-associate}
 
 -- the highest coefficient is 1, and stands at n
 pub record Monic (R : CommRing) (n : ℕ) (f : Seq R) : Type 0 where

@@ -13,7 +13,7 @@ use Rattle.field.specs.Refusal.{Passes}
 use Rattle.poly.specs.Terms.{Polynomial}
 use Rattle.poly.specs.Image.{Divides}
 use Rattle.divisor.specs.Rule.{DividesBoth, Kept, Sorted, Unknowns, OnlySolution}
-use Rattle.divisor.specs.Candidate.{Call, table, Numbers, A, B, monomials, lent-points, handed-out, Result, Candidate}
+use Rattle.divisor.specs.Candidate.{Call, table, Numbers, A, B, monomials, lent-points, handed-out, Result}
 
 module _ (K : Field) where
   open Field K using (ring as R)

@@ -11,3 +11,4 @@ pub mod Equations
 pub mod Solutions
 pub mod Sorting
 pub mod MonicTerms
+pub mod Turns

@@ -1,13 +1,12 @@
 -- What the table's numbers are in the field. Assumes nothing.
-use mathlib.Core.Path.{_≡_, refl, sym, ap, _∙_}
-use Prim.Native.Nat.{ℕ, _+_, _-_, _*_, _%_, _<_, _≤_}
-use native.Mathlib.Nat.{mod-eq-of-lt, mod-lt}
-use native.Mathlib.Omega.{arith}
+use mathlib.Core.Path.{_≡_, sym, ap, _∙_}
+use Prim.Native.Nat.{ℕ, _*_}
+use native.Mathlib.Nat.{mod-eq-of-lt}
 use Rattle.algebra.specs.Ring.{zero-mul}
 use Rattle.field.specs.Prime.{Prime}
 use Rattle.field.specs.PrimeLaws.{prime-positive}
-use Rattle.field.specs.Fp.{Fp, el, add, mul, neg, inv}
-use Rattle.field.specs.FpLaws.{val-el, el-cong, el-mod, el-add, el-mul, el-neg, el-val}
+use Rattle.field.specs.Fp.{Fp, el, mul, inv}
+use Rattle.field.specs.FpLaws.{val-el, el-cong, el-mul}
 use Rattle.field.specs.InverseLaws.{mul-inv, inverse-unique, one≢zero}
 use Rattle.field.specs.Residues.{Residues}
 use Rattle.field.specs.Contract.{Inverse}

@@ -5,23 +5,22 @@ use mathlib.Core.List.{List, [], _∷_, map}
 use Prim.Native.Nat.{ℕ, _≤_, _<_}
 use native.Mathlib.Omega.{arith}
 use Rattle.algebra.specs.Series.{S4}
-use Rattle.algebra.specs.Four.{Exponents, _≺_}
 use Rattle.algebra.specs.Field.{Field}
 use Rattle.algebra.specs.Monomial.{polynomial}
 use Rattle.field.specs.Moduli.{Listed}
 use Rattle.field.specs.Refusal.{Line, Refuses, Passes}
 use Rattle.field.specs.declared.Fault.{Fault}
 use Rattle.poly.specs.Keys.{exponents, keys}
-use Rattle.poly.specs.Terms.{Polynomial, terms-of}
+use Rattle.poly.specs.Terms.{Polynomial}
 use Rattle.poly.specs.Value.{x-degree}
 use Rattle.poly.specs.Image.{Divides}
 use Rattle.poly.specs.Lists.{WrongKey}
 use Rattle.poly.specs.Laws.Keys.{exponents-order}
 use Rattle.poly.specs.Laws.Lists.{none-wrong, FallFrom, keys-fall, terms-fall, falling-within}
 use Rattle.poly.specs.Laws.Value.{WithinX}
-use Rattle.divisor.specs.Rule.{Kept, Sorted, Unknowns, OnlySolution, without-zeros, made-monic}
+use Rattle.divisor.specs.Rule.{without-zeros, made-monic}
 use Rattle.divisor.specs.Candidate.{Call, table, prime, Numbers, A, B, monomials, lent-points, handed-out, Result, Candidate, refused, answered}
-use Rattle.divisor.specs.Demands.{DegreeX, IsPolynomial, GreatestInX, OnlyProposed, MadeMonic, AcceptedIsGreatest, CommonDivisorComesOut}
+use Rattle.divisor.specs.Demands.{DegreeX, GreatestInX, MadeMonic, AcceptedIsGreatest, CommonDivisorComesOut}
 use Rattle.divisor.specs.Laws.Monic.{monic-is-made-monic}
 use Rattle.divisor.specs.Laws.Degree.{accepted-greatest}
 use Rattle.divisor.specs.Laws.CandidateDetermined.{candidate-determined}

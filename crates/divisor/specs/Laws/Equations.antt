@@ -2,21 +2,19 @@
 use mathlib.Core.Path.{_≡_, refl, sym, _∙_, ap, ap₂, subst}
 use mathlib.Core.List.{List, [], _∷_, _++_, map}
 use Prim.Native.Nat.{ℕ, zero, suc, _+_ as _+ₙ_, _<_}
-use native.Mathlib.Nat.{zero-add as zero-addₙ, suc-add, add-suc, add-zero as add-zeroₙ}
 use native.Mathlib.Omega.{arith}
 use lib.ListN.{length, replicate, length-append}
-use Rattle.algebra.specs.Ring.{CommRing, zero-add, zero-mul, one-mul, neg-mul, neg-unique, neg-neg}
+use Rattle.algebra.specs.Ring.{CommRing, zero-add, zero-mul}
 use Rattle.algebra.specs.Solver.{_⊕_, _⊗_, _⊖_, ⊝, _≗_, k1, ring2, ring3, ring4}
 use Rattle.algebra.specs.Four.{Exponents}
 use Rattle.algebra.specs.Mono.{mono, mono-times}
 use Rattle.algebra.specs.Divides.{pow}
 use Rattle.algebra.specs.Field.{Field}
 use Rattle.algebra.specs.Monomial.{Term}
-use Rattle.algebra.specs.Linear.{eval, Solves, SolvesAll}
-use Rattle.algebra.specs.Linear as linear
+use Rattle.algebra.specs.Linear.{eval, SolvesAll}
 use Rattle.poly.specs.Terms.{Polynomial}
 use Rattle.poly.specs.Value.{Point, number-at, value}
-use Rattle.divisor.specs.Rule.{Kept, Unknowns, Equations, Solution, NoSolution, OnlySolution, SeveralSolutions}
+use Rattle.divisor.specs.Rule.{Kept, Unknowns, Equations}
 use Rattle.divisor.specs.Models.Rows.{monomial-at, only-at, row, rows-at, rows-from, all-rows}
 
 module _ (K : Field) where

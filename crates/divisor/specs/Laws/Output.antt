@@ -1,11 +1,10 @@
 -- What an answered call writes can be read again: the terms first in the output are the polynomial that is handed out. Assumes nothing.
 use mathlib.Core.Path.{_≡_, refl, sym, _∙_, ap, ap₂, subst}
 use mathlib.Core.List.{List, [], _∷_, map}
-use lib.ListN.{length, take, drop}
+use lib.ListN.{length, take}
 use lib.Seq.{take-at}
 use Prim.Native.Nat.{ℕ, suc, _+_, _*_, _≤_, _<_}
 use native.Mathlib.Omega.{arith}
-use Rattle.algebra.specs.Four.{Exponents}
 use Rattle.algebra.specs.Field.{Field}
 use Rattle.algebra.specs.Monomial.{Term}
 use Rattle.field.specs.Prime.{Prime}
@@ -20,7 +19,7 @@ use Rattle.poly.specs.Terms.{Polynomial, key-of, coefficient-of, terms-of, numb
 use Rattle.poly.specs.Room.{written}
 use Rattle.poly.specs.Laws.Keys.{Digits, digits-of, exponents-of-key}
 use Rattle.divisor.specs.declared.CandidateRecord.{CandidateRecord}
-use Rattle.divisor.specs.Rule.{Kept, Unknowns, Solution, without-zeros, divided-by, made-monic, divisor, Verdict, none, several, rejected, accepted, Answer, all-bad, some-good}
+use Rattle.divisor.specs.Rule.{Kept, Unknowns, Solution, without-zeros, divided-by, made-monic, divisor, Verdict, none, several, rejected, accepted, all-bad, some-good}
 use Rattle.divisor.specs.Candidate.{Call, prime, Numbers, A, B, monomials, handed-out}
 use Rattle.divisor.specs.Laws.CandidateDetermined.{answer-of, result-of}
 

@@ -1,0 +1,66 @@
+-- `divisor::sorting::alike` meets its contract. The invariant: as many are m as were met and are left. Assumes nothing.
+use borrow.Author.Needs.{needs}
+use mathlib.Core.Path.{_≡_}
+use mathlib.Core.Logic.{⊎-elim}
+use Prim.Native.Nat.{_+_, _-_, _≤_}
+use native.Mathlib.Omega.{arith}
+use lib.ListN.{take, drop}
+use Rattle.divisor.specs.Models.Sorting.{alike}
+use Rattle.divisor.specs.Laws.Turns.{alike-same, alike-other, alike-end}
+use Rattle.divisor.proofs.sorting.alike.Statement.{statement}
+use Rattle.divisor.proofs.sorting.alike.Tie as tie
+
+abbrev Inv-loop : tie.InvT-loop
+Inv-loop n m sizes count₀ i₀ count i = (i ≤ n) × (count ≤ i) × (alike m (take n sizes) ≡ count + alike m (drop i (take n sizes)))
+
+abbrev μ-loop : tie.MeasureT-loop
+μ-loop n m sizes count₀ i₀ count i = n - i
+
+loop-holds : tie.Need-loop-holds Inv-loop μ-loop
+loop-holds c = (omega arith, omega arith, omega arith)
+
+mul-if1 : tie.Need-mul-if1 Inv-loop μ-loop
+mul-if1 c = search needs
+
+array-read-if1 : tie.Need-array-read-if1 Inv-loop μ-loop
+array-read-if1 c = search needs
+
+add-count : tie.Need-add-count Inv-loop μ-loop
+add-count c = search needs
+
+add-i : tie.Need-add-i Inv-loop μ-loop
+add-i c = search needs
+
+loop-less : tie.Need-loop-less Inv-loop μ-loop
+loop-less c = search needs
+
+loop-again : tie.Need-loop-again Inv-loop μ-loop
+loop-again c =
+    let s = c .before .before .before in
+    let l = c .before .before .loop in
+    let i = c .before .loop-test .taken in
+    ⊎-elim
+    (λ w. (omega arith, omega arith, omega (arith, l .inv .2, alike-same (s .args .t1) (s .args .n) (l .i) (s .args .m) (s .pre .within) i (w .0 .taken))))
+    (λ w. (omega arith, omega arith, omega (arith, l .inv .2, alike-other (s .args .t1) (s .args .n) (l .i) (s .args .m) (s .pre .within) i (w .0 .left))))
+    (c .if1 .came)
+
+returns : tie.Need-returns Inv-loop μ-loop
+returns c =
+    let s = c .before .before in
+    let l = c .before .loop in
+    omega (arith, l .inv .2, alike-end (s .args .t1) (s .args .n) (l .i) (s .args .m) (s .pre .within) (c .loop-test .left))
+
+pub alike-spec : {M : Type 1} → statement M
+alike-spec =
+    tie.close
+    (tie.spec
+    Inv-loop
+    μ-loop
+    loop-holds
+    mul-if1
+    array-read-if1
+    add-count
+    add-i
+    loop-less
+    loop-again
+    returns)

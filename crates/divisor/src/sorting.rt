@@ -1,0 +1,51 @@
+// Sorting the points by the sizes of their images: 0 for a bad point, else one more than the image's degree.
+ghost use mathlib.Core.Path.{_≡_};
+ghost use lib.ListN.{take};
+ghost use Rattle.divisor.specs.Models.Sorting.{Within, lesser as lesser-of, least, alike as alike-of};
+use field::Number;
+
+// A size for each of at most 32 points.
+pub type Sizes = [Number; 32];
+
+// The less of two sizes, of which 0 is none.
+fn lesser(a: Number, b: Number) -> Number
+    ensures { λ r. ⌜ r ≡ lesser-of a b ⌝ }
+{
+    if b == 0 {
+        return a;
+    }
+    if a == 0 {
+        return b;
+    }
+    if b < a { b } else { a }
+}
+
+// The least size but 0 of the first n, or 0.
+pub fn least_size(sizes: Sizes, n: usize) -> Number
+    requires { ⌜ Within n sizes ⌝ }
+    ensures { λ r. ⌜ r ≡ least (take n sizes) ⌝ }
+{
+    let mut m: Number = 0;
+    let mut i: usize = 0;
+    while i < n {
+        m = lesser(m, sizes[i]);
+        i += 1;
+    }
+    m
+}
+
+// How many of the first n sizes are m.
+pub fn alike(sizes: Sizes, n: usize, m: Number) -> usize
+    requires { ⌜ Within n sizes ⌝ }
+    ensures { λ r. ⌜ r ≡ alike-of m (take n sizes) ⌝ }
+{
+    let mut count: usize = 0;
+    let mut i: usize = 0;
+    while i < n {
+        if sizes[i] == m {
+            count += 1;
+        }
+        i += 1;
+    }
+    count
+}
