@@ -3,3 +3,5 @@ pub mod TableModel
 pub mod TableSteps
 pub mod TableRows
 pub mod TableNumbers
+pub mod TableMeaning
+pub mod TableStep
