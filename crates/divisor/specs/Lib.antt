@@ -5,3 +5,6 @@ pub mod TableRows
 pub mod TableNumbers
 pub mod TableMeaning
 pub mod TableStep
+pub mod TableKept
+pub mod TableSolution
+pub mod TableAnswer

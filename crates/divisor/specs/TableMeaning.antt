@@ -1,14 +1,18 @@
 -- What the equation table means: the numbers of a row are its entries in the field, and the rows on the diagonal are algebra's table, column by column.
 use mathlib.Core.Bool.{Bool, true, false}
-use mathlib.Core.List.{List, [], _∷_}
+use mathlib.Core.List.{List, [], _∷_, map}
 use Prim.Native.Nat.{ℕ, zero, suc}
 use lib.Dec.{eqb}
 use lib.ListN.{getD}
-use Rattle.algebra.specs.Linear.{Table as Equations, solvable, failed, free, pivot}
+use Rattle.algebra.specs.Linear.{Table as Equations, solvable, failed, free, pivot, NoSolution, OnlySolution, DifferentSolutions}
+use Rattle.field.specs.Prime.{Prime}
 use Rattle.field.specs.Fp.{Fp, el}
+use Rattle.field.specs.Modulo.{Modulo}
 use Rattle.divisor.specs.declared.table.Row.{Row}
 use Rattle.divisor.specs.declared.table.Table.{Table}
-use Rattle.divisor.specs.TableModel.{row-at, diagonal}
+use Rattle.divisor.specs.declared.table.Kind.{Kind}
+use Rattle.divisor.specs.declared.table.Kind.the-variants.{None, One, Several}
+use Rattle.divisor.specs.TableModel.{row-at, diagonal, with-row, RowReady}
 
 -- n numbers from place i on
 unfoldable pub entries : (p : ℕ) → List ℕ → ℕ → ℕ → List (Fp p)
@@ -35,3 +39,21 @@ row-of p n e = entries p (e .cells) 0 (suc n)
 
 abbrev pub table-of : (p n : ℕ) → Table → Equations (Fp p)
 table-of p n t = columns-of p t 0 n
+
+-- the table after equations, one after the other
+unfoldable pub added : ℕ → Table → List Row → Table
+added p t [] = t
+added p t (e ∷ es) = added p (with-row p t e) es
+
+abbrev pub rows-of : (p n : ℕ) → List Row → List (List (Fp p))
+rows-of p n es = map (row-of p n) es
+
+abbrev pub AllReady : ℕ → List Row → Type 0
+AllReady p [] = Unit {0}
+AllReady p (e ∷ es) = RowReady p e × AllReady p es
+
+-- what a kind and values say of equations of n unknowns modulo a prime
+abbrev pub Says : (p : ℕ) → Prime p → (n : ℕ) → List Row → Kind → List ℕ → Type 0
+Says p P n es None values = NoSolution (Modulo p P) n (rows-of p n es)
+Says p P n es One values = OnlySolution (Modulo p P) n (rows-of p n es) (entries p values 0 n)
+Says p P n es Several values = (v w : List (Fp p)) × DifferentSolutions (Modulo p P) n (rows-of p n es) v w

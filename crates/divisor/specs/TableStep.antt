@@ -69,7 +69,7 @@ insert-before (suc n) j p t e k h =
   where
     go : (b d : Bool) → ((f : Row) → row-at (insert n (suc j) p t f) k ≡ row-at t k)
         → row-at (elim b [
-            true ↦ insert n (suc j) p t e
+          | true ↦ insert n (suc j) p t e
           | false ↦ elim d [ true ↦ kept p t j e | false ↦ insert n (suc j) p t (minus p e (row-at t j) j (t .columns)) ]
         ]) k ≡ row-at t k
     go true d later = later e
