@@ -2,3 +2,4 @@
 pub mod Products
 pub mod Table
 pub mod Chase
+pub mod Decision

@@ -1,17 +1,17 @@
 -- The promises of the arithmetic services settle their answers, and what is known where no line applies. Assumes nothing.
-use mathlib.Core.Path.{_≡_, refl, sym, ap, _∙_}
+use mathlib.Core.Path.{_≡_, sym, ap, _∙_}
 use mathlib.Core.Logic.{inl, inr}
 use mathlib.Core.List.{List}
 use Prim.Native.Nat.{ℕ, _*_, _%_, _≤_, _<_}
 use native.Mathlib.Decide.{ℕ-discrete}
 use native.Mathlib.Omega.{arith}
-use native.Mathlib.Nat.{mod-mod}
 use lib.Dec.{T}
 use Rattle.field.specs.ModuliLaws.{listed-stable}
-use Rattle.field.specs.Fp.{Fp, el, mul}
-use Rattle.field.specs.FpLaws.{el-cong, el-mul, val-el}
+use Rattle.field.specs.Fp.{el}
+use Rattle.field.specs.FpLaws.{el-below-inj}
 use Rattle.field.specs.InverseLaws.{inverse-unique}
-use Rattle.field.specs.Refusal.{Line, none, Refuses, Passes, Tested}
+use Rattle.field.specs.Link.{inverse-mul}
+use Rattle.field.specs.Refusal.{Line, none, Passes, Tested}
 use Rattle.field.specs.RefusalLaws.{OnePlaceEach, placed-one-place, whole-one-place, never-placed, refuses-determined, not-passes-and-refuses, numbered, tested-passes, tested-refuses}
 use Rattle.field.specs.Contract.{element, Fit, Invertible, sum-of, difference-of, product-of, Inverse}
 use Rattle.field.specs.Arithmetic.{two-operands, inverse-operand, Arithmetic, refused, answered, AskSum, AskDifference, AskProduct, AskInverse}
@@ -57,10 +57,7 @@ product-determined a b = said-determined a b (product-of a b)
 -- the law of the inverse leaves one number
 pub inverse-value-unique : (p a x y : ℕ) → x < p → y < p → (a * x) % p ≡ 1 → (a * y) % p ≡ 1 → x ≡ y
 inverse-value-unique p a x y l m h k =
-    sym (val-el p l) ∙ ap (λ (z : Fp p). z .val) (inverse-unique (el p a) (el p x) (el p y) (unit x h) (unit y k)) ∙ val-el p m
-  where
-    unit : (z : ℕ) → (a * z) % p ≡ 1 → mul (el p a) (el p z) ≡ el p 1
-    unit z e = sym (el-mul p a z) ∙ el-cong p (a * z) 1 (sym (mod-mod (a * z) p) ∙ ap (λ (n : ℕ). n % p) e)
+    el-below-inj p x y l m (inverse-unique (el p a) (el p x) (el p y) (inverse-mul p a x h) (inverse-mul p a y k))
 
 pub inverses-equal : (a r q : Element) → Inverse a r → Inverse a q → r ≡ q
 inverses-equal a r q h k =

@@ -4,23 +4,7 @@ use mathlib.Core.HLevel.{hedberg, isProp→PathP}
 use Prim.Native.Nat.{ℕ, _+_, _*_, _-_, _/_, _%_, _<_}
 use native.Mathlib.Decide.{ℕ-discrete}
 use native.Mathlib.Omega.{arith}
-use native.Mathlib.Nat.{
-  add-assoc,
-  add-comm,
-  add-mod-mod,
-  add-mul,
-  add-zero,
-  div-add-mod,
-  mod-add-mod,
-  mod-eq-of-lt,
-  mod-lt,
-  mod-mod,
-  mod-self,
-  mul-assoc,
-  mul-comm,
-  mul-one,
-  zero-mod,
-}
+use native.Mathlib.Nat.{add-assoc, add-comm, add-mod-mod, add-mul, add-zero, div-add-mod, mod-add-mod, mod-eq-of-lt, mod-lt, mod-mod, mod-self, mul-assoc, mul-comm, mul-one, zero-mod}
 use Rattle.field.specs.Fp.{Fp, el, add, mul, neg}
 use Rattle.field.specs.RemainderLaws.{mod-mul-mod, mul-mod-mod}
 
@@ -69,6 +53,13 @@ el-cong p m n e = Fp-path e
 pub el-inj : (p m n : ℕ) → el p m ≡ el p n → m % p ≡ n % p
 unfolding el
 el-inj p m n e = ap (λ (z : Fp p). z .val) e
+
+-- numbers below p are equal where their elements are
+pub el-below-inj : (p m n : ℕ) → m < p → n < p → el p m ≡ el p n → m ≡ n
+el-below-inj p m n h l e = sym (mod-eq-of-lt h) ∙ el-inj p m n e ∙ mod-eq-of-lt l
+
+pub el-nonzero : (p n : ℕ) → n < p → ¬ (n ≡ 0) → ¬ (el p n ≡ el p 0)
+el-nonzero p n h z e = z (el-below-inj p n 0 h (omega arith) e)
 
 pub el-mod : (p n : ℕ) → el p (n % p) ≡ el p n
 el-mod p n = el-cong p (n % p) n (mod-mod n p)

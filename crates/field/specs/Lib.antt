@@ -1,4 +1,5 @@
--- What the layers above cite of the arithmetic: definitions (Prime, Moduli, Fp, Residues, Numbers, Refusal), and their laws in files apart.
+-- What the layers above cite of the arithmetic. Definitions: Prime, Moduli, Fp, Residues, Modulo, Numbers, Refusal, Contract, Arithmetic;
+-- the others hold laws.
 pub mod Prime
 pub mod PrimeLaws
 pub mod Moduli
@@ -14,5 +15,6 @@ pub mod Refusal
 pub mod RefusalLaws
 pub mod RefusalDecision
 pub mod Contract
+pub mod Link
 pub mod Arithmetic
 pub mod ArithmeticLaws

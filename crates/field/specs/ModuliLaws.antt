@@ -1,12 +1,12 @@
 -- Each listed modulus is prime, by one computed test over the table, and within the bounds that the code leans on. Assumes nothing.
-use mathlib.Core.Path.{_≡_, refl, sym, subst}
-use mathlib.Core.Bool.{Bool, true, false, _&&_, _||_}
+use mathlib.Core.Path.{_≡_, refl, sym, _∙_, subst}
+use mathlib.Core.Bool.{Bool, true, false, _&&_, _||_, Bool-discrete}
 use mathlib.Core.List.{List, [], _∷_}
 use Prim.Native.Nat.{ℕ, _<_}
 use native.Mathlib.Omega.{arith}
 use lib.Dec.{T, eqb, ltb, eqb→eq, ltb→lt}
 use Rattle.field.specs.Prime.{Prime}
-use Rattle.field.specs.PrimeLaws.{isPrime, prime}
+use Rattle.field.specs.PrimeLaws.{prime-test, test-prime}
 use Rattle.field.specs.Moduli.{moduli, among, listed, Listed}
 
 abbrev pub every : (ℕ → Bool) → List ℕ → Bool
@@ -32,7 +32,7 @@ unfolding listed
 listed-every f t p h = among-every f moduli t p (subst T (sym h) tt)
 
 pub listed-prime : {p : ℕ} → Listed p → Prime p
-listed-prime {p} h = prime p (listed-every isPrime tt p h)
+listed-prime {p} h = test-prime p (listed-every prime-test tt p h)
 
 pub listed-above : {p : ℕ} → Listed p → 1 < p
 listed-above h = listed-prime h .above
@@ -43,10 +43,12 @@ listed-positive h = omega (arith, listed-above h)
 pub listed-below : {p : ℕ} → Listed p → p < 65522
 listed-below {p} h = ltb→lt p 65522 (listed-every (λ n. ltb n 65522) tt p h)
 
--- a modulus that is not unlisted is listed
+-- whether a modulus is listed is decided
+unfoldable pub listed-decided : (p : ℕ) → Dec (Listed p)
+listed-decided p = Bool-discrete (listed p) true
+
 pub listed-stable : (p : ℕ) → ¬ (¬ Listed p) → Listed p
-listed-stable p = go (listed p)
-  where
-    go : (b : Bool) → ¬ (¬ (b ≡ true)) → b ≡ true
-    go true n = refl
-    go false n = absurd (n (λ e. subst T (sym e) tt))
+listed-stable p n = elim (listed-decided p) [ yes h ↦ h | no m ↦ absurd (n m) ]
+
+pub unlisted : (p : ℕ) → listed p ≡ false → ¬ Listed p
+unlisted p e h = subst T (sym h ∙ e) tt

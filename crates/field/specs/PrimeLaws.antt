@@ -2,31 +2,31 @@
 use mathlib.Core.Path.{_≡_, refl, sym, ap, _∙_, subst}
 use mathlib.Core.Logic.{_⊎_, inl, inr}
 use mathlib.Core.Bool.{Bool, true, false}
-use Prim.Native.Nat.{ℕ, zero, suc, _+_, _*_, _-_, _/_, _%_, _≤_, _<_, _∣_}
+use Prim.Native.Nat.{ℕ, zero, suc, _*_, _/_, _%_, _≤_, _<_}
 use native.Mathlib.Decide.{ℕ-discrete, decLt}
 use native.Mathlib.Omega.{arith}
 use native.Mathlib.Nat.{div-add-mod, dvd-of-mod-eq-zero, mod-eq-zero-of-dvd, mul-le-mul, mul-mod-left, mul-mod-right, mul-one, mul-zero, zero-mul}
-use lib.Dec.{T, eqb, ltb, ltb→lt}
+use lib.Dec.{T, eqb, ltb}
 use borrow.Author.Tests.{eq-eqb, ltb-true}
 use Rattle.field.specs.Prime.{Prime}
 
 -- A number above 1 with no divisor from 2 on whose square it reaches is prime: of a divisor and its partner one is below m.
-module _ (p m : ℕ) (above : 1 < p) (small : p < m * m) (none : (d : ℕ) → 2 ≤ d → d < m → p % d ≡ 0 → ⊥) where
-  no-factors : (d c : ℕ) → p ≡ d * c → (d ≡ 1 → ⊥) → (d ≡ p → ⊥) → ⊥
-  no-factors d c e n1 np = go (decLt d m) (decLt c m)
+module _ (p m : ℕ) (above : 1 < p) (small : p < m * m) (none : (d : ℕ) → 2 ≤ d → d < m → ¬ (p % d ≡ 0)) where
+  no-factors : (d c : ℕ) → p ≡ d * c → ¬ (d ≡ 1) → ¬ (d ≡ p) → ⊥
+  no-factors d c e not-one not-p = go (decLt d m) (decLt c m)
     where
-      d0 : d ≡ 0 → ⊥
-      d0 z = omega (arith, e ∙ ap (λ (n : ℕ). n * c) z ∙ zero-mul c)
+      d-not-zero : ¬ (d ≡ 0)
+      d-not-zero z = omega (arith, e ∙ ap (λ (n : ℕ). n * c) z ∙ zero-mul c)
 
-      c0 : c ≡ 0 → ⊥
-      c0 z = omega (arith, e ∙ ap (λ (n : ℕ). d * n) z ∙ mul-zero d)
+      c-not-zero : ¬ (c ≡ 0)
+      c-not-zero z = omega (arith, e ∙ ap (λ (n : ℕ). d * n) z ∙ mul-zero d)
 
-      c1 : c ≡ 1 → ⊥
-      c1 z = np (sym (e ∙ ap (λ (n : ℕ). d * n) z ∙ mul-one d))
+      c-not-one : ¬ (c ≡ 1)
+      c-not-one z = not-p (sym (e ∙ ap (λ (n : ℕ). d * n) z ∙ mul-one d))
 
       go : Dec (d < m) → Dec (c < m) → ⊥
-      go (yes l) y = none d (omega (arith, d0)) l (ap (λ (n : ℕ). n % d) e ∙ mul-mod-right d c)
-      go (no l) (yes y) = none c (omega (arith, c0, c1)) y (ap (λ (n : ℕ). n % c) e ∙ mul-mod-left d c)
+      go (yes l) y = none d (omega (arith, d-not-zero)) l (ap (λ (n : ℕ). n % d) e ∙ mul-mod-right d c)
+      go (no l) (yes y) = none c (omega (arith, c-not-zero, c-not-one)) y (ap (λ (n : ℕ). n % c) e ∙ mul-mod-left d c)
       go (no l) (no y) =
           let h : m * m ≤ d * c = mul-le-mul (omega arith) (omega arith) in
           omega arith
@@ -40,19 +40,19 @@ module _ (p m : ℕ) (above : 1 < p) (small : p < m * m) (none : (d : ℕ) → 2
       go d e (no a) (no b) = absurd (no-factors d (p / d) (omega (arith, div-add-mod p d)) a b)
 
 -- Trial division from d on, up to the root of p. The fuel n only bounds the depth: p is always enough.
--- (An `elim`'s cases wait, so the test stops at the root; a call of `both` would run through the fuel.)
+-- (An `elim`'s cases wait, so the test stops at the root; `_&&_` would run through the fuel.)
 abbrev pub tried : ℕ → ℕ → ℕ → Bool
 tried p zero d = false
 tried p (suc n) d =
     elim (ltb p (d * d)) [ true ↦ true | false ↦ elim (eqb (p % d) 0) [ true ↦ false | false ↦ tried p n (suc d) ] ]
 
-abbrev pub isPrime : ℕ → Bool
-isPrime p = elim (ltb 1 p) [ true ↦ tried p p 2 | false ↦ false ]
+abbrev pub prime-test : ℕ → Bool
+prime-test p = elim (ltb 1 p) [ true ↦ tried p p 2 | false ↦ false ]
 
 -- with no divisor below d, the test from d on gives the definition
 module _ (p : ℕ) (above : 1 < p) where
   abbrev Below : ℕ → Type 0
-  Below d = (k : ℕ) → 2 ≤ k → k < d → p % k ≡ 0 → ⊥
+  Below d = (k : ℕ) → 2 ≤ k → k < d → ¬ (p % k ≡ 0)
 
   more : (d : ℕ) → Below d → eqb (p % d) 0 ≡ false → Below (suc d)
   more d h f k l u e = go (ℕ-discrete k d)
@@ -79,8 +79,8 @@ module _ (p : ℕ) (above : 1 < p) where
       root false f again u = divides (eqb (p % d) 0) refl again u
 
 -- the test gives the definition
-pub prime : (p : ℕ) → T (isPrime p) → Prime p
-prime p t = go (ltb 1 p) refl t
+pub test-prime : (p : ℕ) → T (prime-test p) → Prime p
+test-prime p t = go (ltb 1 p) refl t
   where
     go : (b : Bool) → ltb 1 p ≡ b → T (elim b [ true ↦ tried p p 2 | false ↦ false ]) → Prime p
     go true e u = tried-prime p (ltb-true 1 p e) p 2 (λ k l m. absurd (omega arith)) u

@@ -1,12 +1,33 @@
 -- A computed check of each line decides a table. Assumes nothing.
 use mathlib.Core.Path.{_≡_, refl}
+use mathlib.Core.Logic.{_⊎_, inl, inr}
 use mathlib.Core.List.{List, [], _∷_}
 use Prim.Native.Nat.{ℕ, zero, suc, _+_, _≤_, _<_}
 use native.Mathlib.Decide.{decLt}
 use native.Mathlib.Omega.{arith}
+use lib.Dec.{T, ltb, ltb→lt}
 use Rattle.field.specs.declared.Fault.{Fault}
-use Rattle.field.specs.Refusal.{Line, line, placed, first, fault, none, Tested}
-use Rattle.field.specs.RefusalLaws.{tested-line, tested-past, tested-end}
+use Rattle.field.specs.Refusal.{Line, line, placed, first, fault, none, Refuses, Passes, Tested}
+use Rattle.field.specs.RefusalLaws.{tested-line, tested-past, tested-end, numbered, tested-passes, tested-refuses}
+
+-- decisions of compound statements
+abbrev pub not-decided : {X : Type 0} → Dec X → Dec (¬ X)
+not-decided (yes x) = no (λ n. n x)
+not-decided (no n) = yes n
+
+abbrev pub both-decided : {X Y : Type 0} → Dec X → Dec Y → Dec (X × Y)
+both-decided (yes x) (yes y) = yes (x, y)
+both-decided (yes x) (no n) = no (λ h. n (h .1))
+both-decided (no n) y = no (λ h. n (h .0))
+
+abbrev pub either-decided : {X Y : Type 0} → Dec X → Dec Y → Dec (X ⊎ Y)
+either-decided (yes x) y = yes (inl x)
+either-decided (no n) (yes y) = yes (inr y)
+either-decided (no n) (no m) = no (λ h. elim h [ inl x ↦ n x | inr y ↦ m y ])
+
+unfoldable pub at-most-decided : (a b : ℕ) → Dec (a ≤ b)
+unfolding decLt
+at-most-decided a b = elim (decLt b a) [ yes h ↦ no (λ k. omega arith) | no h ↦ yes (omega arith) ]
 
 -- what a check of a line finds: the place at which it applies, or that it does not
 pub data Check (l : Line) : Type 0 where
@@ -53,3 +74,10 @@ decided-tested (l ∷ lines) cs = go (cs .0) (decided-tested lines (cs .1))
         → Tested (l ∷ lines) (elim c [ applies place g ↦ fault (l .number) place | never n ↦ decided lines (cs .1) ])
     go (applies place g) rest = tested-line place g refl
     go (never n) rest = tested-past n rest
+
+pub decided-passes : (lines : List Line) → T (numbered lines) → (cs : Checks lines) → decided lines cs .number ≡ 0 → Passes lines
+decided-passes lines some cs z = tested-passes lines some (decided lines cs) (decided-tested lines cs) z .0
+
+pub decided-refuses : (lines : List Line) (cs : Checks lines) (f : Fault) → decided lines cs ≡ f → T (ltb 0 (f .number)) → Refuses lines f
+decided-refuses lines cs f e t =
+    tested-refuses lines f (rw e at (decided-tested lines cs)) (λ z. omega (arith, ltb→lt 0 (f .number) t))

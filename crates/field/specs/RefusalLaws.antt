@@ -1,15 +1,16 @@
 -- Laws of tables of refusals: a table gives one fault at most, and does not both pass and refuse; a table may be tested part by part.
 -- Assumes nothing.
 use mathlib.Core.Path.{_≡_, refl, sym, _∙_, ap}
-use mathlib.Core.Logic.{_⊎_, inl, inr}
-use mathlib.Core.Bool.{Bool, true, false, _&&_}
+use mathlib.Core.Logic.{inl, inr}
+use mathlib.Core.Bool.{Bool, true, _&&_}
 use mathlib.Core.List.{List, [], _∷_, _++_}
-use Prim.Native.Nat.{ℕ, _<_}
+use Prim.Native.Nat.{ℕ}
 use native.Mathlib.Decide.{decLt}
 use native.Mathlib.Omega.{arith}
 use lib.Dec.{T, ltb, ltb→lt}
+use mir.Facts.{and-yes}
 use Rattle.field.specs.declared.Fault.{Fault}
-use Rattle.field.specs.Refusal.{Line, line, placed, whole, first, fault, none, Refuses, Passes, Tested, refused, passed}
+use Rattle.field.specs.Refusal.{Line, placed, whole, first, fault, none, Refuses, Passes, Tested, refused, passed}
 
 -- a line has one place
 abbrev pub OnePlace : Line → Type 0
@@ -103,16 +104,12 @@ abbrev pub numbered : List Line → Bool
 numbered [] = true
 numbered (l ∷ lines) = ltb 0 (l .number) && numbered lines
 
-and-both : (a b : Bool) → T (a && b) → T a × T b
-and-both true b t = (tt, t)
-and-both false b t = absurd t
-
 pub refuses-numbered : (lines : List Line) → T (numbered lines) → (f : Fault) → Refuses lines f → ¬ (f .number ≡ 0)
 refuses-numbered [] t f h e = h
 refuses-numbered (l ∷ lines) t f (inl h) e =
-    omega (arith, h .0, e, ltb→lt 0 (l .number) (and-both (ltb 0 (l .number)) (numbered lines) t .0))
+    omega (arith, h .0, e, ltb→lt 0 (l .number) (and-yes (ltb 0 (l .number)) (numbered lines) t .0))
 refuses-numbered (l ∷ lines) t f (inr h) e =
-    refuses-numbered lines (and-both (ltb 0 (l .number)) (numbered lines) t .1) f (h .1) e
+    refuses-numbered lines (and-yes (ltb 0 (l .number)) (numbered lines) t .1) f (h .1) e
 
 pub tested-passes : (lines : List Line) → T (numbered lines) → (f : Fault) → Tested lines f → f .number ≡ 0 → Passes lines × (f ≡ none)
 tested-passes lines t f (refused h) z = absurd (refuses-numbered lines t f h z)

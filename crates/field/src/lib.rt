@@ -9,6 +9,9 @@ ghost use Rattle.field.specs.Arithmetic.{first-operand, two-operands, in
 // A modulus, a key, a coordinate, a coefficient or a number of the work room.
 pub type Number = u16;
 
+// Twice as wide: a product of two numbers, with a third added, fits.
+type Wide = u32;
+
 // Number 0 and place 0: nothing is refused.
 pub struct Fault {
     pub number: Number,
@@ -121,11 +124,11 @@ impl Element {
         requires { ⌜ Fit self other ⌝ }
         ensures { λ r. ⌜ r ≡ sum-of self other ⌝ }
     {
-        let p = self.modulus as u32;
-        let s = (self.value as u32) + (other.value as u32);
+        let p = self.modulus as Wide;
+        let s = (self.value as Wide) + (other.value as Wide);
         Element {
             modulus: self.modulus,
-            value: (s % p) as u16,
+            value: (s % p) as Number,
         }
     }
 
@@ -133,11 +136,11 @@ impl Element {
         requires { ⌜ Fit self other ⌝ }
         ensures { λ r. ⌜ r ≡ difference-of self other ⌝ }
     {
-        let p = self.modulus as u32;
-        let d = (self.value as u32) + (p - (other.value as u32));
+        let p = self.modulus as Wide;
+        let d = (self.value as Wide) + (p - (other.value as Wide));
         Element {
             modulus: self.modulus,
-            value: (d % p) as u16,
+            value: (d % p) as Number,
         }
     }
 
@@ -156,9 +159,9 @@ impl Element {
         requires { ⌜ Invertible self ⌝ }
         ensures { λ r. ⌜ Inverse self r ⌝ }
     {
-        let p = self.modulus as u32;
-        let mut r = self.value as u32;
-        let mut t: u32 = 1;
+        let p = self.modulus as Wide;
+        let mut r = self.value as Wide;
+        let mut t: Wide = 1;
         while r != 1 {
             let m = p / r * t % p;
             r = p % r;
@@ -166,7 +169,7 @@ impl Element {
         }
         Element {
             modulus: self.modulus,
-            value: t as u16,
+            value: t as Number,
         }
     }
 }
@@ -177,14 +180,14 @@ pub fn times(p: Number, a: Number, b: Number) -> Number
     requires { ⌜ 0 < p ⌝ }
     ensures { λ r. ⌜ r ≡ (a * b) % p ⌝ }
 {
-    ((a as u32) * (b as u32) % (p as u32)) as u16
+    ((a as Wide) * (b as Wide) % (p as Wide)) as Number
 }
 
 pub fn plus_times(p: Number, r: Number, a: Number, b: Number) -> Number
     requires { ⌜ 0 < p ⌝ }
     ensures { λ s. ⌜ s ≡ (r + a * b) % p ⌝ }
 {
-    (((r as u32) + (a as u32) * (b as u32)) % (p as u32)) as u16
+    (((r as Wide) + (a as Wide) * (b as Wide)) % (p as Wide)) as Number
 }
 
 // What an arithmetic service answers.
@@ -197,10 +200,12 @@ pub struct Answer {
 fn first_operand_fault(a: Element) -> Fault
     ensures { λ r. ⌜ Tested (first-operand a) r ⌝ }
 {
-    if !is_modulus(a.modulus) {
+    let listed = is_modulus(a.modulus);
+    let below = a.value < a.modulus;
+    if !listed {
         return Fault::at(Fault::MODULUS, 0);
     }
-    if a.value >= a.modulus {
+    if !below {
         return Fault::at(Fault::OPERAND, 0);
     }
     Fault::none()
@@ -213,10 +218,8 @@ fn two_operands_fault(a: Element, b: Element) -> Fault
     if fault.number != 0 {
         return fault;
     }
-    if b.value >= a.modulus {
-        return Fault::at(Fault::OPERAND, 1);
-    }
-    if b.modulus != a.modulus {
+    let fits = (b.value < a.modulus) & (b.modulus == a.modulus);
+    if !fits {
         return Fault::at(Fault::OPERAND, 1);
     }
     Fault::none()

@@ -1,4 +1,5 @@
--- `field::Element::inverse` meets its contract. The loop keeps `Chased`, and the measure is r. Assumes nothing.
+-- `field::Element::inverse` meets its contract. The loop keeps `Chased`: the value times t is r, with 0 < r < p; the measure is r.
+-- Assumes nothing.
 use mathlib.Core.Path.{refl}
 use Prim.Native.Nat.{_/_, _<_}
 use native.Mathlib.Omega.{arith}
@@ -8,8 +9,6 @@ use Rattle.field.proofs.Products.{mul-below}
 use Rattle.field.proofs.Chase.{Chased, begin, next, end}
 use Rattle.field.proofs.Element.inverse.Statement.{statement}
 use Rattle.field.proofs.Element.inverse.Tie as tie
-use Rattle.field.proofs.Element.inverse.Reads as reads
-use Rattle.field.proofs.Element.inverse.Lts as lts
 
 abbrev Inv-loop : tie.InvT-loop
 Inv-loop self p r₀ t₀ r t = Chased (self .modulus) (self .value) r t
