@@ -1,10 +1,10 @@
 -- The equation table: its model in plain numbers, and what it means over the field.
 pub mod TableModel
-pub mod TableSteps
+pub mod TableTurns
 pub mod TableRows
-pub mod TableNumbers
-pub mod TableMeaning
-pub mod TableStep
 pub mod TableKept
+pub mod TableMeaning
+pub mod TableEntries
+pub mod TableStep
 pub mod TableSolution
 pub mod TableAnswer

@@ -8,7 +8,7 @@ use native.Mathlib.Omega.{arith}
 use lib.ListN.{length, getD, set, replicate, length-set}
 use lib.Seq.{getD-set-same, getD-set-other}
 use Rattle.divisor.specs.declared.table.Row.{Row}
-use Rattle.divisor.specs.TableModel.{cell, altered, minus, scaled-row}
+use Rattle.divisor.specs.TableModel.{cell, altered, minus, scaled-row, RowReady}
 
 pub set-all : {A : Type 0} (P : A → Type 0) (l : List A) (i k : ℕ) (a d : A) → P a → P (getD l k d) → P (getD (set l i a) k d)
 set-all P [] i k a d new old = old
@@ -70,3 +70,11 @@ module _ (p : ℕ) (e : Row) (j columns : ℕ) (below : (k : ℕ) → cell e k <
 
   pub scaled-below : (k : ℕ) → cell (scaled-row p e j columns) k < p
   scaled-below = altered-all _ (λ a. a < p) (λ k a. mod-lt _ positive) j (columns - j) (e .cells) below
+
+-- an equation stays one
+pub minus-ready : (p : ℕ) (e d : Row) (j columns : ℕ) → RowReady p e → RowReady p (minus p e d j columns)
+minus-ready p e d j columns ok =
+    record {
+      size = altered-length _ j (columns - j) (e .cells) ∙ ok .size;
+      below = minus-below p e j columns (ok .below) d;
+    }

@@ -4,7 +4,7 @@ use mathlib.Core.Bool.{Bool, true, false}
 use mathlib.Core.List.{List, [], _∷_}
 use Prim.Native.Nat.{ℕ, zero, suc, _+_, _-_, _*_, _%_, _<_, _≤_}
 use native.Mathlib.Numerals.{add-one}
-use native.Mathlib.Nat.{add-zero, mod-lt}
+use native.Mathlib.Nat.{add-zero, le-of-lt, mod-lt}
 use native.Mathlib.Omega.{arith}
 use lib.Dec.{eqb}
 use lib.ListN.{length, getD, set, length-set}
@@ -17,21 +17,15 @@ use Rattle.field.specs.Prime.{Prime}
 use Rattle.field.specs.PrimeLaws.{prime-positive}
 use Rattle.field.specs.Fp.{Fp, el, add, mul, neg}
 use Rattle.field.specs.FpLaws.{el-mod, el-add, el-mul}
+use Rattle.field.specs.Link.{plus-times-el, opposite-el}
 use Rattle.field.specs.Modulo.{Modulo}
 use Rattle.divisor.specs.declared.table.Row.{Row}
 use Rattle.divisor.specs.declared.table.Table.{Table}
 use Rattle.divisor.specs.TableModel.{row-at, cell, diagonal, total, value, back, values, zeros, TableReady}
-use Rattle.divisor.specs.TableNumbers.{el-opposite}
+use Rattle.divisor.specs.TableEntries.{entries-set}
 use Rattle.divisor.specs.TableRows.{replicate-all, set-all}
 use Rattle.divisor.specs.TableMeaning.{entries, last-column, columns-of, table-of}
 use Rattle.divisor.specs.TableStep.{column-pivot}
-
--- the entries behind a place that is set
-entries-set : (p : ℕ) (l : List ℕ) (j x i n : ℕ) → j < i → entries p (set l j x) i n ≡ entries p l i n
-unfolding entries
-entries-set p l j x i zero h = refl
-entries-set p l j x i (suc n) h =
-    ap₂ _∷_ (ap (el p) (getD-set-other l j i x 0 (λ (q : i ≡ j). omega arith))) (entries-set p l j x (suc i) n (omega arith))
 
 total-below : (p : ℕ) → 0 < p → (n k : ℕ) (e : Row) (v : List ℕ) (a : ℕ) → a < p → total n k p e v a < p
 unfolding total
@@ -50,7 +44,7 @@ module _ (p : ℕ) (P : Prime p) where
   total-adds e v last (suc n) i h a =
       total-adds e v last n (suc i) (omega arith) ((a + cell e i * getD v i 0) % p)
       ∙ ap (λ x. add x (eval K (entries p (e .cells) (suc i) (suc n)) (entries p v (suc i) n)))
-      (el-mod p (a + cell e i * getD v i 0) ∙ el-add p a (cell e i * getD v i 0) ∙ ap (add (el p a)) (el-mul p (cell e i) (getD v i 0)))
+      (plus-times-el p a (cell e i) (getD v i 0))
       ∙ K .ring .add-assoc _ _ _
 
   total-is-value : (e : Row) (v : List ℕ) (last n i : ℕ) → i + n ≡ last
@@ -68,7 +62,7 @@ module _ (p : ℕ) (P : Prime p) where
         let left : n - (j + 1) ≡ k = omega arith in
         ap (λ m. el p (value p (row-at t j) v j m)) last
         ∙ el-mod p _
-        ∙ el-opposite p _ (total-below p (prime-positive P) (n - (j + 1)) (j + 1) (row-at t j) v (cell (row-at t j) n) (ready .below j n))
+        ∙ opposite-el p _ (prime-positive P) (le-of-lt (total-below p (prime-positive P) (n - (j + 1)) (j + 1) (row-at t j) v (cell (row-at t j) n) (ready .below j n)))
         ∙ ap neg
         (ap₂ (λ m i. el p (total m i p (row-at t j) v (cell (row-at t j) n))) left (add-one j) ∙ total-is-value (row-at t j) v n k (suc j) h)
 

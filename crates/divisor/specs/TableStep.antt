@@ -22,9 +22,10 @@ use Rattle.field.specs.Modulo.{Modulo}
 use Rattle.divisor.specs.declared.table.Row.{Row}
 use Rattle.divisor.specs.declared.table.Table.{Table}
 use Rattle.divisor.specs.TableModel.{no-row, row-at, cell, diagonal, minus, scaled-row, kept, insert, with-row, RowReady, TableReady, Ready}
-use Rattle.divisor.specs.TableNumbers.{el-minus, el-times, el-zero}
-use Rattle.divisor.specs.TableRows.{set-all, altered-length, altered-at, minus-below, scaled-below}
-use Rattle.divisor.specs.TableSteps.{insert-at-zero, insert-at-free, insert-at-kept}
+use Rattle.divisor.specs.TableRows.{minus-ready}
+use Rattle.divisor.specs.TableKept.{insert-all}
+use Rattle.divisor.specs.TableTurns.{insert-at-zero, insert-at-free, insert-at-kept}
+use Rattle.divisor.specs.TableEntries.{el-zero, minus-entries, scaled-entries, scaled-diagonal, zero-times}
 use Rattle.divisor.specs.TableMeaning.{entries, column, last-column, columns-of, row-of, table-of}
 
 -- the columns of a table, by the diagonal
@@ -61,20 +62,10 @@ columns-same p t u i (suc n) h =
     (columns-same p t u (suc i) n (λ k l. h k (omega arith)))
 
 -- a step at the columns from j on leaves the rows before j
-pub insert-before : (n j p : ℕ) (t : Table) (e : Row) (k : ℕ) → k < j → row-at (insert n j p t e) k ≡ row-at t k
-unfolding insert
-insert-before zero j p t e k h = refl
-insert-before (suc n) j p t e k h =
-    go (eqb (cell e j) 0) (eqb (diagonal t j) 0) (λ f. insert-before n (suc j) p t f k (omega arith))
-  where
-    go : (b d : Bool) → ((f : Row) → row-at (insert n (suc j) p t f) k ≡ row-at t k)
-        → row-at (elim b [
-          | true ↦ insert n (suc j) p t e
-          | false ↦ elim d [ true ↦ kept p t j e | false ↦ insert n (suc j) p t (minus p e (row-at t j) j (t .columns)) ]
-        ]) k ≡ row-at t k
-    go true d later = later e
-    go false true later = getD-set-other (t .rows) j k (scaled-row p e j (t .columns)) no-row (λ (q : k ≡ j). omega arith)
-    go false false later = later (minus p e (row-at t j) j (t .columns))
+insert-before : (n j p : ℕ) (t : Table) (e : Row) (k : ℕ) → k < j → row-at (insert n j p t e) k ≡ row-at t k
+insert-before n j p t e k h =
+    insert-all p t (λ u. row-at u k ≡ row-at t k) (λ f. Unit {0}) (λ i f u. tt) refl n j
+    (λ i l f u. getD-set-other (t .rows) i k (scaled-row p f i (t .columns)) no-row (λ (q : k ≡ i). omega arith)) e tt
 
 decided-yes : {A X : Type 0} (d : Dec X) (x y : A) → X → elim d [ yes e ↦ x | no e ↦ y ] ≡ x
 decided-yes (yes e) x y h = refl
@@ -84,47 +75,10 @@ decided-no : {A X : Type 0} (d : Dec X) (x y : A) → ¬ X → elim d [ yes e �
 decided-no (yes e) x y h = absurd (h e)
 decided-no (no e) x y h = refl
 
--- the entries of rows that are altered from column j on
+-- a step of the field's table at one column
 module _ (p : ℕ) (P : Prime p) where
   abbrev K : Field
   K = Modulo p P
-
-  module _ (e : Row) (j columns : ℕ) (size : length (e .cells) ≡ 64) (most : columns ≤ 64) where
-    minus-entries : (d : Row) → cell e j < p → (i n : ℕ) → j ≤ i → i + n ≤ columns
-        → entries p (minus p e d j columns .cells) i n
-        ≡ plus-times K (entries p (e .cells) i n) (neg (el p (cell e j))) (entries p (d .cells) i n)
-    unfolding entries
-    minus-entries d b i zero h m = refl
-    minus-entries d b i (suc n) h m =
-        ap₂ _∷_
-        (ap (el p) (altered-at _ j (columns - j) (e .cells) i h (omega arith) (omega arith)) ∙ el-minus p (cell e j) (cell e i) (cell d i) b)
-        (minus-entries d b (suc i) n (omega arith) (omega arith))
-
-    scaled-entries : (i n : ℕ) → j ≤ i → i + n ≤ columns
-        → entries p (scaled-row p e j columns .cells) i n ≡ times K (inv (el p (cell e j))) (entries p (e .cells) i n)
-    unfolding entries
-    scaled-entries i zero h m = refl
-    scaled-entries i (suc n) h m =
-        ap₂ _∷_
-        (ap (el p) (altered-at _ j (columns - j) (e .cells) i h (omega arith) (omega arith)) ∙ el-times p (inv (el p (cell e j))) (cell e i))
-        (scaled-entries (suc i) n (omega arith) (omega arith))
-
-    -- the cell on the diagonal becomes 1
-    scaled-diagonal : j < columns → cell e j < p → ¬ (cell e j ≡ 0) → ¬ (cell (scaled-row p e j columns) j ≡ 0)
-    scaled-diagonal h b z q =
-        K .one≢0
-        (sym (K .mul-inv x (λ (y : x ≡ el p 0). z (el-zero p (cell e j) b y))) ∙ K .ring .mul-comm x (inv x) ∙ sym (el-times p (inv x) (cell e j))
-        ∙ ap (el p) (sym (altered-at _ j (columns - j) (e .cells) j (omega arith) (omega arith) (omega arith)) ∙ q))
-      where
-        x : Fp p
-        x = el p (cell e j)
-
-  -- a step of the field's table at one column
-  zero-times : (l m : List ℕ) (i n : ℕ) → plus-times K (entries p l i n) (neg (el p 0)) (entries p m i n) ≡ entries p l i n
-  unfolding entries
-  zero-times l m i zero = refl
-  zero-times l m i (suc n) =
-      ap₂ _∷_ (ring2 (K .ring) (λ a b. a ⊕ ⊝ k0 ⊗ b ≗ a) tt (el p (getD l i 0)) (el p (getD m i 0))) (zero-times l m (suc i) n)
 
   module _ (c : ℕ) (z : c ≡ 0) where
     is-zero : el p c ≡ el p 0
@@ -139,7 +93,7 @@ module _ (p : ℕ) (P : Prime p) where
     column-step-zero true T l m i n = decided-yes (K .decide (el p c)) (free (step K T (entries p l i n))) _ is-zero
     column-step-zero false T l m i n =
         ap (λ r. pivot (entries p m i n) (step K T r))
-        (ap (λ x. plus-times K (entries p l i n) (neg x) (entries p m i n)) is-zero ∙ zero-times l m i n)
+        (ap (λ x. plus-times K (entries p l i n) (neg x) (entries p m i n)) is-zero ∙ zero-times p P l m i n)
 
   module _ (c : ℕ) (b : c < p) (z : ¬ (c ≡ 0)) where
     not-zero : ¬ (el p c ≡ el p 0)
@@ -166,19 +120,12 @@ module _ (p : ℕ) (P : Prime p) where
       kept-row = getD-set-same (t .rows) i (scaled-row p e i (t .columns)) no-row (omega (arith, ready .size))
 
       kept-diagonal : ¬ (cell e i ≡ 0) → ¬ (diagonal (kept p t i e) i ≡ 0)
-      kept-diagonal z q = scaled-diagonal e i (t .columns) (ok .size) most within (ok .below i) z (ap (λ r. cell r i) (sym kept-row) ∙ q)
+      kept-diagonal z q = scaled-diagonal p P e i (t .columns) (ok .size) most within (ok .below i) z (ap (λ r. cell r i) (sym kept-row) ∙ q)
 
       kept-behind : (n : ℕ) → columns-of p (kept p t i e) (suc i) n ≡ columns-of p t (suc i) n
       kept-behind n =
           columns-same p (kept p t i e) t (suc i) n
           (λ k l. getD-set-other (t .rows) i k (scaled-row p e i (t .columns)) no-row (λ (q : k ≡ i). omega arith))
-
-      minus-ready : RowReady p (minus p e (row-at t i) i (t .columns))
-      minus-ready =
-          record {
-            size = altered-length _ i (t .columns - i) (e .cells) ∙ ok .size;
-            below = minus-below p e i (t .columns) (ok .below) (row-at t i);
-          }
 
       -- the last column
       last-step : columns-of p (insert 1 i p t e) i zero ≡ step K (columns-of p t i zero) (el p (cell e i) ∷ [])
@@ -223,17 +170,17 @@ module _ (p : ℕ) (P : Prime p) where
             column-pivot p (kept p t i e) i n (kept-diagonal z)
             ∙ ap₂ pivot
             (ap (λ x. entries p (x .cells) (suc i) (suc n)) kept-row
-            ∙ scaled-entries e i (t .columns) (ok .size) most (suc i) (suc n) (omega arith) (omega arith))
+            ∙ scaled-entries p P e i (t .columns) (ok .size) most (suc i) (suc n) (omega arith) (omega arith))
             (kept-behind n)
             ∙ sym (ap (λ U. step K U (el p (cell e i) ∷ r)) (column-free p t i n y) ∙ free-step (cell e i) (ok .below i) z T r)
 
         at-kept : ¬ (diagonal t i ≡ 0) → Goal (insert (suc n) (suc i) p t (minus p e (row-at t i) i (t .columns)))
         at-kept y =
             let f = minus p e (row-at t i) i (t .columns) in
-            same-row (insert (suc n) (suc i) p t f) i n _ (insert-before (suc n) (suc i) p t f i (omega arith)) (later f minus-ready)
+            same-row (insert (suc n) (suc i) p t f) i n _ (insert-before (suc n) (suc i) p t f i (omega arith)) (later f (minus-ready p e (row-at t i) i (t .columns) ok))
             ∙ ap (λ b. column b q (step K T (entries p (f .cells) (suc i) (suc n)))) (ne-eqb (diagonal t i) 0 y)
             ∙ ap (λ s. pivot q (step K T s))
-            (minus-entries e i (t .columns) (ok .size) most (row-at t i) (ok .below i) (suc i) (suc n) (omega arith) (omega arith))
+            (minus-entries p P e i (t .columns) (ok .size) most (row-at t i) (ok .below i) (suc i) (suc n) (omega arith) (omega arith))
             ∙ sym (ap (λ U. step K U (el p (cell e i) ∷ r)) (column-pivot p t i n y))
 
         column-step : Goal (insert (suc (suc n)) i p t e)

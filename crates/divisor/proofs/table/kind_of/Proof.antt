@@ -3,7 +3,7 @@ use mathlib.Core.Path.{_≡_, refl, sym, ap, _∙_}
 use Prim.Native.Nat.{ℕ, _+_, _-_, _<_, _≤_}
 use native.Mathlib.Omega.{arith}
 use Rattle.divisor.specs.TableModel.{kind, kind-from}
-use Rattle.divisor.specs.TableSteps.{kind-none, kind-some, kind-several, kind-turn, kind-one}
+use Rattle.divisor.specs.TableTurns.{kind-none, kind-some, kind-several, kind-turn, kind-one}
 use borrow.Author.Needs.{needs}
 use Rattle.divisor.proofs.table.kind_of.Statement.{statement}
 use Rattle.divisor.proofs.table.kind_of.Tie as tie

@@ -1,12 +1,12 @@
 use lib.ListN.{set}
 use Rattle.field.specs.ModuliLaws.{listed-prime}
 use Rattle.field.specs.Fp.{el, inv}
-use Rattle.divisor.specs.TableNumbers.{inverse-val}
+use Rattle.field.specs.Link.{inverse-val}
 use mathlib.Core.Path.{_≡_, refl, sym, ap, _∙_}
 use Prim.Native.Nat.{ℕ, _+_, _-_, _*_, _%_, _<_, _≤_}
 use native.Mathlib.Omega.{arith}
 use Rattle.divisor.specs.TableModel.{cell, altered}
-use Rattle.divisor.specs.TableSteps.{altered-turn, altered-end}
+use Rattle.divisor.specs.TableTurns.{altered-turn, altered-end}
 use borrow.Author.Needs.{needs}
 use Rattle.divisor.proofs.table.scaled.Statement.{statement}
 use Rattle.divisor.proofs.table.scaled.Tie as tie

@@ -3,7 +3,7 @@ use mathlib.Core.Path.{_≡_, refl, sym, ap, _∙_}
 use Prim.Native.Nat.{ℕ, _+_, _-_, _*_, _%_, _<_, _≤_}
 use native.Mathlib.Omega.{arith}
 use Rattle.divisor.specs.TableModel.{cell, altered}
-use Rattle.divisor.specs.TableSteps.{altered-turn, altered-end}
+use Rattle.divisor.specs.TableTurns.{altered-turn, altered-end}
 use borrow.Author.Needs.{needs}
 use Rattle.divisor.proofs.table.subtract.Statement.{statement}
 use Rattle.divisor.proofs.table.subtract.Tie as tie

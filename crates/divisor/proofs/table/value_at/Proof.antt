@@ -3,7 +3,7 @@ use mathlib.Core.Path.{_≡_, refl, sym, ap, _∙_, subst}
 use Prim.Native.Nat.{ℕ, _+_, _-_, _*_, _%_, _<_, _≤_}
 use native.Mathlib.Omega.{arith}
 use Rattle.divisor.specs.TableModel.{cell, total}
-use Rattle.divisor.specs.TableSteps.{total-turn, total-end}
+use Rattle.divisor.specs.TableTurns.{total-turn, total-end}
 use borrow.Author.Needs.{needs}
 use Rattle.divisor.proofs.table.value_at.Statement.{statement}
 use Rattle.divisor.proofs.table.value_at.Tie as tie

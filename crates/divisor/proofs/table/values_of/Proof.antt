@@ -3,7 +3,7 @@ use Prim.Native.Nat.{ℕ, _+_, _-_, _<_, _≤_}
 use native.Mathlib.Omega.{arith}
 use lib.ListN.{set}
 use Rattle.divisor.specs.TableModel.{zeros, back}
-use Rattle.divisor.specs.TableSteps.{back-turn, back-end}
+use Rattle.divisor.specs.TableTurns.{back-turn, back-end}
 use borrow.Author.Needs.{needs}
 use Rattle.divisor.proofs.table.values_of.Statement.{statement}
 use Rattle.divisor.proofs.table.values_of.Tie as tie

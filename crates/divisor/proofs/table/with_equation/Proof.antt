@@ -5,7 +5,7 @@ use native.Mathlib.Nat.{sub-zero}
 use native.Mathlib.Omega.{arith}
 use lib.ListN.{set}
 use Rattle.divisor.specs.TableModel.{cell, row-at, insert, with-row, minus, Column}
-use Rattle.divisor.specs.TableSteps.{insert-skip, insert-kept, insert-minus, insert-end}
+use Rattle.divisor.specs.TableTurns.{insert-skip, insert-kept, insert-minus, insert-end}
 use Rattle.divisor.specs.TableRows.{minus-below}
 use borrow.Author.Needs.{needs}
 use Rattle.divisor.proofs.table.with_equation.Statement.{statement}
