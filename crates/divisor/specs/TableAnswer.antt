@@ -1,6 +1,6 @@
 -- The table's answer is right: for equations of n unknowns, taken one after the other into the empty table, `None` says that there is no solution,
 -- `One` that the values are the only one, and `Several` that there are two different ones. Assumes nothing.
-use mathlib.Core.Path.{_≡_, refl, sym, ap, ap₂, _∙_, subst}
+use mathlib.Core.Path.{_≡_, refl, sym, ap, _∙_, subst}
 use mathlib.Core.Bool.{Bool, true, false, not, true≢false}
 use mathlib.Core.List.{List, [], _∷_, _++_}
 use Prim.Native.Nat.{ℕ, zero, suc, _+_, _-_, _<_, _≤_}
@@ -8,7 +8,7 @@ use native.Mathlib.Decide.{ℕ-discrete}
 use native.Mathlib.Omega.{arith}
 use lib.Dec.{eqb}
 use Rattle.algebra.specs.Field.{Field}
-use Rattle.algebra.specs.Linear.{Table as Equations, solvable, failed, free, pivot, fresh, has-failed, has-free, none, one, several, OnlySolution, Meets, step, steps, solution, answer, solve}
+use Rattle.algebra.specs.Linear.{Table as Equations, free, fresh, has-failed, has-free, none, one, several, OnlySolution, Meets, steps, solution, answer}
 use Rattle.algebra.specs.LinearLaws.{solve-meets}
 use Rattle.field.specs.Moduli.{Listed}
 use Rattle.field.specs.Prime.{Prime}
@@ -18,9 +18,8 @@ use Rattle.divisor.specs.declared.table.Row.{Row}
 use Rattle.divisor.specs.declared.table.Table.{Table}
 use Rattle.divisor.specs.declared.table.Kind.{Kind}
 use Rattle.divisor.specs.declared.table.Kind.the-variants.{None, One, Several}
-use Rattle.divisor.specs.declared.table.Solved.{Solved}
-use Rattle.divisor.specs.TableModel.{row-at, diagonal, empty-table, with-row, kind-from, kind, values, zeros, solved-as, solved, Columns, RowReady, TableReady}
-use Rattle.divisor.specs.TableMeaning.{entries, column, last-column, columns-of, row-of, table-of, added, rows-of, AllReady, Says}
+use Rattle.divisor.specs.TableModel.{COLUMNS, row-at, diagonal, empty-table, with-row, kind-from, kind, values, solved-as, solved, TableReady}
+use Rattle.divisor.specs.TableMeaning.{entries, column, last-column, columns-of, table-of, added, rows-of, AllReady, Says}
 use Rattle.divisor.specs.TableStep.{column-free, column-pivot, last-solvable, table-step}
 use Rattle.divisor.specs.TableKept.{empty-cell, empty-ready, with-row-ready, with-row-columns}
 use Rattle.divisor.specs.TableSolution.{values-solve}
@@ -143,7 +142,7 @@ module _ (p : ℕ) (P : Prime p) where
       ∙ ap (λ u. steps K u (rows-of p n es)) (table-step p P t ready n e (ok .0) size)
 
   -- equations of n unknowns, one after the other, and the answer
-  pub table-answers : (n : ℕ) → n < 64 → (es : List Row) → Listed p → AllReady p es
+  pub table-answers : (n : ℕ) → n < COLUMNS → (es : List Row) → Listed p → AllReady p es
       → let s = solved p (added p (empty-table (suc n)) es) in Says p P n es (s .kind) (s .values)
   table-answers n most es listed ok =
       let ready = empty-ready p (suc n) listed (record { some = omega arith; most = omega arith }) in

@@ -1,22 +1,21 @@
 -- The empty table is ready, and a step keeps the table ready for the next equation, with as many columns as it had. Assumes nothing.
 use mathlib.Core.Path.{_≡_, refl, _∙_}
 use mathlib.Core.Bool.{Bool, true, false}
-use mathlib.Core.List.{List, [], _∷_}
 use Prim.Native.Nat.{ℕ, zero, suc, _<_, _≤_}
 use native.Mathlib.Omega.{arith}
 use lib.Dec.{eqb}
-use lib.ListN.{length, getD, set, replicate, length-set}
+use lib.ListN.{length-set}
 use Rattle.field.specs.Moduli.{Listed}
 use Rattle.field.specs.ModuliLaws.{listed-positive}
 use Rattle.divisor.specs.declared.table.Row.{Row}
 use Rattle.divisor.specs.declared.table.Table.{Table}
-use Rattle.divisor.specs.TableModel.{no-row, row-at, cell, diagonal, zeros, empty-table, altered, minus, scaled-row, kept, insert, with-row, Columns, RowReady, TableReady}
+use Rattle.divisor.specs.TableModel.{COLUMNS, no-row, row-at, cell, diagonal, zeros, empty-table, minus, scaled-row, kept, insert, with-row, Columns, RowReady, TableReady}
 use Rattle.divisor.specs.TableRows.{replicate-all, set-all, minus-ready, scaled-below}
 
 -- every cell of the empty table is 0
 pub empty-cell : (columns i k : ℕ) → cell (row-at (empty-table columns) i) k ≡ 0
 empty-cell columns i k =
-    replicate-all (λ r. cell r k ≡ 0) 64 i (record { cells = zeros }) no-row (replicate-all (λ a. a ≡ 0) 64 k 0 0 refl refl) refl
+    replicate-all (λ r. cell r k ≡ 0) COLUMNS i (record { cells = zeros }) no-row (replicate-all (λ a. a ≡ 0) COLUMNS k 0 0 refl refl) refl
 
 pub empty-ready : (p columns : ℕ) → Listed p → Columns columns → TableReady p (empty-table columns)
 empty-ready p columns listed fit =
@@ -50,7 +49,7 @@ insert-all p t Q R next here (suc n) j there e ok =
     go : (b d : Bool) → ((f : Row) → R f → Q (insert n (suc j) p t f))
         → Q
         (elim b [
-            true ↦ insert n (suc j) p t e
+          | true ↦ insert n (suc j) p t e
           | false ↦ elim d [ true ↦ kept p t j e | false ↦ insert n (suc j) p t (minus p e (row-at t j) j (t .columns)) ]
         ])
     go true d later = later e ok

@@ -2,26 +2,26 @@
 use mathlib.Core.Path.{_≡_, refl, sym, ap, ap₂, _∙_, subst}
 use mathlib.Core.Bool.{Bool, true, false}
 use mathlib.Core.List.{List, [], _∷_}
-use Prim.Native.Nat.{ℕ, zero, suc, _+_, _-_, _*_, _%_, _<_, _≤_}
+use Prim.Native.Nat.{ℕ, zero, suc, _+_, _-_, _*_, _%_, _<_}
 use native.Mathlib.Numerals.{add-one}
 use native.Mathlib.Nat.{add-zero, le-of-lt, mod-lt}
 use native.Mathlib.Omega.{arith}
 use lib.Dec.{eqb}
 use lib.ListN.{length, getD, set, length-set}
-use lib.Seq.{getD-set-same, getD-set-other}
+use lib.Seq.{getD-set-same}
 use Rattle.algebra.specs.Ring.{add-cancel}
 use Rattle.algebra.specs.Field.{Field}
-use Rattle.algebra.specs.Linear.{pivot, eval, before, solution}
+use Rattle.algebra.specs.Linear.{eval, before, solution}
 use Rattle.field.specs.ModuliLaws.{listed-positive}
 use Rattle.field.specs.Prime.{Prime}
 use Rattle.field.specs.PrimeLaws.{prime-positive}
-use Rattle.field.specs.Fp.{Fp, el, add, mul, neg}
-use Rattle.field.specs.FpLaws.{el-mod, el-add, el-mul}
+use Rattle.field.specs.Fp.{el, add, neg}
+use Rattle.field.specs.FpLaws.{el-mod}
 use Rattle.field.specs.Link.{plus-times-el, opposite-el}
 use Rattle.field.specs.Modulo.{Modulo}
 use Rattle.divisor.specs.declared.table.Row.{Row}
 use Rattle.divisor.specs.declared.table.Table.{Table}
-use Rattle.divisor.specs.TableModel.{row-at, cell, diagonal, total, value, back, values, zeros, TableReady}
+use Rattle.divisor.specs.TableModel.{COLUMNS, row-at, cell, diagonal, total, value, back, values, zeros, TableReady}
 use Rattle.divisor.specs.TableEntries.{entries-set}
 use Rattle.divisor.specs.TableRows.{replicate-all, set-all}
 use Rattle.divisor.specs.TableMeaning.{entries, last-column, columns-of, table-of}
@@ -67,7 +67,7 @@ module _ (p : ℕ) (P : Prime p) where
         (ap₂ (λ m i. el p (total m i p (row-at t j) v (cell (row-at t j) n))) left (add-one j) ∙ total-is-value (row-at t j) v n k (suc j) h)
 
     -- one more unknown before those that are known
-    unknown-solves : (v : List ℕ) (j k : ℕ) → suc j + k ≡ n → length v ≡ 64 → ¬ (diagonal t j ≡ 0)
+    unknown-solves : (v : List ℕ) (j k : ℕ) → suc j + k ≡ n → length v ≡ COLUMNS → ¬ (diagonal t j ≡ 0)
         → entries p v (suc j) k ≡ solution K (el p 0) (columns-of p t (suc j) k)
         → entries p (set v j (value p (row-at t j) v j (t .columns - 1))) j (suc k) ≡ solution K (el p 0) (columns-of p t j (suc k))
     unfolding entries
@@ -77,7 +77,7 @@ module _ (p : ℕ) (P : Prime p) where
         ∙ ap (before K (entries p (row-at t j .cells) (suc j) (suc k))) known
         ∙ sym (ap (solution K (el p 0)) (column-pivot p t j k full))
 
-    back-solves : ((i : ℕ) → i < n → ¬ (diagonal t i ≡ 0)) → (j k : ℕ) (v : List ℕ) → j + k ≡ n → length v ≡ 64
+    back-solves : ((i : ℕ) → i < n → ¬ (diagonal t i ≡ 0)) → (j k : ℕ) (v : List ℕ) → j + k ≡ n → length v ≡ COLUMNS
         → entries p v j k ≡ solution K (el p 0) (columns-of p t j k) → entries p (back j p t v) 0 n ≡ solution K (el p 0) (table-of p n t)
     unfolding back
     back-solves full zero k v h s known =
@@ -109,4 +109,4 @@ back-below p h t (suc j) v b k =
 pub values-below : (p : ℕ) (t : Table) → TableReady p t → (k : ℕ) → getD (values p t) k 0 < p
 values-below p t ready =
     let positive : 0 < p = listed-positive (ready .listed) in
-    back-below p positive t (t .columns - 1) zeros (λ k. replicate-all (λ a. a < p) 64 k 0 0 positive positive)
+    back-below p positive t (t .columns - 1) zeros (λ k. replicate-all (λ a. a < p) COLUMNS k 0 0 positive positive)

@@ -1,27 +1,21 @@
 -- A step of the model is a step of algebra's table, and keeps the table ready for the next. Assumes nothing.
-use mathlib.Core.Path.{_≡_, refl, sym, ap, ap₂, _∙_, subst}
+use mathlib.Core.Path.{_≡_, refl, sym, ap, ap₂, _∙_}
 use mathlib.Core.Bool.{Bool, true, false}
 use mathlib.Core.List.{List, [], _∷_}
-use Prim.Native.Nat.{ℕ, zero, suc, _+_, _-_, _*_, _%_, _<_, _≤_}
+use Prim.Native.Nat.{ℕ, zero, suc, _+_, _<_, _≤_}
 use native.Mathlib.Decide.{ℕ-discrete}
-use native.Mathlib.Nat.{zero-add}
 use native.Mathlib.Omega.{arith}
 use lib.Dec.{eqb}
 use borrow.Author.Tests.{eq-eqb, ne-eqb}
-use lib.ListN.{length, getD, set, length-set}
 use lib.Seq.{getD-set-same, getD-set-other}
-use Rattle.algebra.specs.Ring.{CommRing}
 use Rattle.algebra.specs.Field.{Field}
-use Rattle.algebra.specs.Solver.{_⊕_, _⊗_, ⊝, _≗_, k0, ring2}
 use Rattle.algebra.specs.Linear.{Table as Equations, solvable, failed, free, pivot, times, plus-times, step}
 use Rattle.field.specs.Prime.{Prime}
-use Rattle.field.specs.Moduli.{Listed}
-use Rattle.field.specs.ModuliLaws.{listed-prime}
 use Rattle.field.specs.Fp.{Fp, el, neg, inv}
 use Rattle.field.specs.Modulo.{Modulo}
 use Rattle.divisor.specs.declared.table.Row.{Row}
 use Rattle.divisor.specs.declared.table.Table.{Table}
-use Rattle.divisor.specs.TableModel.{no-row, row-at, cell, diagonal, minus, scaled-row, kept, insert, with-row, RowReady, TableReady, Ready}
+use Rattle.divisor.specs.TableModel.{COLUMNS, no-row, row-at, cell, diagonal, minus, scaled-row, kept, insert, with-row, RowReady, TableReady}
 use Rattle.divisor.specs.TableRows.{minus-ready}
 use Rattle.divisor.specs.TableKept.{insert-all}
 use Rattle.divisor.specs.TableTurns.{insert-at-zero, insert-at-free, insert-at-kept}
@@ -113,7 +107,7 @@ module _ (p : ℕ) (P : Prime p) where
     same-row u i n T same behind = ap₂ (λ r rest. column (eqb (cell r i) 0) (entries p (r .cells) (suc i) (suc n)) rest) same behind
 
     module _ (e : Row) (ok : RowReady p e) (i : ℕ) (within : i < t .columns) where
-      most : t .columns ≤ 64
+      most : t .columns ≤ COLUMNS
       most = ready .columns .most
 
       kept-row : row-at (kept p t i e) i ≡ scaled-row p e i (t .columns)
