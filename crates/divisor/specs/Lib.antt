@@ -5,6 +5,11 @@ pub mod Demands
 pub mod Models
 pub mod Laws
 pub mod TableModel
-pub mod TableNumbers
+pub mod TableTurns
 pub mod TableRows
-pub mod TableSteps
+pub mod TableKept
+pub mod TableMeaning
+pub mod TableEntries
+pub mod TableStep
+pub mod TableSolution
+pub mod TableAnswer

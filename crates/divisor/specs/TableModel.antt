@@ -13,6 +13,10 @@ use Rattle.divisor.specs.declared.table.Kind.{Kind}
 use Rattle.divisor.specs.declared.table.Kind.the-variants.{None, One, Several}
 use Rattle.divisor.specs.declared.table.Solved.{Solved}
 
+-- 63 unknowns and the last one
+abbrev pub COLUMNS : ℕ
+COLUMNS = 64
+
 abbrev pub no-row : Row
 no-row = record { cells = [] }
 
@@ -26,10 +30,10 @@ abbrev pub diagonal : Table → ℕ → ℕ
 diagonal t j = cell (row-at t j) j
 
 abbrev pub zeros : List ℕ
-zeros = replicate 64 0
+zeros = replicate COLUMNS 0
 
 abbrev pub empty-table : ℕ → Table
-empty-table columns = record { rows = replicate 64 (record { cells = zeros }); columns = columns }
+empty-table columns = record { rows = replicate COLUMNS (record { cells = zeros }); columns = columns }
 
 -- n places from i on, each with what g makes of the place and of what stood there
 unfoldable pub altered : (ℕ → ℕ → ℕ) → ℕ → ℕ → List ℕ → List ℕ
@@ -102,17 +106,17 @@ solved p t = solved-as (kind t) p t
 -- at most 63 unknowns, and the last column
 pub record Columns (n : ℕ) : Type 0 where
   pub some : 0 < n
-  pub most : n ≤ 64
+  pub most : n ≤ COLUMNS
 
 -- an equation's row of numbers below p
 pub record RowReady (p : ℕ) (e : Row) : Type 0 where
-  pub size : length (e .cells) ≡ 64
+  pub size : length (e .cells) ≡ COLUMNS
   pub below : (k : ℕ) → cell e k < p
 
 pub record TableReady (p : ℕ) (t : Table) : Type 0 where
   pub listed : Listed p
   pub columns : Columns (t .columns)
-  pub size : length (t .rows) ≡ 64
+  pub size : length (t .rows) ≡ COLUMNS
   pub below : (i k : ℕ) → cell (row-at t i) k < p
 
 -- what a step asks for
@@ -126,11 +130,11 @@ pub record Column (p : ℕ) (e : Row) (j columns : ℕ) : Type 0 where
   pub below : cell e j < p
   pub nonzero : 0 < cell e j
   pub within : j < columns
-  pub most : columns ≤ 64
+  pub most : columns ≤ COLUMNS
 
 -- what the value of an unknown asks for
 pub record Back (p : ℕ) (e : Row) (j last : ℕ) : Type 0 where
   pub listed : Listed p
   pub below : cell e last < p
   pub within : j < last
-  pub most : last < 64
+  pub most : last < COLUMNS

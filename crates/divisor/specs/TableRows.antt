@@ -5,10 +5,10 @@ use Prim.Native.Nat.{ℕ, zero, suc, _+_, _-_, _<_, _≤_}
 use native.Mathlib.Decide.{ℕ-discrete}
 use native.Mathlib.Nat.{mod-lt}
 use native.Mathlib.Omega.{arith}
-use lib.ListN.{length, getD, set, length-set}
+use lib.ListN.{length, getD, set, replicate, length-set}
 use lib.Seq.{getD-set-same, getD-set-other}
 use Rattle.divisor.specs.declared.table.Row.{Row}
-use Rattle.divisor.specs.TableModel.{cell, altered, minus, scaled-row}
+use Rattle.divisor.specs.TableModel.{cell, altered, minus, scaled-row, RowReady}
 
 pub set-all : {A : Type 0} (P : A → Type 0) (l : List A) (i k : ℕ) (a d : A) → P a → P (getD l k d) → P (getD (set l i a) k d)
 set-all P [] i k a d new old = old
@@ -16,6 +16,11 @@ set-all P (x ∷ l) zero zero a d new old = new
 set-all P (x ∷ l) zero (suc k) a d new old = old
 set-all P (x ∷ l) (suc i) zero a d new old = old
 set-all P (x ∷ l) (suc i) (suc k) a d new old = set-all P l i k a d new old
+
+pub replicate-all : {A : Type 0} (P : A → Type 0) (n i : ℕ) (a d : A) → P a → P d → P (getD (replicate n a) i d)
+replicate-all P zero i a d pa pd = pd
+replicate-all P (suc n) zero a d pa pd = pa
+replicate-all P (suc n) (suc i) a d pa pd = replicate-all P n i a d pa pd
 
 module _ (g : ℕ → ℕ → ℕ) where
   pub altered-length : (i n : ℕ) (l : List ℕ) → length (altered g i n l) ≡ length l
@@ -65,3 +70,11 @@ module _ (p : ℕ) (e : Row) (j columns : ℕ) (below : (k : ℕ) → cell e k <
 
   pub scaled-below : (k : ℕ) → cell (scaled-row p e j columns) k < p
   scaled-below = altered-all _ (λ a. a < p) (λ k a. mod-lt _ positive) j (columns - j) (e .cells) below
+
+-- an equation stays one
+pub minus-ready : (p : ℕ) (e d : Row) (j columns : ℕ) → RowReady p e → RowReady p (minus p e d j columns)
+minus-ready p e d j columns ok =
+    record {
+      size = altered-length _ j (columns - j) (e .cells) ∙ ok .size;
+      below = minus-below p e j columns (ok .below) d;
+    }

@@ -5,13 +5,16 @@ ghost use Rattle.divisor.specs.TableModel.{Columns, Column, Back, TableR
 use field::Element;
 use field::Number;
 
+// 63 unknowns and the last one.
+pub const COLUMNS: usize = 64;
+
 pub struct Row {
-    pub cells: [Number; 64],
+    pub cells: [Number; COLUMNS],
 }
 
 // `columns` is one more than the number of unknowns.
 pub struct Table {
-    pub rows: [Row; 64],
+    pub rows: [Row; COLUMNS],
     pub columns: usize,
 }
 
@@ -24,22 +27,24 @@ pub enum Kind {
 // The values of the unknowns where there is one solution, and zeros behind them; zeros otherwise.
 pub struct Solved {
     pub kind: Kind,
-    pub values: [Number; 64],
+    pub values: [Number; COLUMNS],
 }
 
 impl Table {
     pub fn empty(columns: usize) -> Table
         ensures { λ r. ⌜ r ≡ empty-table columns ⌝ }
     {
-        let row = Row { cells: [0; 64] };
+        let row = Row {
+            cells: [0; COLUMNS],
+        };
         Table {
-            rows: [row; 64],
+            rows: [row; COLUMNS],
             columns,
         }
     }
 }
 
-// The row less the multiple of the pivot's row that makes its cell in column j 0. Before column j both have zeros.
+// The row less the multiple of the pivot's row that makes its cell in column j 0. Before column j both have zeros, and nothing changes there.
 fn subtract(row: Row, pivot: Row, j: usize, columns: usize, p: Number) -> Row
     requires { ⌜ Column p row j columns ⌝ }
     ensures { λ r. ⌜ r ≡ minus p row pivot j columns ⌝ }
@@ -137,7 +142,7 @@ fn kind_of(t: Table) -> Kind
 }
 
 // The unknown of column j, by its row, from the values of those behind it; the last one is 1.
-fn value_at(row: Row, values: [Number; 64], j: usize, last: usize, p: Number) -> Number
+fn value_at(row: Row, values: [Number; COLUMNS], j: usize, last: usize, p: Number) -> Number
     requires { ⌜ Back p row j last ⌝ }
     ensures { λ r. ⌜ r ≡ value p row values j last ⌝ }
 {
@@ -151,12 +156,12 @@ fn value_at(row: Row, values: [Number; 64], j: usize, last: usize, p: Number) ->
 }
 
 // Back substitution, from the last unknown to the first.
-fn values_of(t: Table, p: Number) -> [Number; 64]
+fn values_of(t: Table, p: Number) -> [Number; COLUMNS]
     requires { ⌜ TableReady p t ⌝ }
     ensures { λ r. ⌜ r ≡ values p t ⌝ }
 {
     let last = t.columns - 1;
-    let mut values: [Number; 64] = [0; 64];
+    let mut values: [Number; COLUMNS] = [0; COLUMNS];
     let mut j = last;
     while j > 0 {
         j -= 1;
@@ -171,7 +176,7 @@ pub fn solution(t: Table, p: Number) -> Solved
     ensures { λ r. ⌜ r ≡ solved p t ⌝ }
 {
     let kind = kind_of(t);
-    let zeros: [Number; 64] = [0; 64];
+    let zeros: [Number; COLUMNS] = [0; COLUMNS];
     match kind {
         Kind::None => Solved {
             kind: Kind::None,

@@ -1,14 +1,13 @@
+-- `divisor::table::kind_of` meets its contract. The loop's invariant: the kind by the columns from j on is the table's. The measure is the number of columns
+-- left before the last. Assumes nothing.
 use native.Mathlib.Nat.{sub-zero}
-use mathlib.Core.Path.{_≡_, refl, sym, ap, _∙_}
-use Prim.Native.Nat.{ℕ, _+_, _-_, _<_, _≤_}
-use native.Mathlib.Omega.{arith}
+use mathlib.Core.Path.{_≡_, sym, ap, _∙_}
+use Prim.Native.Nat.{_-_, _≤_}
 use Rattle.divisor.specs.TableModel.{kind, kind-from}
-use Rattle.divisor.specs.TableSteps.{kind-none, kind-some, kind-several, kind-turn, kind-one}
+use Rattle.divisor.specs.TableTurns.{kind-none, kind-some, kind-several, kind-turn, kind-one}
 use borrow.Author.Needs.{needs}
 use Rattle.divisor.proofs.table.kind_of.Statement.{statement}
 use Rattle.divisor.proofs.table.kind_of.Tie as tie
-use Rattle.divisor.proofs.table.kind_of.Reads as reads
-use Rattle.divisor.proofs.table.kind_of.Lts as lts
 
 abbrev Inv-loop : tie.InvT-loop
 Inv-loop t last j₀ j = (j ≤ last) × (kind-from (last - j) j t ≡ kind t)
@@ -16,75 +15,59 @@ Inv-loop t last j₀ j = (j ≤ last) × (kind-from (last - j) j t ≡ kind t)
 abbrev μ-loop : tie.MeasureT-loop
 μ-loop t last j₀ j = last - j
 
--- src/table.rt:123:16
 sub-last : tie.Need-sub-last Inv-loop μ-loop
 sub-last c = search needs
 
--- src/table.rt:124:15
 mul-end : tie.Need-mul-end Inv-loop μ-loop
 mul-end c = search needs
 
--- src/table.rt:124:15
 element-copy-out-end : tie.Need-element-copy-out-end Inv-loop μ-loop
 element-copy-out-end c = search needs
 
--- src/table.rt:125:8
 mul-if1 : tie.Need-mul-if1 Inv-loop μ-loop
 mul-if1 c = search needs
 
--- src/table.rt:125:8
 element-copy-out-if1 : tie.Need-element-copy-out-if1 Inv-loop μ-loop
 element-copy-out-if1 c = search needs
 
--- src/table.rt:126:9
 returns : tie.Need-returns Inv-loop μ-loop
 returns c = sym (kind-none (c .before .before .before .args .t1) (c .if1 .taken))
 
--- src/table.rt:129:5
 loop-holds : tie.Need-loop-holds Inv-loop μ-loop
 loop-holds c =
     let t = c .before .before .before .args .t1 in
     (search needs, ap (λ n. kind-from n 0 t) (sub-zero (t .columns - 1)) ∙ sym (kind-some t (c .if1 .left)))
 
--- src/table.rt:130:19
 mul-row : tie.Need-mul-row Inv-loop μ-loop
 mul-row c = search needs
 
--- src/table.rt:130:19
 element-copy-out-row : tie.Need-element-copy-out-row Inv-loop μ-loop
 element-copy-out-row c = search needs
 
--- src/table.rt:131:12
 mul-if2 : tie.Need-mul-if2 Inv-loop μ-loop
 mul-if2 c = search needs
 
--- src/table.rt:131:12
 element-copy-out-if2 : tie.Need-element-copy-out-if2 Inv-loop μ-loop
 element-copy-out-if2 c = search needs
 
--- src/table.rt:132:13
 returns-2 : tie.Need-returns-2 Inv-loop μ-loop
 returns-2 c =
     let at = c .before .before .before .before in
     let t = at .before .before .before .before .args .t1 in
     sym (kind-several t (at .loop .j) (t .columns - 1) (c .before .before .before .loop-test .taken) (c .if2 .taken)) ∙ at .loop .inv .1
 
--- src/table.rt:134:9
 add-j : tie.Need-add-j Inv-loop μ-loop
 add-j c = search needs
 
--- src/table.rt:129:5
 loop-less : tie.Need-loop-less Inv-loop μ-loop
 loop-less c = search needs
 
--- src/table.rt:129:5
 loop-again : tie.Need-loop-again Inv-loop μ-loop
 loop-again c =
     let at = c .before .before .before .before in
     let t = at .before .before .before .before .args .t1 in
     (search needs, sym (kind-turn t (at .loop .j) (t .columns - 1) (c .before .before .before .loop-test .taken) (c .if2 .left)) ∙ at .loop .inv .1)
 
--- src/table.rt:119:1
 returns-3 : tie.Need-returns-3 Inv-loop μ-loop
 returns-3 c =
     let at = c .before in

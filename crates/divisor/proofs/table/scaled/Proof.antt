@@ -1,19 +1,16 @@
+-- `divisor::table::scaled` meets its contract. The loop's invariant is that of `subtract`, with the row times the inverse, which is the field's by the
+-- link of `field`. The measure is the number of columns left. Assumes nothing.
 use lib.ListN.{set}
 use Rattle.field.specs.ModuliLaws.{listed-prime}
 use Rattle.field.specs.Fp.{el, inv}
-use Rattle.divisor.specs.TableNumbers.{inverse-val}
-use mathlib.Core.Path.{_≡_, refl, sym, ap, _∙_}
-use Prim.Native.Nat.{ℕ, _+_, _-_, _*_, _%_, _<_, _≤_}
-use native.Mathlib.Omega.{arith}
+use Rattle.field.specs.Link.{inverse-val}
+use mathlib.Core.Path.{_≡_, sym, ap, _∙_}
+use Prim.Native.Nat.{ℕ, _+_, _-_, _*_, _%_, _≤_}
 use Rattle.divisor.specs.TableModel.{cell, altered}
-use Rattle.divisor.specs.TableSteps.{altered-turn, altered-end}
+use Rattle.divisor.specs.TableTurns.{altered-turn, altered-end}
 use borrow.Author.Needs.{needs}
 use Rattle.divisor.proofs.table.scaled.Statement.{statement}
 use Rattle.divisor.proofs.table.scaled.Tie as tie
-use Rattle.divisor.proofs.table.scaled.Reads as reads
-use Rattle.divisor.proofs.table.scaled.Lts as lts
-use Rattle.field.proofs.Element.inverse.Reads as inverse-reads
-use Rattle.field.proofs.times.Reads as times-reads
 
 abbrev Inv-loop : tie.InvT-loop
 Inv-loop j columns p r₀ factor i₀ r i = (i ≤ columns) × (altered (λ k a. factor * a % p) i (columns - i) (r .cells) ≡ altered (λ k a. factor * a % p) j (columns - j) (r₀ .cells))
@@ -21,51 +18,39 @@ Inv-loop j columns p r₀ factor i₀ r i = (i ≤ columns) × (altered (λ k a.
 abbrev μ-loop : tie.MeasureT-loop
 μ-loop j columns p r₀ factor i₀ r i = columns - i
 
--- src/table.rt:65:16
 mul-t10 : tie.Need-mul-t10 Inv-loop μ-loop
 mul-t10 c = search needs
 
--- src/table.rt:65:16
 element-copy-out-t13 : tie.Need-element-copy-out-t13 Inv-loop μ-loop
 element-copy-out-t13 c = search needs
 
--- src/table.rt:67:9
 inverse-requires : tie.Need-inverse-requires Inv-loop μ-loop
 inverse-requires c κs = search needs
 
--- src/table.rt:70:5
 loop-holds : tie.Need-loop-holds Inv-loop μ-loop
 loop-holds c = search needs
 
--- src/table.rt:71:46
 mul-times : tie.Need-mul-times Inv-loop μ-loop
 mul-times c = search needs
 
--- src/table.rt:71:46
 element-copy-out-times : tie.Need-element-copy-out-times Inv-loop μ-loop
 element-copy-out-times c = search needs
 
--- src/table.rt:71:22
 times-requires : tie.Need-times-requires Inv-loop μ-loop
 times-requires c κs = search needs
 
--- src/table.rt:71:9
 mul-r : tie.Need-mul-r Inv-loop μ-loop
 mul-r c = search needs
 
--- src/table.rt:71:9
 element-write-r : tie.Need-element-write-r Inv-loop μ-loop
 element-write-r c = search needs
 
--- src/table.rt:72:9
 add-i : tie.Need-add-i Inv-loop μ-loop
 add-i c = search needs
 
--- src/table.rt:70:5
 loop-less : tie.Need-loop-less Inv-loop μ-loop
 loop-less c = search needs
 
--- src/table.rt:70:5
 loop-again : tie.Need-loop-again Inv-loop μ-loop
 loop-again c =
     let at = c .before .before .before in
@@ -76,7 +61,6 @@ loop-again c =
           ∙ sym (altered-turn g (at .loop .i) (a .columns) (at .loop .r .cells) (c .before .before .loop-test .taken)) ∙ at .loop .inv .1,
     )
 
--- src/table.rt:58:1
 returns : tie.Need-returns Inv-loop μ-loop
 returns c =
     let at = c .before in

@@ -1,3 +1,4 @@
+-- `divisor::table::solution` meets its contract: the kind is the table's, and in its arm the values are those that the model has for it. Assumes nothing.
 use mathlib.Core.Path.{_≡_, sym, ap, _∙_}
 use Rattle.divisor.specs.declared.table.Kind.{Kind}
 use Rattle.divisor.specs.declared.table.Kind.the-variants.{One}
@@ -5,44 +6,32 @@ use Rattle.divisor.specs.TableModel.{solved-as, solved}
 use borrow.Author.Needs.{needs}
 use Rattle.divisor.proofs.table.solution.Statement.{statement}
 use Rattle.divisor.proofs.table.solution.Tie as tie
-use Rattle.divisor.proofs.table.solution.Reads as reads
-use Rattle.divisor.proofs.table.solution.Lts as lts
-use Rattle.divisor.proofs.table.kind_of.Reads as kind-of-reads
-use Rattle.divisor.proofs.table.values_of.Reads as values-of-reads
 
 -- the answer by the kind that was found
 told : (c : tie.After-kind-of) {k : Kind} → c .kind-of .result ≡ k → solved-as k (c .before .args .p) (c .before .args .t) ≡ solved (c .before .args .p) (c .before .args .t)
 told c e = ap (λ k. solved-as k (c .before .args .p) (c .before .args .t)) (sym e ∙ c .kind-of .ensures)
 
--- src/table.rt:173:9
 kind-of-requires : tie.Need-kind-of-requires
 kind-of-requires c κs = search needs
 
--- src/table.rt:177:19
 enum-told : tie.Need-enum-told
 enum-told c = search needs
 
--- src/table.rt:181:19
 enum-told-2 : tie.Need-enum-told-2
 enum-told-2 c = search needs
 
--- src/table.rt:185:19
 enum-told-3 : tie.Need-enum-told-3
 enum-told-3 c = search needs
 
--- src/table.rt:186:21
 values-of-requires : tie.Need-values-of-requires
 values-of-requires c κs = search needs
 
--- src/table.rt:169:1
 returns : tie.Need-returns
 returns c = told (c .before .before) (c .enum-told .given .1)
 
--- src/table.rt:169:1
 returns-2 : tie.Need-returns-2
 returns-2 c = told (c .before .before) (c .enum-told2 .given .1)
 
--- src/table.rt:169:1
 returns-3 : tie.Need-returns-3
 returns-3 c =
     ap (λ v. record { kind = One; values = v }) (c .values-of .ensures) ∙ told (c .before .before .before) (c .before .enum-told3 .given .1)

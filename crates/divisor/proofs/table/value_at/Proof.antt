@@ -1,15 +1,14 @@
+-- `divisor::table::value_at` meets its contract. The loop's invariant: the sum is below p, and with the columns from k on it comes to the whole sum. The
+-- measure is the number of columns left before the last. Assumes nothing.
 use native.Mathlib.Nat.{mod-lt}
-use mathlib.Core.Path.{_≡_, refl, sym, ap, _∙_, subst}
-use Prim.Native.Nat.{ℕ, _+_, _-_, _*_, _%_, _<_, _≤_}
+use mathlib.Core.Path.{_≡_, sym, ap, _∙_, subst}
+use Prim.Native.Nat.{_+_, _-_, _%_, _<_, _≤_}
 use native.Mathlib.Omega.{arith}
 use Rattle.divisor.specs.TableModel.{cell, total}
-use Rattle.divisor.specs.TableSteps.{total-turn, total-end}
+use Rattle.divisor.specs.TableTurns.{total-turn, total-end}
 use borrow.Author.Needs.{needs}
 use Rattle.divisor.proofs.table.value_at.Statement.{statement}
 use Rattle.divisor.proofs.table.value_at.Tie as tie
-use Rattle.divisor.proofs.table.value_at.Reads as reads
-use Rattle.divisor.proofs.table.value_at.Lts as lts
-use Rattle.field.proofs.plus_times.Reads as plus-times-reads
 
 abbrev Inv-loop : tie.InvT-loop
 Inv-loop j last p row values sum₀ k₀ sum k = (k ≤ last) × ((sum < p) × (total (last - k) k p row values sum ≡ total (last - (j + 1)) (j + 1) p row values (cell row last)))
@@ -17,51 +16,39 @@ Inv-loop j last p row values sum₀ k₀ sum k = (k ≤ last) × ((sum < p) × (
 abbrev μ-loop : tie.MeasureT-loop
 μ-loop j last p row values sum₀ k₀ sum k = last - k
 
--- src/table.rt:144:19
 mul-sum : tie.Need-mul-sum Inv-loop μ-loop
 mul-sum c = search needs
 
--- src/table.rt:144:19
 element-copy-out-sum : tie.Need-element-copy-out-sum Inv-loop μ-loop
 element-copy-out-sum c = search needs
 
--- src/table.rt:145:17
 add-k : tie.Need-add-k Inv-loop μ-loop
 add-k c = search needs
 
--- src/table.rt:146:5
 loop-holds : tie.Need-loop-holds Inv-loop μ-loop
 loop-holds c = search needs
 
--- src/table.rt:147:41
 mul-plus-times : tie.Need-mul-plus-times Inv-loop μ-loop
 mul-plus-times c = search needs
 
--- src/table.rt:147:41
 element-copy-out-plus-times : tie.Need-element-copy-out-plus-times Inv-loop μ-loop
 element-copy-out-plus-times c = search needs
 
--- src/table.rt:147:55
 mul-plus-times-2 : tie.Need-mul-plus-times-2 Inv-loop μ-loop
 mul-plus-times-2 c = search needs
 
--- src/table.rt:147:55
 array-read-plus-times : tie.Need-array-read-plus-times Inv-loop μ-loop
 array-read-plus-times c = search needs
 
--- src/table.rt:147:9
 plus-times-requires : tie.Need-plus-times-requires Inv-loop μ-loop
 plus-times-requires c κs = search needs
 
--- src/table.rt:148:9
 add-k-2 : tie.Need-add-k-2 Inv-loop μ-loop
 add-k-2 c = search needs
 
--- src/table.rt:146:5
 loop-less : tie.Need-loop-less Inv-loop μ-loop
 loop-less c = search needs
 
--- src/table.rt:146:5
 loop-again : tie.Need-loop-again Inv-loop μ-loop
 loop-again c =
     let at = c .before .before .before in
@@ -75,15 +62,12 @@ loop-again c =
       ),
     )
 
--- src/table.rt:150:6
 sub-result : tie.Need-sub-result Inv-loop μ-loop
 sub-result c = search needs
 
--- src/table.rt:150:5
 rem-result : tie.Need-rem-result Inv-loop μ-loop
 rem-result c = search needs
 
--- src/table.rt:140:1
 returns : tie.Need-returns Inv-loop μ-loop
 returns c =
     let at = c .before in

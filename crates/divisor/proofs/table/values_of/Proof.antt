@@ -1,15 +1,14 @@
-use mathlib.Core.Path.{_≡_, refl, sym, ap, _∙_}
-use Prim.Native.Nat.{ℕ, _+_, _-_, _<_, _≤_}
+-- `divisor::table::values_of` meets its contract. The loop's invariant: back substitution from column j on the values so far gives what it gives from the
+-- last column on zeros. The measure is j. Assumes nothing.
+use mathlib.Core.Path.{_≡_, sym, ap, _∙_}
+use Prim.Native.Nat.{_-_, _≤_}
 use native.Mathlib.Omega.{arith}
 use lib.ListN.{set}
 use Rattle.divisor.specs.TableModel.{zeros, back}
-use Rattle.divisor.specs.TableSteps.{back-turn, back-end}
+use Rattle.divisor.specs.TableTurns.{back-turn, back-end}
 use borrow.Author.Needs.{needs}
 use Rattle.divisor.proofs.table.values_of.Statement.{statement}
 use Rattle.divisor.proofs.table.values_of.Tie as tie
-use Rattle.divisor.proofs.table.values_of.Reads as reads
-use Rattle.divisor.proofs.table.values_of.Lts as lts
-use Rattle.divisor.proofs.table.value_at.Reads as value-at-reads
 
 abbrev Inv-loop : tie.InvT-loop
 Inv-loop p t last values₀ j₀ values j = (j ≤ last) × (back j p t values ≡ back last p t zeros)
@@ -17,27 +16,21 @@ Inv-loop p t last values₀ j₀ values j = (j ≤ last) × (back j p t values �
 abbrev μ-loop : tie.MeasureT-loop
 μ-loop p t last values₀ j₀ values j = j
 
--- src/table.rt:158:16
 sub-last : tie.Need-sub-last Inv-loop μ-loop
 sub-last c = search needs
 
--- src/table.rt:161:5
 loop-holds : tie.Need-loop-holds Inv-loop μ-loop
 loop-holds c = search needs
 
--- src/table.rt:162:9
 sub-j : tie.Need-sub-j Inv-loop μ-loop
 sub-j c = search needs
 
--- src/table.rt:163:19
 mul-row : tie.Need-mul-row Inv-loop μ-loop
 mul-row c = search needs
 
--- src/table.rt:163:19
 element-copy-out-row : tie.Need-element-copy-out-row Inv-loop μ-loop
 element-copy-out-row c = search needs
 
--- src/table.rt:164:21
 value-at-requires : tie.Need-value-at-requires Inv-loop μ-loop
 value-at-requires c κs =
     let at = c .before .before in
@@ -49,19 +42,15 @@ value-at-requires c κs =
       most = omega (arith, at .before .pre .columns .some);
     }
 
--- src/table.rt:164:9
 mul-values : tie.Need-mul-values Inv-loop μ-loop
 mul-values c = search needs
 
--- src/table.rt:164:9
 array-write-values : tie.Need-array-write-values Inv-loop μ-loop
 array-write-values c = search needs
 
--- src/table.rt:161:5
 loop-less : tie.Need-loop-less Inv-loop μ-loop
 loop-less c = search needs
 
--- src/table.rt:161:5
 loop-again : tie.Need-loop-again Inv-loop μ-loop
 loop-again c =
     let at = c .before .before .before in
@@ -71,7 +60,6 @@ loop-again c =
           ∙ sym (back-turn (a .p) (a .t1) (at .loop .values) (at .loop .j) (c .before .before .loop-test .taken)) ∙ at .loop .inv .1,
     )
 
--- src/table.rt:154:1
 returns : tie.Need-returns Inv-loop μ-loop
 returns c =
     let at = c .before in

@@ -1,19 +1,17 @@
-use mathlib.Core.Path.{_≡_, refl, sym, ap, _∙_, subst}
+-- `divisor::table::with_equation` meets its contract. The loop's invariant: the row's cells are below p, and what the columns from j on make of the row is
+-- what all columns make of the equation. The measure is the number of columns left. Assumes nothing.
+use mathlib.Core.Path.{_≡_, sym, ap, _∙_, subst}
 use mathlib.Core.Logic.{⊎-elim}
 use Prim.Native.Nat.{ℕ, _+_, _-_, _<_, _≤_}
 use native.Mathlib.Nat.{sub-zero}
 use native.Mathlib.Omega.{arith}
 use lib.ListN.{set}
 use Rattle.divisor.specs.TableModel.{cell, row-at, insert, with-row, minus, Column}
-use Rattle.divisor.specs.TableSteps.{insert-skip, insert-kept, insert-minus, insert-end}
+use Rattle.divisor.specs.TableTurns.{insert-skip, insert-kept, insert-minus, insert-end}
 use Rattle.divisor.specs.TableRows.{minus-below}
 use borrow.Author.Needs.{needs}
 use Rattle.divisor.proofs.table.with_equation.Statement.{statement}
 use Rattle.divisor.proofs.table.with_equation.Tie as tie
-use Rattle.divisor.proofs.table.with_equation.Reads as reads
-use Rattle.divisor.proofs.table.with_equation.Lts as lts
-use Rattle.divisor.proofs.table.scaled.Reads as scaled-reads
-use Rattle.divisor.proofs.table.subtract.Reads as subtract-reads
 
 abbrev Inv-loop : tie.InvT-loop
 Inv-loop p t columns row₀ j₀ row j = (j ≤ columns) × (((k : ℕ) → cell row k < p) × (insert (t .columns - j) j p t row ≡ with-row p t row₀))
@@ -33,49 +31,38 @@ column c =
       most = at .before .pre .table .columns .most;
     }
 
--- src/table.rt:85:5
 loop-holds : tie.Need-loop-holds Inv-loop μ-loop
 loop-holds c =
     let a = c .args in
     (search needs, (c .pre .row .below, ap (λ n. insert n 0 (a .p) (a .t1) (a .e)) (sub-zero (a .t1 .columns))))
 
--- src/table.rt:86:12
 mul-if1 : tie.Need-mul-if1 Inv-loop μ-loop
 mul-if1 c = search needs
 
--- src/table.rt:86:12
 element-copy-out-if1 : tie.Need-element-copy-out-if1 Inv-loop μ-loop
 element-copy-out-if1 c = search needs
 
--- src/table.rt:87:25
 mul-pivot : tie.Need-mul-pivot Inv-loop μ-loop
 mul-pivot c = search needs
 
--- src/table.rt:87:25
 element-copy-out-pivot : tie.Need-element-copy-out-pivot Inv-loop μ-loop
 element-copy-out-pivot c = search needs
 
--- src/table.rt:88:16
 mul-if2 : tie.Need-mul-if2 Inv-loop μ-loop
 mul-if2 c = search needs
 
--- src/table.rt:88:16
 element-copy-out-if2 : tie.Need-element-copy-out-if2 Inv-loop μ-loop
 element-copy-out-if2 c = search needs
 
--- src/table.rt:90:29
 scaled-requires : tie.Need-scaled-requires Inv-loop μ-loop
 scaled-requires c κs = column (c .before .before .before)
 
--- src/table.rt:90:17
 mul-t26 : tie.Need-mul-t26 Inv-loop μ-loop
 mul-t26 c = search needs
 
--- src/table.rt:90:17
 element-set-from-s : tie.Need-element-set-from-s Inv-loop μ-loop
 element-set-from-s c = search needs
 
--- src/table.rt:91:17
 returns : tie.Need-returns Inv-loop μ-loop
 returns c =
     let at = c .before .before .before .before .before .before .before in
@@ -85,19 +72,15 @@ returns c =
     (c .before .before .before .before .if1 .taken) (c .before .if2 .taken))
     ∙ at .loop .inv .1 .1
 
--- src/table.rt:93:19
 subtract-requires : tie.Need-subtract-requires Inv-loop μ-loop
 subtract-requires c κs = column (c .before .before .before)
 
--- src/table.rt:95:9
 add-j : tie.Need-add-j Inv-loop μ-loop
 add-j c = search needs
 
--- src/table.rt:85:5
 loop-less : tie.Need-loop-less Inv-loop μ-loop
 loop-less c = search needs
 
--- src/table.rt:85:5
 loop-again : tie.Need-loop-again Inv-loop μ-loop
 loop-again c =
     let at = c .before .before .before in
@@ -119,7 +102,6 @@ loop-again c =
           (c .if1 .came),
     )
 
--- src/table.rt:78:1
 returns-2 : tie.Need-returns-2 Inv-loop μ-loop
 returns-2 c =
     let at = c .before in

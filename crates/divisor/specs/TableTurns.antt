@@ -30,56 +30,47 @@ module _ (g : ℕ → ℕ → ℕ) (i n : ℕ) (l : List ℕ) where
   unfolding altered
   altered-end h = ap (λ m. altered g i m l) (over i n h)
 
+-- a step at one column
+module _ (p : ℕ) (t : Table) (e : Row) (j n : ℕ) where
+  abbrev taken-off : Table
+  taken-off = insert n (suc j) p t (minus p e (row-at t j) j (t .columns))
+
+  abbrev by-diagonal : Bool → Table
+  by-diagonal b = elim b [ true ↦ kept p t j e | false ↦ taken-off ]
+
+  abbrev by-cell : Bool → Table
+  by-cell b = elim b [ true ↦ insert n (suc j) p t e | false ↦ by-diagonal (eqb (diagonal t j) 0) ]
+
+  pub insert-at-zero : cell e j ≡ 0 → insert (suc n) j p t e ≡ insert n (suc j) p t e
+  unfolding insert
+  insert-at-zero z = ap by-cell (eq-eqb (cell e j) 0 z)
+
+  pub insert-at-free : (cell e j ≡ 0 → ⊥) → diagonal t j ≡ 0 → insert (suc n) j p t e ≡ kept p t j e
+  unfolding insert
+  insert-at-free z y = ap by-cell (ne-eqb (cell e j) 0 z) ∙ ap by-diagonal (eq-eqb (diagonal t j) 0 y)
+
+  pub insert-at-kept : (cell e j ≡ 0 → ⊥) → (diagonal t j ≡ 0 → ⊥) → insert (suc n) j p t e ≡ taken-off
+  unfolding insert
+  insert-at-kept z y = ap by-cell (ne-eqb (cell e j) 0 z) ∙ ap by-diagonal (ne-eqb (diagonal t j) 0 y)
+
 module _ (p : ℕ) (t : Table) (e : Row) (j : ℕ) where
   abbrev left : ℕ
   left = t .columns - (j + 1)
 
-  pub insert-skip : j < t .columns → cell e j ≡ 0 → insert (t .columns - j) j p t e ≡ insert left (j + 1) p t e
-  unfolding insert
-  insert-skip h z =
-      ap (λ n. insert n j p t e) (more j (t .columns) h)
-      ∙ ap
-      (λ b.
-      elim b [
-        | true ↦ insert left (suc j) p t e
-        | false ↦
-            elim (eqb (diagonal t j) 0) [
-              | true ↦ kept p t j e
-              | false ↦ insert left (suc j) p t (minus p e (row-at t j) j (t .columns))
-            ]
-      ])
-      (eq-eqb (cell e j) 0 z)
-      ∙ ap (λ i. insert left i p t e) (sym (add-one j))
+  insert-more : j < t .columns → insert (t .columns - j) j p t e ≡ insert (suc left) j p t e
+  insert-more h = ap (λ n. insert n j p t e) (more j (t .columns) h)
 
-  meets : j < t .columns → (cell e j ≡ 0 → ⊥) → (b : Bool) → eqb (diagonal t j) 0 ≡ b
-      → insert (t .columns - j) j p t e
-      ≡ elim b [ true ↦ kept p t j e | false ↦ insert left (suc j) p t (minus p e (row-at t j) j (t .columns)) ]
-  unfolding insert
-  meets h z b q =
-      ap (λ n. insert n j p t e) (more j (t .columns) h)
-      ∙ ap
-      (λ b.
-      elim b [
-        | true ↦ insert left (suc j) p t e
-        | false ↦
-            elim (eqb (diagonal t j) 0) [
-              | true ↦ kept p t j e
-              | false ↦ insert left (suc j) p t (minus p e (row-at t j) j (t .columns))
-            ]
-      ])
-      (ne-eqb (cell e j) 0 z)
-      ∙ ap
-      (λ b.
-      elim b [ true ↦ kept p t j e | false ↦ insert left (suc j) p t (minus p e (row-at t j) j (t .columns)) ])
-      q
+  pub insert-skip : j < t .columns → cell e j ≡ 0 → insert (t .columns - j) j p t e ≡ insert left (j + 1) p t e
+  insert-skip h z =
+      insert-more h ∙ insert-at-zero p t e j left z ∙ ap (λ i. insert left i p t e) (sym (add-one j))
 
   pub insert-kept : j < t .columns → (cell e j ≡ 0 → ⊥) → diagonal t j ≡ 0 → insert (t .columns - j) j p t e ≡ kept p t j e
-  insert-kept h z y = meets h z true (eq-eqb (diagonal t j) 0 y)
+  insert-kept h z y = insert-more h ∙ insert-at-free p t e j left z y
 
   pub insert-minus : j < t .columns → (cell e j ≡ 0 → ⊥) → (diagonal t j ≡ 0 → ⊥)
       → insert (t .columns - j) j p t e ≡ insert left (j + 1) p t (minus p e (row-at t j) j (t .columns))
   insert-minus h z y =
-      meets h z false (ne-eqb (diagonal t j) 0 y)
+      insert-more h ∙ insert-at-kept p t e j left z y
       ∙ ap (λ i. insert left i p t (minus p e (row-at t j) j (t .columns))) (sym (add-one j))
 
   pub insert-end : t .columns ≤ j → insert (t .columns - j) j p t e ≡ t
