@@ -12,3 +12,4 @@ pub mod Solutions
 pub mod Sorting
 pub mod MonicTerms
 pub mod Turns
+pub mod EquationRow

@@ -2,3 +2,4 @@
 pub mod Rows
 pub mod Sorting
 pub mod Monic
+pub mod Equation
