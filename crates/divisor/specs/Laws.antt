@@ -13,3 +13,5 @@ pub mod Sorting
 pub mod MonicTerms
 pub mod Turns
 pub mod EquationRow
+pub mod DivisorList
+pub mod Assembled

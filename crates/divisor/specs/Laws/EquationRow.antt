@@ -1,35 +1,29 @@
 -- The row of an equation in plain numbers is the row of the equation over the field, and its cells are below p. Assumes nothing.
 use mathlib.Core.Path.{_≡_, refl, sym, _∙_, ap, ap₂, subst}
-use mathlib.Core.Bool.{true, false}
 use mathlib.Core.List.{List, [], _∷_, _++_, map, append-assoc}
 use Prim.Native.Nat.{ℕ, zero, suc, _+_, _*_, _%_, _≤_, _<_}
 use native.Mathlib.Decide.{ℕ-discrete, decLt}
-use native.Mathlib.Nat.{mod-lt, add-zero, add-suc}
+use native.Mathlib.Nat.{mod-lt}
 use native.Mathlib.Omega.{arith}
-use lib.Dec.{eqb}
 use lib.ListN.{length, getD, replicate, length-append}
 use lib.Seq.{getD-at}
 use borrow.Author.Tests.{eq-eqb, ne-eqb}
-use Rattle.algebra.specs.Ring.{CommRing, one-mul}
+use Rattle.algebra.specs.Ring.{CommRing}
 use Rattle.algebra.specs.Solver.{_⊗_, _≗_, k1, ring3}
 use Rattle.algebra.specs.Mono.{mono-at, mono-off}
 use Rattle.algebra.specs.Divides.{pow}
 use Rattle.algebra.specs.Field.{Field}
 use Rattle.field.specs.Prime.{Prime}
 use Rattle.field.specs.PrimeLaws.{prime-positive}
-use Rattle.field.specs.ModuliLaws.{listed-positive}
 use Rattle.field.specs.Fp.{Fp, el, mul, neg}
 use Rattle.field.specs.Link.{product-el}
 use Rattle.field.specs.Modulo.{Modulo}
 use Rattle.poly.specs.Keys.{exponents}
-use Rattle.poly.specs.Value.{Point, number-at}
-use Rattle.poly.specs.Coefficients.{Eight}
 use Rattle.poly.specs.Models.Powers.{powers}
 use Rattle.poly.specs.Laws.Powers.{powers-el}
 use Rattle.poly.specs.Laws.ValueMeaning.{at-numbers}
 use Rattle.divisor.specs.declared.table.Row.{Row}
-use Rattle.divisor.specs.Rule.{Kept}
-use Rattle.divisor.specs.TableModel.{COLUMNS, cell, RowReady}
+use Rattle.divisor.specs.TableModel.{cell, RowReady}
 use Rattle.divisor.specs.TableMeaning.{entries, row-of}
 use Rattle.divisor.specs.Models.Rows.{monomial-at, only-at, row}
 use Rattle.divisor.specs.Models.Equation.{monomial-number, IsEquation}

@@ -27,19 +27,19 @@ abbrev pub AllBelow : ℕ → List ℕ → Type 0
 AllBelow p [] = Unit {0}
 AllBelow p (c ∷ cs) = (c < p) × AllBelow p cs
 
-leading-zero : (c : ℕ) (cs : List ℕ) → c ≡ 0 → leading (c ∷ cs) ≡ leading cs
+pub leading-zero : (c : ℕ) (cs : List ℕ) → c ≡ 0 → leading (c ∷ cs) ≡ leading cs
 unfolding leading
 leading-zero c cs e = rw (eq-eqb c 0 e, leading)
 
-leading-here : (c : ℕ) (cs : List ℕ) → ¬ (c ≡ 0) → leading (c ∷ cs) ≡ c
+pub leading-here : (c : ℕ) (cs : List ℕ) → ¬ (c ≡ 0) → leading (c ∷ cs) ≡ c
 unfolding leading
 leading-here c cs n = rw (ne-eqb c 0 n, leading)
 
-scaled-zero : (p f k c : ℕ) (ks cs : List ℕ) → c ≡ 0 → scaled-terms p f (k ∷ ks) (c ∷ cs) ≡ scaled-terms p f ks cs
+pub scaled-zero : (p f k c : ℕ) (ks cs : List ℕ) → c ≡ 0 → scaled-terms p f (k ∷ ks) (c ∷ cs) ≡ scaled-terms p f ks cs
 unfolding scaled-terms
 scaled-zero p f k c ks cs e = rw (eq-eqb c 0 e, scaled-terms)
 
-scaled-here : (p f k c : ℕ) (ks cs : List ℕ) → ¬ (c ≡ 0) → scaled-terms p f (k ∷ ks) (c ∷ cs) ≡ (k * 65536 + (c * f) % p) ∷ scaled-terms p f ks cs
+pub scaled-here : (p f k c : ℕ) (ks cs : List ℕ) → ¬ (c ≡ 0) → scaled-terms p f (k ∷ ks) (c ∷ cs) ≡ (k * 65536 + (c * f) % p) ∷ scaled-terms p f ks cs
 unfolding scaled-terms
 scaled-here p f k c ks cs n = rw (ne-eqb c 0 n, scaled-terms)
 

@@ -1,0 +1,211 @@
+-- What the routine finds, put together, meets the promise of the call: from the images looked at, the rows of the equations and what the table says
+-- of them, and the two trial divisions. Assumes nothing.
+use mathlib.Core.Path.{_≡_, refl, sym, _∙_, ap, subst}
+use mathlib.Core.List.{List, [], _∷_, map}
+use Prim.Native.Nat.{ℕ, suc, _+_, _-_, _/_, _≤_, _<_}
+use native.Mathlib.Omega.{arith}
+use lib.ListN.{length, getD, take, drop, length-map}
+use lib.Seq.{drop-cons, length-take-le}
+use Rattle.algebra.specs.Series.{S4}
+use Rattle.algebra.specs.Four.{Exponents}
+use Rattle.algebra.specs.Monomial.{polynomial}
+use Rattle.algebra.specs.Linear as linear
+use Rattle.field.specs.Moduli.{Listed}
+use Rattle.field.specs.ModuliLaws.{listed-below}
+use Rattle.field.specs.Prime.{Prime}
+use Rattle.field.specs.Fp.{Fp, el}
+use Rattle.field.specs.Modulo.{Modulo}
+use Rattle.field.specs.Numbers.{NO_GOOD_POINT, NO_SOLUTION, SEVERAL_SOLUTIONS, DOES_NOT_DIVIDE}
+use Rattle.field.specs.Refusal.{Passes}
+use Rattle.poly.specs.declared.ImageRecord.{ImageRecord}
+use Rattle.poly.specs.Keys.{exponents, keys}
+use Rattle.poly.specs.Terms.{Polynomial, numbers-of, poly}
+use Rattle.poly.specs.Image.{Divides, Image}
+use Rattle.poly.specs.Lists.{WrongKey}
+use Rattle.poly.specs.Room.{written, cleared}
+use Rattle.poly.specs.Laws.Lists.{none-wrong, FallFrom, keys-fall}
+use Rattle.divisor.specs.declared.table.Row.{Row}
+use Rattle.divisor.specs.declared.table.Kind.the-variants.{None, One, Several}
+use Rattle.divisor.specs.Rule.{report, Kept, Sorted, Unknowns, Solution, OnlySolution, without-zeros, made-monic, divisor, Verdict, none, several, rejected, accepted, all-bad, some-good}
+use Rattle.divisor.specs.Candidate.{Call, table, points-of, prime, Numbers, A, B, monomials, lent-points, Result, Candidate, answered}
+use Rattle.divisor.specs.TableMeaning.{entries, rows-of, Says}
+use Rattle.divisor.specs.Models.Rows.{all-rows}
+use Rattle.divisor.specs.Models.Sorting.{sizes-of, alike, kept-of}
+use Rattle.divisor.specs.Models.Monic.{monic-terms}
+use Rattle.divisor.specs.Laws.Determined.{counts-add-up}
+use Rattle.divisor.specs.Laws.Degree.{first-image}
+use Rattle.divisor.specs.Laws.Equations.{with-coefficients, unknowns-of}
+use Rattle.divisor.specs.Laws.Solutions.{no-solution, only-solution, several-solutions}
+use Rattle.divisor.specs.Laws.Sorting.{AllZero, AtLeast, Looked, sorted, kept-count}
+use Rattle.divisor.specs.Laws.Sorting as sorting
+use Rattle.divisor.specs.Laws.MonicTerms.{AllBelow, skeleton-of, divisor-numbers}
+use Rattle.divisor.specs.Laws.DivisorList.{GoodList, good-list}
+
+points-length : (p : ℕ) (P : Prime p) (ns : List ℕ) → length (points-of p P ns) ≡ length ns / 3
+unfolding points-of
+points-length p P [] = refl
+points-length p P (y ∷ []) = refl
+points-length p P (y ∷ z ∷ []) = refl
+points-length p P (y ∷ z ∷ w ∷ ns) = let h = points-length p P ns in omega arith
+
+-- the first of the entries are the coefficients
+module _ (p : ℕ) (P : Prime p) where
+  coefficients-first : (es : List Exponents) (values : List ℕ) (i m : ℕ) → i + length es ≤ length values
+      → with-coefficients (Modulo p P) es (entries p values i (length es + m)) ≡ with-coefficients (Modulo p P) es (map (el p) (take (length es) (drop i values)))
+  unfolding entries
+  coefficients-first [] values i m l = refl
+  coefficients-first (e ∷ es) values i m l =
+      let r : suc (length es) + m ≡ suc (length es + m) = omega arith in
+      ap (λ (n : ℕ). with-coefficients (Modulo p P) (e ∷ es) (entries p values i n)) r
+      ∙ ap (record { exponents = e; coefficient = el p (getD values i 0) } ∷_) (coefficients-first es values (suc i) m (omega arith))
+      ∙ sym (ap (λ (v : List ℕ). with-coefficients (Modulo p P) (e ∷ es) (map (el p) (take (suc (length es)) v))) (drop-cons values i 0 (omega arith)))
+
+module _ (c : Call) (pass : Passes (table c)) (listed : Listed (c .modulus)) (looks : List ImageRecord)
+    (looked : Looked (prime c listed) (A c listed) (B c listed) (lent-points c listed) looks) where
+  abbrev p : ℕ
+  p = c .modulus
+
+  abbrev P : Prime (c .modulus)
+  P = prime c listed
+
+  -- how many points there are
+  abbrev pub points : ℕ
+  points = length (c .points) / 3
+
+  -- all points are bad
+  pub answer-all-bad : AllZero (sizes-of looks)
+      → Candidate c (record { found = report NO_GOOD_POINT 0 (length (c .points) / 3) 0 0 0; output = c .output; work = cleared (c .work) })
+  answer-all-bad h =
+      subst (λ (n : ℕ). Candidate c (record { found = report NO_GOOD_POINT 0 n 0 0 0; output = c .output; work = cleared (c .work) }))
+      (points-length p P (c .points))
+      (answered pass listed _ [] (all-bad (sorting.all-bad P (A c listed) (B c listed) (lent-points c listed) looks looked h)))
+
+  skeleton-falls : FallFrom keys (c .skeleton)
+  skeleton-falls = keys-fall (c .skeleton) (none-wrong (WrongKey (c .skeleton)) (pass .1 .1 .1 .1 .1 .1 .0))
+
+  module _ (d : ℕ) (least : AtLeast (suc d) (sizes-of looks)) (k : Kept (Numbers c listed)) (ks : List (Kept (Numbers c listed)))
+      (kept : kept-of P (suc d) (lent-points c listed) looks ≡ k ∷ ks) where
+    abbrev bad-count : ℕ
+    bad-count = alike 0 (sizes-of looks)
+
+    abbrev kept-points : ℕ
+    kept-points = alike (suc d) (sizes-of looks)
+
+    some : (u : ℕ) × Sorted (Numbers c listed) (A c listed) (B c listed) d (lent-points c listed) bad-count u (k ∷ ks)
+    some = let s = sorted P (A c listed) (B c listed) d (lent-points c listed) looks looked least in
+        (s .0, subst (Sorted (Numbers c listed) (A c listed) (B c listed) d (lent-points c listed) bad-count (s .0)) kept (s .1))
+
+    count-kept : length (k ∷ ks) ≡ kept-points
+    count-kept = ap length (sym kept) ∙ kept-count P (A c listed) (B c listed) (suc d) (lent-points c listed) looks looked
+
+    count-unlucky : some .0 ≡ length (c .points) / 3 - bad-count - kept-points
+    count-unlucky =
+        let e = counts-add-up (Numbers c listed) (A c listed) (B c listed) d (lent-points c listed) bad-count (some .0) (k ∷ ks) (some .1) in
+        let n = points-length p P (c .points) in
+        let m = count-kept in
+        omega arith
+
+    -- the record and the rooms of a verdict
+    abbrev pub result : ℕ → List ℕ → Result
+    result number terms = record {
+      found = report number d (alike 0 (sizes-of looks)) (length (c .points) / 3 - alike 0 (sizes-of looks) - alike (suc d) (sizes-of looks)) (alike (suc d) (sizes-of looks)) (length terms);
+      output = written terms (c .output);
+      work = cleared (c .work);
+    }
+
+    length-numbers : (G : Polynomial (Numbers c listed)) → length (numbers-of p P G) ≡ length G
+    length-numbers [] = refl
+    length-numbers (t ∷ ts) = ap suc (length-numbers ts)
+
+    answer-verdict : (number : ℕ) (G : Polynomial (Numbers c listed)) → Verdict (Numbers c listed) (A c listed) (B c listed) (monomials c listed) (k ∷ ks) number G
+        → Candidate c (result number (numbers-of p P G))
+    answer-verdict number G v =
+        subst (λ (n : ℕ). Candidate c (record { found = report number d bad-count (length (c .points) / 3 - bad-count - kept-points) kept-points n; output = written (numbers-of p P G) (c .output); work = cleared (c .work) }))
+        (sym (length-numbers G))
+        (subst (λ (n : ℕ). Candidate c (record { found = report number d bad-count (length (c .points) / 3 - bad-count - kept-points) n (length G); output = written (numbers-of p P G) (c .output); work = cleared (c .work) }))
+        count-kept
+        (subst (λ (u : ℕ). Candidate c (record { found = report number d bad-count u (length (k ∷ ks)) (length G); output = written (numbers-of p P G) (c .output); work = cleared (c .work) }))
+        count-unlucky
+        (answered pass listed _ G (some-good d bad-count (some .0) k ks (some .1) number G v))))
+
+    -- the image at the first kept point has 1 beside x^d
+    image : Image (Numbers c listed) (A c listed) (B c listed) (k .point) d (k .image)
+    image = first-image (Numbers c listed) (A c listed) (B c listed) d (lent-points c listed) bad-count (some .0) k ks (some .1)
+
+    -- as many unknowns as the skeleton has keys and there are kept points after the first
+    abbrev pub unknowns : ℕ
+    unknowns = length (c .skeleton) + length ks
+
+    module _ (rows : List Row) (means : rows-of p (length (c .skeleton) + length ks) rows ≡ all-rows (Numbers c listed) (monomials c listed) k ks) where
+      length-monomials : length (monomials c listed) ≡ length (c .skeleton)
+      length-monomials = length-map (c .skeleton) exponents
+
+      pub answer-none : (values : List ℕ) → Says p P (length (c .skeleton) + length ks) rows None values → Candidate c (result NO_SOLUTION [])
+      answer-none values says = answer-verdict NO_SOLUTION [] (none (no-solution (Numbers c listed) (monomials c listed) k ks
+          (subst (λ (n : ℕ). linear.NoSolution (Numbers c listed) (n + length ks) (all-rows (Numbers c listed) (monomials c listed) k ks)) (sym length-monomials)
+          (subst (linear.NoSolution (Numbers c listed) (length (c .skeleton) + length ks)) means says))))
+
+      pub answer-several : (values : List ℕ) → Says p P (length (c .skeleton) + length ks) rows Several values → Candidate c (result SEVERAL_SOLUTIONS [])
+      answer-several values says = answer-verdict SEVERAL_SOLUTIONS [] (several (several-solutions (Numbers c listed) (monomials c listed) k ks (says .0) (says .1)
+          (subst (λ (n : ℕ). linear.DifferentSolutions (Numbers c listed) (n + length ks) (all-rows (Numbers c listed) (monomials c listed) k ks) (says .0) (says .1)) (sym length-monomials)
+          (subst (λ (rs : List (List (Fp p))). linear.DifferentSolutions (Numbers c listed) (length (c .skeleton) + length ks) rs (says .0) (says .1)) means (says .2)))))
+
+      module _ (values : List ℕ) (says : Says p P (length (c .skeleton) + length ks) rows One values) (long : length (c .skeleton) ≤ length values)
+          (below : AllBelow p (take (length (c .skeleton)) values)) where
+        abbrev cs : List ℕ
+        cs = take (length (c .skeleton)) values
+
+        only : OnlySolution (Numbers c listed) (monomials c listed) (k ∷ ks) (unknowns-of (Numbers c listed) (monomials c listed) (entries p values 0 (length (c .skeleton) + length ks)))
+        only = only-solution (Numbers c listed) (monomials c listed) k ks (entries p values 0 (length (c .skeleton) + length ks))
+            (subst (λ (n : ℕ). linear.OnlySolution (Numbers c listed) (n + length ks) (all-rows (Numbers c listed) (monomials c listed) k ks) (entries p values 0 (length (c .skeleton) + length ks))) (sym length-monomials)
+            (subst (λ (rs : List (List (Fp p))). linear.OnlySolution (Numbers c listed) (length (c .skeleton) + length ks) rs (entries p values 0 (length (c .skeleton) + length ks))) means says))
+
+        abbrev found : Unknowns (Numbers c listed)
+        found = unknowns-of (Numbers c listed) (monomials c listed) (entries p values 0 (length (c .skeleton) + length ks))
+
+        -- the skeleton polynomial of the solution
+        same-skeleton : found .skeleton ≡ skeleton-of p P (c .skeleton) cs
+        same-skeleton =
+            ap (λ (n : ℕ). with-coefficients (Numbers c listed) (monomials c listed) (entries p values 0 (n + length ks))) (sym length-monomials)
+            ∙ coefficients-first p P (monomials c listed) values 0 (length ks) (let e = length-monomials in omega arith)
+            ∙ ap (λ (n : ℕ). with-coefficients (Numbers c listed) (monomials c listed) (map (el p) (take n values))) length-monomials
+
+        found-is : found ≡ record { skeleton = skeleton-of p P (c .skeleton) cs; multipliers = found .multipliers }
+        found-is = λ i. record { skeleton = same-skeleton i; multipliers = found .multipliers }
+
+        sized : length cs ≡ length (c .skeleton)
+        sized = length-take-le (length (c .skeleton)) values long
+
+        pub small : p < 65536
+        small = let b = listed-below listed in omega arith
+
+        pub list : GoodList p P small (c .skeleton) cs
+        list = good-list p P small (c .skeleton) cs sized below skeleton-falls ks k (found .multipliers)
+            (subst (Solution (Numbers c listed) (monomials c listed) (k ∷ ks)) found-is (only .0)) d (image .small) (image .monic .leads)
+
+        -- the divisor's polynomial is that of the list
+        of-list : polynomial (Numbers c listed .ring) (divisor (Numbers c listed) found) ≡ poly p P (monic-terms p (c .skeleton) cs)
+        of-list = ap (λ (f : Polynomial (Numbers c listed)). polynomial (Numbers c listed .ring) (made-monic (Numbers c listed) (without-zeros (Numbers c listed) f))) same-skeleton
+            ∙ ap (polynomial (Numbers c listed .ring)) (sym (list .reads))
+
+        of-numbers : numbers-of p P (divisor (Numbers c listed) found) ≡ monic-terms p (c .skeleton) cs
+        of-numbers = ap (λ (f : Polynomial (Numbers c listed)). numbers-of p P (made-monic (Numbers c listed) (without-zeros (Numbers c listed) f))) same-skeleton
+            ∙ divisor-numbers p P (c .skeleton) cs sized below
+
+        abbrev Divides-list : List ℕ → Type 0
+        Divides-list f = Divides (Numbers c listed) (poly p P (monic-terms p (c .skeleton) cs)) (poly p P f)
+
+        pub answer-rejected : ¬ (Divides-list (c .first-list) × Divides-list (c .second-list)) → Candidate c (result DOES_NOT_DIVIDE [])
+        answer-rejected n = answer-verdict DOES_NOT_DIVIDE [] (rejected found only
+            (λ both. n (
+              subst (λ (g : S4 (Numbers c listed .ring) .Car). Divides (Numbers c listed) g (poly p P (c .first-list))) of-list (both .0),
+              subst (λ (g : S4 (Numbers c listed .ring) .Car). Divides (Numbers c listed) g (poly p P (c .second-list))) of-list (both .1),
+            )))
+
+        pub answer-accepted : Divides-list (c .first-list) → Divides-list (c .second-list) → Candidate c (result 0 (monic-terms p (c .skeleton) cs))
+        answer-accepted first second =
+            subst (λ (ts : List ℕ). Candidate c (result 0 ts)) of-numbers
+            (answer-verdict 0 (divisor (Numbers c listed) found) (accepted found only (
+              subst (λ (g : S4 (Numbers c listed .ring) .Car). Divides (Numbers c listed) g (poly p P (c .first-list))) (sym of-list) first,
+              subst (λ (g : S4 (Numbers c listed .ring) .Car). Divides (Numbers c listed) g (poly p P (c .second-list))) (sym of-list) second,
+            )))
