@@ -2,6 +2,7 @@
 pub mod Keys
 pub mod Value
 pub mod Lists
+pub mod Terms
 pub mod Powers
 pub mod EightNumbers
 pub mod EightMeaning
