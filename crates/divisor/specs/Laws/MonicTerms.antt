@@ -1,11 +1,12 @@
 -- The numbers that the code makes of a solution are the terms of its divisor. Assumes nothing.
 use mathlib.Core.Path.{_≡_, refl, sym, _∙_, ap, ap₂, subst}
 use mathlib.Core.List.{List, [], _∷_, map}
-use Prim.Native.Nat.{ℕ, _+_, _*_, _%_, _<_}
-use native.Mathlib.Decide.{ℕ-discrete}
+use Prim.Native.Nat.{ℕ, suc, _+_, _*_, _%_, _<_}
+use native.Mathlib.Decide.{ℕ-discrete, decLt}
 use native.Mathlib.Nat.{mod-mod}
 use native.Mathlib.Omega.{arith}
-use lib.ListN.{length}
+use lib.ListN.{length, getD, take, length-take, List·getD-eq-default}
+use lib.Seq.{getD-take}
 use borrow.Author.Tests.{eq-eqb, ne-eqb}
 use Rattle.algebra.specs.Ring.{CommRing}
 use Rattle.algebra.specs.Monomial.{Term}
@@ -34,6 +35,22 @@ leading-zero c cs e = rw (eq-eqb c 0 e, leading)
 pub leading-here : (c : ℕ) (cs : List ℕ) → ¬ (c ≡ 0) → leading (c ∷ cs) ≡ c
 unfolding leading
 leading-here c cs n = rw (ne-eqb c 0 n, leading)
+
+-- the leading coefficient is one of them
+leading-of : (p : ℕ) → 0 < p → (cs : List ℕ) → ((i : ℕ) → getD cs i 0 < p) → leading cs < p
+leading-of p pos [] h = (unfold leading in pos)
+leading-of p pos (c ∷ cs) h = go (ℕ-discrete c 0) (leading-of p pos cs (λ i. h (suc i)))
+  where
+    go : Dec (c ≡ 0) → leading cs < p → leading (c ∷ cs) < p
+    go (yes e) l = subst (λ (n : ℕ). n < p) (sym (leading-zero c cs e)) l
+    go (no n) l = subst (λ (n : ℕ). n < p) (sym (leading-here c cs n)) (h 0)
+
+pub leading-below : (p : ℕ) → 0 < p → (n : ℕ) (values : List ℕ) → ((i : ℕ) → getD values i 0 < p) → leading (take n values) < p
+leading-below p pos n values h = leading-of p pos (take n values) (λ i. go i (decLt i n))
+  where
+    go : (i : ℕ) → Dec (i < n) → getD (take n values) i 0 < p
+    go i (yes l) = subst (λ (m : ℕ). m < p) (sym (getD-take n values i 0 l)) (h i)
+    go i (no l) = subst (λ (m : ℕ). m < p) (sym (List·getD-eq-default (take n values) 0 (let k = length-take n values in omega arith))) pos
 
 pub scaled-zero : (p f k c : ℕ) (ks cs : List ℕ) → c ≡ 0 → scaled-terms p f (k ∷ ks) (c ∷ cs) ≡ scaled-terms p f ks cs
 unfolding scaled-terms

@@ -1,9 +1,13 @@
 -- The divisor of a solution in plain numbers: zero coefficients dropped, the others times the inverse of the first, as terms.
 use mathlib.Core.Bool.{true, false}
 use mathlib.Core.List.{List, [], _∷_}
-use Prim.Native.Nat.{ℕ, _+_, _*_, _%_}
+use Prim.Native.Nat.{ℕ, _+_, _*_, _%_, _≤_, _<_}
+use mathlib.Core.Path.{_≡_}
 use lib.Dec.{eqb}
+use lib.ListN.{length, getD, take}
+use Rattle.field.specs.Moduli.{Listed}
 use Rattle.field.specs.Fp.{el, inv}
+use Rattle.divisor.specs.declared.monic.Divisor.{Divisor}
 
 -- the first coefficient but 0, or 0
 unfoldable pub leading : List ℕ → ℕ
@@ -20,3 +24,21 @@ scaled-terms p f (k ∷ ks) (c ∷ cs) =
 -- all divided by the leading coefficient
 abbrev pub monic-terms : ℕ → List ℕ → List ℕ → List ℕ
 monic-terms p ks cs = scaled-terms p (inv (el p (leading cs)) .val) ks cs
+
+-- the first n of the values
+pub record Counted (n : ℕ) (values : List ℕ) : Type 0 where
+  pub within : n ≤ length values
+  pub most : n ≤ 64
+
+-- what making the divisor asks for: coefficients of the skeleton, below p, not all 0
+pub record Solvable (p : ℕ) (ks values : List ℕ) : Type 0 where
+  pub listed : Listed p
+  pub few : length ks ≤ 32
+  pub long : length ks ≤ length values
+  pub below : (i : ℕ) → getD values i 0 < p
+  pub led : 0 < leading (take (length ks) values)
+
+-- what it promises: the divisor's terms first
+pub record Monic (p : ℕ) (ks values : List ℕ) (r : Divisor) : Type 0 where
+  pub fits : r .count ≤ 32
+  pub terms : take (r .count) (r .terms) ≡ monic-terms p ks (take (length ks) values)

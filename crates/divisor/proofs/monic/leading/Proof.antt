@@ -1,0 +1,72 @@
+-- `divisor::monic::leading` meets its contract. The invariant: the coefficients passed are 0, so the leading one is that of those left. Assumes nothing.
+use borrow.Author.Needs.{needs}
+use mathlib.Core.Path.{_≡_, refl, sym, _∙_}
+use Prim.Native.Nat.{_-_, _≤_}
+use native.Mathlib.Omega.{arith}
+use lib.ListN.{take, drop}
+use Rattle.divisor.specs.Models.Monic.{leading}
+use Rattle.divisor.specs.Laws.Turns.{leading-next, leading-found, leading-end}
+use Rattle.divisor.proofs.monic.leading.Statement.{statement}
+use Rattle.divisor.proofs.monic.leading.Tie as tie
+
+abbrev Inv-loop : tie.InvT-loop
+Inv-loop n values i₀ i = (i ≤ n) × (leading (take n values) ≡ leading (drop i (take n values)))
+
+abbrev μ-loop : tie.MeasureT-loop
+μ-loop n values i₀ i = n - i
+
+loop-holds : tie.Need-loop-holds Inv-loop μ-loop
+loop-holds c = (omega arith, refl)
+
+mul-if1 : tie.Need-mul-if1 Inv-loop μ-loop
+mul-if1 c = search needs
+
+array-read-if1 : tie.Need-array-read-if1 Inv-loop μ-loop
+array-read-if1 c = search needs
+
+mul-result : tie.Need-mul-result Inv-loop μ-loop
+mul-result c = search needs
+
+array-read-result : tie.Need-array-read-result Inv-loop μ-loop
+array-read-result c = search needs
+
+returns : tie.Need-returns Inv-loop μ-loop
+returns c =
+    let s = c .before .before .before in
+    let l = c .before .before .loop in
+    sym (l .inv .1 ∙ leading-found (s .args .t1) (s .args .n) (l .i) (s .pre .within) (c .before .loop-test .taken) (c .if1 .taken))
+
+add-i : tie.Need-add-i Inv-loop μ-loop
+add-i c = search needs
+
+loop-less : tie.Need-loop-less Inv-loop μ-loop
+loop-less c = search needs
+
+loop-again : tie.Need-loop-again Inv-loop μ-loop
+loop-again c =
+    let s = c .before .before .before in
+    let l = c .before .before .loop in
+    (omega arith, l .inv .1 ∙ leading-next (s .args .t1) (s .args .n) (l .i) (s .pre .within) (c .before .loop-test .taken) (c .if1 .left))
+
+returns-2 : tie.Need-returns-2 Inv-loop μ-loop
+returns-2 c =
+    let s = c .before .before in
+    let l = c .before .loop in
+    sym (l .inv .1 ∙ leading-end (s .args .t1) (s .args .n) (l .i) (s .pre .within) (c .loop-test .left))
+
+pub leading-spec : {M : Type 1} → statement M
+leading-spec =
+    tie.close
+    (tie.spec
+    Inv-loop
+    μ-loop
+    loop-holds
+    mul-if1
+    array-read-if1
+    mul-result
+    array-read-result
+    returns
+    add-i
+    loop-less
+    loop-again
+    returns-2)

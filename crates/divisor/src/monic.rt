@@ -1,0 +1,51 @@
+// The divisor of a solution: zero coefficients dropped, the others divided by the leading one, as terms.
+ghost use mathlib.Core.Path.{_≡_};
+ghost use lib.ListN.{take};
+ghost use Rattle.divisor.specs.Models.Monic.{leading as leading-of, Counted, Solvable, Monic};
+use field::Element;
+use field::Number;
+
+// The terms, of which the first `count` are the divisor's.
+pub struct Divisor {
+    pub terms: [u32; 32],
+    pub count: usize,
+}
+
+// The first of n coefficients that is not 0, or 0.
+fn leading(values: [Number; 64], n: usize) -> Number
+    requires { ⌜ Counted n values ⌝ }
+    ensures { λ r. ⌜ r ≡ leading-of (take n values) ⌝ }
+{
+    let mut i: usize = 0;
+    while i < n {
+        if values[i] != 0 {
+            return values[i];
+        }
+        i += 1;
+    }
+    0
+}
+
+// The terms of the keys whose coefficient is not 0, each coefficient times the inverse of the leading one.
+pub fn made_monic(p: Number, skeleton: &[Number], values: [Number; 64]) -> Divisor
+    requires { ⌜ Solvable p (now skeleton) values ⌝ }
+    ensures { λ r. ⌜ Monic p (now (skeleton .entry)) values r ⌝ }
+{
+    let lead = Element {
+        modulus: p,
+        value: leading(values, skeleton.len()),
+    };
+    let inverse = lead.inverse();
+    let factor = inverse.value;
+    let mut terms = [0u32; 32];
+    let mut count: usize = 0;
+    let mut i: usize = 0;
+    while i < skeleton.len() {
+        if values[i] != 0 {
+            terms[count] = poly::key::term(skeleton[i], field::times(p, values[i], factor));
+            count += 1;
+        }
+        i += 1;
+    }
+    Divisor { terms, count }
+}
