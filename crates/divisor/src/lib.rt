@@ -1,2 +1,2 @@
 // Layer 3, the candidate: the equations with their table.
-pub mod table;
+mod table;
