@@ -7,10 +7,12 @@ use Prim.Native.Nat.{ℕ, zero, suc, _+_, _-_, _<_, _≤_}
 use native.Mathlib.Decide.{ℕ-discrete}
 use native.Mathlib.Omega.{arith}
 use lib.Dec.{eqb}
+use lib.ListN.{getD}
 use Rattle.algebra.specs.Field.{Field}
 use Rattle.algebra.specs.Linear.{Table as Equations, free, fresh, has-failed, has-free, none, one, several, OnlySolution, Meets, steps, solution, answer}
 use Rattle.algebra.specs.LinearLaws.{solve-meets}
 use Rattle.field.specs.Moduli.{Listed}
+use Rattle.field.specs.ModuliLaws.{listed-positive}
 use Rattle.field.specs.Prime.{Prime}
 use Rattle.field.specs.Fp.{Fp, el}
 use Rattle.field.specs.Modulo.{Modulo}
@@ -18,11 +20,12 @@ use Rattle.divisor.specs.declared.table.Row.{Row}
 use Rattle.divisor.specs.declared.table.Table.{Table}
 use Rattle.divisor.specs.declared.table.Kind.{Kind}
 use Rattle.divisor.specs.declared.table.Kind.the-variants.{None, One, Several}
-use Rattle.divisor.specs.TableModel.{COLUMNS, row-at, diagonal, empty-table, with-row, kind-from, kind, values, solved-as, solved, TableReady}
+use Rattle.divisor.specs.TableModel.{COLUMNS, row-at, diagonal, empty-table, with-row, kind-from, kind, zeros, solved-as, solved, TableReady}
 use Rattle.divisor.specs.TableMeaning.{entries, column, last-column, columns-of, table-of, added, rows-of, AllReady, Says}
 use Rattle.divisor.specs.TableStep.{column-free, column-pivot, last-solvable, table-step}
 use Rattle.divisor.specs.TableKept.{empty-cell, empty-ready, with-row-ready, with-row-columns}
-use Rattle.divisor.specs.TableSolution.{values-solve}
+use Rattle.divisor.specs.TableSolution.{values-solve, values-below}
+use Rattle.divisor.specs.TableRows.{replicate-all}
 
 -- the empty table is that of no equation
 empty-columns : (p columns i n : ℕ) → columns-of p (empty-table columns) i n ≡ fresh n
@@ -48,11 +51,11 @@ module _ (p : ℕ) where
   added-append t (e ∷ es) fs = added-append (with-row p t e) es fs
 
 -- the kind by the columns
-abbrev some-kind : Bool → Kind
+abbrev pub some-kind : Bool → Kind
 some-kind true = Several
 some-kind false = One
 
-abbrev kind-as : Bool → Bool → Kind
+abbrev pub kind-as : Bool → Bool → Kind
 kind-as true b = None
 kind-as false b = some-kind b
 
@@ -97,28 +100,29 @@ full-columns p t (suc n) i f k h m z =
     go (yes e) (no y) later = y (subst (λ j. diagonal t j ≡ 0) e z)
     go (no e) (no y) later = later (sym (ap has-free (column-pivot p t i n y)) ∙ f) (omega arith)
 
+-- the code's kind is that of the field's table
+pub kind-by-columns : (p : ℕ) (t : Table) (n : ℕ) → suc n ≡ t .columns → kind t ≡ kind-as (has-failed (table-of p n t)) (has-free (table-of p n t))
+unfolding kind
+kind-by-columns p t n size =
+    let last : t .columns - 1 ≡ n = omega arith in
+    ap {B = Kind} (λ m. elim (eqb (diagonal t m) 0) [ true ↦ kind-from m 0 t | false ↦ None ]) last
+    ∙ go (eqb (diagonal t n) 0) (free-columns p t n 0)
+    ∙ ap (λ b. kind-as b (has-free (table-of p n t))) (sym (failed-columns p t n n 0 (omega arith)))
+  where
+    go : (b : Bool) → kind-from n 0 t ≡ some-kind (has-free (table-of p n t))
+        → elim b [ true ↦ kind-from n 0 t | false ↦ None ] ≡ kind-as (not b) (has-free (table-of p n t))
+    go true h = h
+    go false h = refl
+
 module _ (p : ℕ) (P : Prime p) where
   abbrev K : Field
   K = Modulo p P
-
-  kind-by-columns : (t : Table) (n : ℕ) → suc n ≡ t .columns → kind t ≡ kind-as (has-failed (table-of p n t)) (has-free (table-of p n t))
-  unfolding kind
-  kind-by-columns t n size =
-      let last : t .columns - 1 ≡ n = omega arith in
-      ap {B = Kind} (λ m. elim (eqb (diagonal t m) 0) [ true ↦ kind-from m 0 t | false ↦ None ]) last
-      ∙ go (eqb (diagonal t n) 0) (free-columns p t n 0)
-      ∙ ap (λ b. kind-as b (has-free (table-of p n t))) (sym (failed-columns p t n n 0 (omega arith)))
-    where
-      go : (b : Bool) → kind-from n 0 t ≡ some-kind (has-free (table-of p n t))
-          → elim b [ true ↦ kind-from n 0 t | false ↦ None ] ≡ kind-as (not b) (has-free (table-of p n t))
-      go true h = h
-      go false h = refl
 
   -- the answer of a ready table that means these equations
   ready-answers : (t : Table) → TableReady p t → (n : ℕ) → suc n ≡ t .columns → (es : List Row)
       → table-of p n t ≡ steps K (fresh n) (rows-of p n es) → Says p P n es (solved p t .kind) (solved p t .values)
   ready-answers t ready n size es means =
-      subst (λ k. Says p P n es (solved-as k p t .kind) (solved-as k p t .values)) (sym (kind-by-columns t n size))
+      subst (λ k. Says p P n es (solved-as k p t .kind) (solved-as k p t .values)) (sym (kind-by-columns p t n size))
       (go (has-failed T) (has-free T) refl (subst (λ u. Meets K n (rows-of p n es) (answer K u)) (sym means) (solve-meets K n (rows-of p n es))))
     where
       T : Equations (Fp p)
@@ -149,3 +153,15 @@ module _ (p : ℕ) (P : Prime p) where
       ready-answers (added p (empty-table (suc n)) es) (added-ready p (empty-table (suc n)) es ready ok) n
       (sym (added-columns p (empty-table (suc n)) es ok)) es
       (added-means n (empty-table (suc n)) ready refl es ok ∙ ap (λ u. steps K u (rows-of p n es)) (empty-columns p (suc n) 0 n))
+
+-- the values are numbers below p, whatever the kind
+pub solved-below : (p : ℕ) (t : Table) → TableReady p t → (k : ℕ) → getD (solved p t .values) k 0 < p
+solved-below p t ready k = go (kind t)
+  where
+    zero-below : getD zeros k 0 < p
+    zero-below = let h : 0 < p = listed-positive (ready .listed) in replicate-all (λ a. a < p) COLUMNS k 0 0 h h
+
+    go : (x : Kind) → getD (solved-as x p t .values) k 0 < p
+    go None = zero-below
+    go One = values-below p t ready k
+    go Several = zero-below

@@ -64,7 +64,7 @@ module _ (p : ℕ) (P : Prime p) where
         (ap (el p) (altered-at _ j (columns - j) (e .cells) i h (omega arith) (omega arith)) ∙ el-times (inv (el p (cell e j))) (cell e i))
         (scaled-entries (suc i) n (omega arith) (omega arith))
 
-    -- the cell on the diagonal becomes 1
+    -- the cell on the diagonal, which becomes 1, is not 0
     pub scaled-diagonal : j < columns → cell e j < p → ¬ (cell e j ≡ 0) → ¬ (cell (scaled-row p e j columns) j ≡ 0)
     scaled-diagonal h b z q =
         K .one≢0
@@ -74,7 +74,7 @@ module _ (p : ℕ) (P : Prime p) where
         x : Fp p
         x = el p (cell e j)
 
-  -- no time a row
+  -- a row and 0 times another
   pub zero-times : (l m : List ℕ) (i n : ℕ) → plus-times K (entries p l i n) (neg (el p 0)) (entries p m i n) ≡ entries p l i n
   unfolding entries
   zero-times l m i zero = refl

@@ -1,4 +1,5 @@
--- What the equation table means: the numbers of a row are its entries in the field, and the rows on the diagonal are algebra's table, column by column.
+-- What the equation table means: the numbers of a row are its entries in the field, the rows on the diagonal are algebra's table, column by column,
+-- and a kind with its values says how many solutions the equations have.
 use mathlib.Core.Bool.{Bool, true, false}
 use mathlib.Core.List.{List, [], _∷_, map}
 use Prim.Native.Nat.{ℕ, zero, suc}

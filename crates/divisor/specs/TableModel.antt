@@ -50,6 +50,7 @@ abbrev pub scaled-row : ℕ → Row → ℕ → ℕ → Row
 scaled-row p e j columns =
     record { cells = altered (λ k a. inv (el p (cell e j)) .val * a % p) j (columns - j) (e .cells) }
 
+-- the equation kept in column j
 abbrev pub kept : ℕ → Table → ℕ → Row → Table
 kept p t j e = record { rows = set (t .rows) j (scaled-row p e j (t .columns)); columns = t .columns }
 
@@ -70,11 +71,12 @@ insert (suc n) j p t e =
 abbrev pub with-row : ℕ → Table → Row → Table
 with-row p t e = insert (t .columns) 0 p t e
 
--- None, if a row is kept in the last column; else whether a row is kept in each column before it
+-- whether a row is kept in each of n columns from j on
 unfoldable pub kind-from : ℕ → ℕ → Table → Kind
 kind-from zero j t = One
 kind-from (suc n) j t = elim (eqb (diagonal t j) 0) [ true ↦ Several | false ↦ kind-from n (suc j) t ]
 
+-- None, if a row is kept in the last column
 unfoldable pub kind : Table → Kind
 kind t = elim (eqb (diagonal t (t .columns - 1)) 0) [ true ↦ kind-from (t .columns - 1) 0 t | false ↦ None ]
 
@@ -113,6 +115,7 @@ pub record RowReady (p : ℕ) (e : Row) : Type 0 where
   pub size : length (e .cells) ≡ COLUMNS
   pub below : (k : ℕ) → cell e k < p
 
+-- a table of such rows modulo a listed prime
 pub record TableReady (p : ℕ) (t : Table) : Type 0 where
   pub listed : Listed p
   pub columns : Columns (t .columns)

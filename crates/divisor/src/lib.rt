@@ -1,9 +1,9 @@
 // Layer 3, the candidate: the common divisor that images and equations fix, or a refusal.
 use field::Fault;
 
-pub mod monic;
-pub mod sorting;
-pub mod table;
+mod monic;
+mod sorting;
+mod table;
 
 // Number and place, the least degree of an image, the numbers of bad, unlucky and kept points, and the count of terms.
 pub struct CandidateRecord {
