@@ -6,3 +6,4 @@ pub mod Lists
 pub mod Powers
 pub mod Value
 pub mod Eight
+pub mod Steps
