@@ -15,3 +15,4 @@ pub mod Turns
 pub mod EquationRow
 pub mod DivisorList
 pub mod Assembled
+pub mod EquationTurns

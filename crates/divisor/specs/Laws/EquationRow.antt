@@ -35,12 +35,12 @@ entries-split p l i (suc a) b j e =
     let r : suc a + b ≡ suc (a + b) = omega arith in
     ap (entries p l i) r ∙ ap (el p (getD l i 0) ∷_) (entries-split p l (suc i) a b j (omega arith))
 
-number-here : (p : ℕ) (ys zs ws : List ℕ) (i k : ℕ) → exponents k .x ≡ i
+pub number-here : (p : ℕ) (ys zs ws : List ℕ) (i k : ℕ) → exponents k .x ≡ i
     → monomial-number p ys zs ws i k ≡ (getD ys (exponents k .y) 0 * getD zs (exponents k .z) 0) % p * getD ws (exponents k .w) 0 % p
 unfolding monomial-number
 number-here p ys zs ws i k e = rw (eq-eqb _ i e, monomial-number)
 
-number-there : (p : ℕ) (ys zs ws : List ℕ) (i k : ℕ) → ¬ (exponents k .x ≡ i) → monomial-number p ys zs ws i k ≡ 0
+pub number-there : (p : ℕ) (ys zs ws : List ℕ) (i k : ℕ) → ¬ (exponents k .x ≡ i) → monomial-number p ys zs ws i k ≡ 0
 unfolding monomial-number
 number-there p ys zs ws i k n = rw (ne-eqb _ i n, monomial-number)
 
