@@ -16,3 +16,4 @@ pub mod EquationRow
 pub mod DivisorList
 pub mod Assembled
 pub mod EquationTurns
+pub mod PointTurns

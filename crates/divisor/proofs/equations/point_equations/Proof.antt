@@ -1,0 +1,138 @@
+-- `divisor::equations::point_equations` meets its contract. The invariant: the table has the equations of the powers passed. Assumes nothing.
+use borrow.Author.Needs.{needs}
+use mathlib.Core.Path.{_≡_, refl, sym, subst}
+use Prim.Native.Nat.{ℕ, _-_, _≤_}
+use native.Mathlib.Omega.{arith}
+use native.Mathlib.Nat.{mod-lt}
+use Rattle.field.specs.ModuliLaws.{listed-above, listed-positive}
+use Rattle.poly.specs.Coefficients.{Eight}
+use Rattle.poly.specs.Models.Powers.{powers}
+use Rattle.poly.specs.Laws.Powers.{powers-eight}
+use Rattle.divisor.specs.Models.Equation.{Equations-to}
+use Rattle.divisor.specs.Laws.EquationRow.{equation-ready}
+use Rattle.divisor.specs.Laws.PointTurns.{equation-with, point-start, point-ready, point-next}
+use Rattle.divisor.proofs.equations.point_equations.Statement.{statement}
+use Rattle.divisor.proofs.equations.point_equations.Tie as tie
+
+abbrev Inv-loop : tie.InvT-loop
+Inv-loop p skeleton point image column ys zs ws s₀ i₀ s i = (i ≤ 8) × Equations-to i p s₀ skeleton point image column s
+
+abbrev μ-loop : tie.MeasureT-loop
+μ-loop p skeleton point image column ys zs ws s₀ i₀ s i = 8 - i
+
+shared-slice-read-powers : tie.Need-shared-slice-read-powers Inv-loop μ-loop
+shared-slice-read-powers c = search needs
+
+powers-requires : tie.Need-powers-requires Inv-loop μ-loop
+powers-requires c κs = listed-above (c .before .before .before .before .pre .table .listed)
+
+shared-slice-read-powers-2 : tie.Need-shared-slice-read-powers-2 Inv-loop μ-loop
+shared-slice-read-powers-2 c = search needs
+
+powers-requires-2 : tie.Need-powers-requires-2 Inv-loop μ-loop
+powers-requires-2 c κs = listed-above (c .before .before .before .before .before .before .pre .table .listed)
+
+shared-slice-read-powers-3 : tie.Need-shared-slice-read-powers-3 Inv-loop μ-loop
+shared-slice-read-powers-3 c = search needs
+
+powers-requires-3 : tie.Need-powers-requires-3 Inv-loop μ-loop
+powers-requires-3 c κs = listed-above (c .before .before .before .before .before .before .before .before .pre .table .listed)
+
+loop-holds : tie.Need-loop-holds Inv-loop μ-loop
+loop-holds c = (omega arith, point-start _ _ _ _ _ _)
+
+mul-u : tie.Need-mul-u Inv-loop μ-loop
+mul-u c = search needs
+
+shared-slice-read-u : tie.Need-shared-slice-read-u Inv-loop μ-loop
+shared-slice-read-u c = search needs
+
+sub-u : tie.Need-sub-u Inv-loop μ-loop
+sub-u c = omega (arith, c .before .before .before .before .before .before .before .before .before .before .before .before .pre .eight .below (c .before .before .loop .i))
+
+rem-u : tie.Need-rem-u Inv-loop μ-loop
+rem-u c = omega (arith, listed-positive (c .before .before .before .before .before .before .before .before .before .before .before .before .pre .table .listed))
+
+cast-equation : tie.Need-cast-equation Inv-loop μ-loop
+cast-equation c = search needs
+
+equation-requires : tie.Need-equation-requires Inv-loop μ-loop
+equation-requires c κs =
+    let s = c .before .before .before .before .before .before .before .before .before .before .before .before in
+    let a = s .args in
+    let above = listed-above (s .pre .table .listed) in
+    record {
+      listed = s .pre .table .listed;
+      y-powers = subst (Eight (a .p)) (sym (c .before .before .before .before .before .before .before .powers .ensures)) (powers-eight (a .p) _ above);
+      z-powers = subst (Eight (a .p)) (sym (c .before .before .before .before .before .powers2 .ensures)) (powers-eight (a .p) _ above);
+      w-powers = subst (Eight (a .p)) (sym (c .before .before .before .powers3 .ensures)) (powers-eight (a .p) _ above);
+      small = s .pre .small;
+      behind = s .pre .behind;
+      within = omega (arith, s .pre .within, s .pre .table .columns .most);
+      below = mod-lt _ (listed-positive (s .pre .table .listed));
+    }
+
+with-added-requires : tie.Need-with-added-requires Inv-loop μ-loop
+with-added-requires c κs =
+    let s = c .before .before .before .before .before .before .before .before .before .before .before .before .before in
+    let a = s .args in
+    let l = c .before .before .before .loop in
+    record {
+      table = point-ready (a .p) (a .t) (a .skeleton .now) (a .point .now) (a .image .now) (a .column) (l .i) (l .s) (s .pre .table) (l .inv .1);
+      row = equation-ready (a .p) (listed-positive (s .pre .table .listed)) _ _ _ (a .skeleton .now) (l .i) (a .column) _ (c .equation .result)
+          (mod-lt _ (listed-positive (s .pre .table .listed))) (c .equation .ensures);
+    }
+
+add-i : tie.Need-add-i Inv-loop μ-loop
+add-i c = search needs
+
+loop-less : tie.Need-loop-less Inv-loop μ-loop
+loop-less c = search needs
+
+loop-again : tie.Need-loop-again Inv-loop μ-loop
+loop-again c =
+    let s = c .before .before .before .before .before .before .before .before .before .before .before .before .before .before in
+    let a = s .args in
+    let l = c .before .before .before .before .loop in
+    let y = c .before .before .before .before .before .before .before .before .before .powers .ensures in
+    let z = c .before .before .before .before .before .before .before .powers2 .ensures in
+    let w = c .before .before .before .before .before .powers3 .ensures in (
+      omega arith,
+      point-next (a .p) (a .t) (a .skeleton .now) (a .point .now) (a .image .now) (a .column) (l .i) (l .s) _ (c .before .equation .result) (c .with-added .result)
+          (listed-positive (s .pre .table .listed)) (s .pre .eight .below (l .i)) refl
+          (equation-with y z w (c .before .equation .ensures))
+          (l .inv .1) (c .with-added .ensures),
+    )
+
+returns : tie.Need-returns Inv-loop μ-loop
+returns c =
+    let s = c .before .before .before .before .before .before .before .before .before .before .before in
+    let a = s .args in
+    let l = c .before .loop in
+    let e : l .i ≡ 8 = omega arith in
+    subst (λ (j : ℕ). Equations-to j (a .p) (a .t) (a .skeleton .now) (a .point .now) (a .image .now) (a .column) (l .s)) e (l .inv .1)
+
+pub point-equations-spec : {M : Type 1} → statement M
+point-equations-spec =
+    tie.close
+    (tie.spec
+    Inv-loop
+    μ-loop
+    shared-slice-read-powers
+    powers-requires
+    shared-slice-read-powers-2
+    powers-requires-2
+    shared-slice-read-powers-3
+    powers-requires-3
+    loop-holds
+    mul-u
+    shared-slice-read-u
+    sub-u
+    rem-u
+    cast-equation
+    equation-requires
+    with-added-requires
+    add-i
+    loop-less
+    loop-again
+    returns)

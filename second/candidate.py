@@ -1,0 +1,226 @@
+#!/usr/bin/env python3
+"""The rule of the candidate, and what the programs print for a case file.
+
+Run as a program it takes the name of a service (candidate, quotient, image,
+answers), reads standard input and prints what that program should print.
+"""
+
+import sys
+from dataclasses import dataclass, field
+
+import case_file
+from polynomials import (
+    POWERS, exponents, image, monic, monomial_at, point_powers, polynomial, quotient, term_list,
+)
+from refusals import (
+    COEFFICIENTS, MOST_SKELETON_KEYS, QUOTIENT_TERMS, WORK_NUMBERS, Refusal, check_both_lists,
+    check_point_numbers, check_rooms, check_skeleton,
+)
+
+
+@dataclass
+class Record:
+    """The candidate's answer; `terms` holds the terms themselves."""
+
+    number: int
+    place: int = 0
+    d: int = 0
+    bad: int = 0
+    unlucky: int = 0
+    kept: int = 0
+    terms: list = field(default_factory=list)
+
+
+def candidate(case, output_room=MOST_SKELETON_KEYS, work_room=WORK_NUMBERS):
+    """The candidate's record for a case whose values are not yet tested."""
+    try:
+        check_both_lists(case.modulus, case.first, case.second)
+        check_skeleton(case.skeleton)
+        check_point_numbers(case.points, case.modulus)
+        check_rooms(output_room, len(case.skeleton), work_room)
+    except Refusal as refusal:
+        return Record(refusal.number, refusal.place)
+    return _candidate_by_rule(case)
+
+
+def _candidate_by_rule(case):
+    p = case.modulus
+    first, second = polynomial(case.first), polynomial(case.second)
+    points = point_triples(case)
+    images = [(point, image(first, second, point, p)) for point in points]
+    good = [(point, u) for point, u in images if u is not None]
+    if not good:
+        return Record(12, bad=len(points))
+    d = min(len(u) - 1 for _, u in good)
+    kept = kept_images(good, d)
+    record = Record(0, 0, d, len(points) - len(good), len(good) - len(kept), len(kept))
+    try:
+        unknowns = len(case.skeleton) + len(kept) - 1
+        solution = only_solution(equations(case.skeleton, kept, p), unknowns, p)
+        divisor = monic({k: c for k, c in zip(case.skeleton, solution) if c}, p)
+        if not divides_both(divisor, first, second, p):
+            raise Refusal(15)
+    except Refusal as refusal:
+        record.number = refusal.number
+        return record
+    record.terms = term_list(divisor)
+    return record
+
+
+def point_triples(case):
+    return [tuple(case.points[i:i + 3]) for i in range(0, len(case.points), 3)]
+
+
+def kept_images(good, d):
+    """The good points with an image of degree d, with these images, in the order lent."""
+    return [(point, u) for point, u in good if len(u) - 1 == d]
+
+
+def equations(skeleton, kept, p):
+    """The equations as rows: coefficients, multipliers from the second on, right-hand side."""
+    rows = []
+    for index, (point, u) in enumerate(kept):
+        powers = point_powers(point, p)
+        values = [monomial_at(key, powers, p) for key in skeleton]
+        for power in range(POWERS):
+            skeleton_part = [value if exponents(key)[0] == power else 0
+                             for key, value in zip(skeleton, values)]
+            image_part = [0] * len(kept)
+            image_part[index] = u[power] if power < len(u) else 0
+            # The first multiplier is 1, so its part stands on the right-hand side.
+            moved = [-value % p for value in image_part[1:]]
+            rows.append(skeleton_part + moved + image_part[:1])
+    return rows
+
+
+def only_solution(rows, unknowns, p):
+    """The only solution of the rows; a Refusal with 13 for none, 14 for more than one."""
+    pivots = {}
+    for row in rows:
+        row = _reduced(row, pivots, p)
+        column = next((i for i, value in enumerate(row) if value), None)
+        if column == unknowns:
+            raise Refusal(13)
+        if column is not None:
+            inverse = pow(row[column], -1, p)
+            pivots[column] = [value * inverse % p for value in row]
+    if len(pivots) < unknowns:
+        raise Refusal(14)
+    return _back_substituted(pivots, unknowns, p)
+
+
+def _reduced(row, pivots, p):
+    """The row without the columns that have a pivot; a pivot row is 0 before its column."""
+    for column in range(len(row) - 1):
+        factor = row[column]
+        if factor and column in pivots:
+            row = [(a - factor * b) % p for a, b in zip(row, pivots[column])]
+    return row
+
+
+def _back_substituted(pivots, unknowns, p):
+    solution = [0] * unknowns
+    for column in reversed(range(unknowns)):
+        row = pivots[column]
+        known = sum(row[i] * solution[i] for i in range(column + 1, unknowns))
+        solution[column] = (row[unknowns] - known) % p
+    return solution
+
+
+def divides_both(divisor, first, second, p):
+    return (quotient(first, divisor, p) is not None
+            and quotient(second, divisor, p) is not None)
+
+
+def quotient_terms(case, output_room=QUOTIENT_TERMS, work_room=WORK_NUMBERS):
+    """The terms of A over B for a case, or a Refusal."""
+    check_both_lists(case.modulus, case.first, case.second)
+    check_rooms(output_room, QUOTIENT_TERMS, work_room)
+    result = quotient(polynomial(case.first), polynomial(case.second), case.modulus)
+    if result is None:
+        raise Refusal(15)
+    return term_list(result)
+
+
+def image_at(case, point):
+    """The image of a case at one point, or a Refusal."""
+    check_both_lists(case.modulus, case.first, case.second)
+    check_point_numbers(point, case.modulus, most=3)
+    u = image(polynomial(case.first), polynomial(case.second), point, case.modulus)
+    if u is None:
+        raise Refusal(12)
+    return u
+
+
+def candidate_text(data):
+    """What the program `candidate` prints for a case file."""
+    try:
+        record = candidate(case_file.read(data))
+    except Refusal as refusal:
+        record = Record(refusal.number, refusal.place)
+    head = (record.number, record.place, record.d, record.bad, record.unlucky, record.kept)
+    return _line(*head) + _term_lines(record.terms)
+
+
+def quotient_text(data):
+    """What the program `quotient` prints for a case file."""
+    try:
+        terms = quotient_terms(case_file.read(data))
+    except Refusal as refusal:
+        return _line(refusal.number, refusal.place)
+    return _line(0, 0) + _term_lines(terms)
+
+
+def image_text(data):
+    """What the program `image` prints for a case file: one line for each point."""
+    try:
+        case = case_file.read(data)
+    except Refusal as refusal:
+        return _line(refusal.number, refusal.place)
+    return "".join(_image_line(case, point) for point in point_triples(case))
+
+
+def _image_line(case, point):
+    try:
+        u = image_at(case, point)
+    except Refusal as refusal:
+        return _line(refusal.number, refusal.place, *[0] * (1 + POWERS))
+    return _line(0, 0, len(u) - 1, *u, *[0] * (POWERS - len(u)))
+
+
+def _line(*numbers):
+    return " ".join(map(str, numbers)) + "\n"
+
+
+def _term_lines(terms):
+    return "".join(
+        _line(term % COEFFICIENTS, *exponents(term // COEFFICIENTS)) for term in terms)
+
+
+def answers_text(stream):
+    """What the program `answers` prints for a stream of case files with their lengths."""
+    texts = []
+    offset = 0
+    while offset < len(stream):
+        start = offset + 2
+        offset = start + int.from_bytes(stream[offset:start], "little")
+        texts.append(candidate_text(stream[start:offset]))
+    return "".join(texts)
+
+
+PROGRAMS = {
+    "candidate": candidate_text,
+    "quotient": quotient_text,
+    "image": image_text,
+    "answers": answers_text,
+}
+
+
+def main():
+    if len(sys.argv) != 2 or sys.argv[1] not in PROGRAMS:
+        sys.exit(f"usage: candidate.py {'|'.join(PROGRAMS)} < input")
+    sys.stdout.write(PROGRAMS[sys.argv[1]](sys.stdin.buffer.read()))
+
+
+if __name__ == "__main__":
+    main()

@@ -1,0 +1,48 @@
+"""Deliberate faults of the second program, to see that a comparison reports them."""
+
+import candidate
+from polynomials import at_point, monic_gcd, point_powers
+
+true_equations = candidate.equations
+
+
+def multipliers_one(skeleton, kept, p):
+    """Every multiplier is fixed at 1: a further equation for each one after the first."""
+    width = len(skeleton) + len(kept)
+    rows = true_equations(skeleton, kept, p)
+    for column in range(len(skeleton), width - 1):
+        row = [0] * width
+        row[column] = row[-1] = 1
+        rows.append(row)
+    return rows
+
+
+def divides_only_first(divisor, first, _second, p):
+    return candidate.quotient(first, divisor, p) is not None
+
+
+def unlucky_kept(good, _d):
+    return good
+
+
+def divides_as_values(divisor, first, second, p):
+    """Division is tested at one point only."""
+    powers = point_powers((2, 3, 5), p)
+    values = at_point(divisor, powers, p)
+    return bool(values) and all(
+        len(monic_gcd(values, at_point(poly, powers, p), p)) == len(values)
+        for poly in (first, second))
+
+
+FAULTS = {
+    "multipliers-one": ("equations", multipliers_one),
+    "divides-only-first": ("divides_both", divides_only_first),
+    "unlucky-kept": ("kept_images", unlucky_kept),
+    "divides-as-values": ("divides_both", divides_as_values),
+}
+
+
+def put_in(name):
+    """Replaces one step of the rule by its faulty form."""
+    step, faulty = FAULTS[name]
+    setattr(candidate, step, faulty)

@@ -1,0 +1,142 @@
+"""Polynomials in x, y, z, w modulo p: term lists, images at a point, exact division.
+
+A polynomial is a dictionary from key to coefficient without zero coefficients.
+A polynomial in x alone is a list of coefficients, x^0 first, without leading zeros.
+"""
+
+from refusals import COEFFICIENTS
+
+POWERS = 8
+
+
+def key(a, b, c, d):
+    """The key of x^a y^b z^c w^d."""
+    return 512 * a + 64 * b + 8 * c + d
+
+
+def exponents(monomial):
+    """The exponents of x, y, z, w in a key."""
+    return (monomial // 512, monomial // 64 % 8, monomial // 8 % 8, monomial % 8)
+
+
+def polynomial(terms):
+    """The polynomial of a term list."""
+    return {term // COEFFICIENTS: term % COEFFICIENTS for term in terms}
+
+
+def term_list(poly):
+    """The term list of a polynomial, keys falling."""
+    return [monomial * COEFFICIENTS + poly[monomial] for monomial in sorted(poly, reverse=True)]
+
+
+def greatest_exponents(poly):
+    """For each variable its greatest exponent in the polynomial."""
+    return tuple(map(max, zip(*map(exponents, poly))))
+
+
+def add(left, right, p):
+    total = dict(left)
+    for monomial, coefficient in right.items():
+        _add_term(total, monomial, coefficient, p)
+    return total
+
+
+def multiply(left, right, p):
+    tops = zip(greatest_exponents(left), greatest_exponents(right))
+    assert all(a + b < POWERS for a, b in tops), "an exponent of the product is above 7"
+    product = {}
+    for left_key, left_coefficient in left.items():
+        for right_key, right_coefficient in right.items():
+            _add_term(product, left_key + right_key, left_coefficient * right_coefficient, p)
+    return product
+
+
+def _add_term(poly, monomial, coefficient, p):
+    total = (poly.get(monomial, 0) + coefficient) % p
+    if total:
+        poly[monomial] = total
+    else:
+        poly.pop(monomial, None)
+
+
+def monic(poly, p):
+    """The polynomial divided by its leading coefficient."""
+    inverse = pow(poly[max(poly)], -1, p)
+    return {monomial: coefficient * inverse % p for monomial, coefficient in poly.items()}
+
+
+def quotient(dividend, divisor, p):
+    """The polynomial Q with dividend = divisor * Q, or None where there is none."""
+    leading = max(divisor)
+    inverse = pow(divisor[leading], -1, p)
+    tops = tuple(map(int.__sub__, greatest_exponents(dividend), greatest_exponents(divisor)))
+    remainder = dict(dividend)
+    result = {}
+    while remainder:
+        head = max(remainder)
+        steps = map(int.__sub__, exponents(head), exponents(leading))
+        if not all(0 <= step <= top for step, top in zip(steps, tops)):
+            return None
+        shift = head - leading
+        factor = remainder[head] * inverse % p
+        result[shift] = factor
+        for monomial, coefficient in divisor.items():
+            _add_term(remainder, monomial + shift, -factor * coefficient, p)
+    return result
+
+
+def point_powers(point, p):
+    """For each of y, z, w the table of its powers 0 to 7 at the point."""
+    return [[pow(coordinate, power, p) for power in range(POWERS)] for coordinate in point]
+
+
+def monomial_at(monomial, powers, p):
+    """The value of the y, z, w part of a monomial, by the tables of powers."""
+    _, b, c, d = exponents(monomial)
+    y, z, w = powers
+    return y[b] * z[c] * w[d] % p
+
+
+def at_point(poly, powers, p):
+    """The polynomial in x that is left at a point."""
+    values = [0] * POWERS
+    for monomial, coefficient in poly.items():
+        a = exponents(monomial)[0]
+        values[a] = (values[a] + coefficient * monomial_at(monomial, powers, p)) % p
+    return _trimmed(values)
+
+
+def _trimmed(values):
+    while values and values[-1] == 0:
+        values.pop()
+    return values
+
+
+def monic_gcd(left, right, p):
+    """The monic greatest common divisor in x of two polynomials, the left one not zero."""
+    while right:
+        left, right = right, _remainder(left, right, p)
+    inverse = pow(left[-1], -1, p)
+    return [value * inverse % p for value in left]
+
+
+def _remainder(dividend, divisor, p):
+    rest = list(dividend)
+    inverse = pow(divisor[-1], -1, p)
+    while len(rest) >= len(divisor):
+        factor = rest[-1] * inverse % p
+        shift = len(rest) - len(divisor)
+        for power, value in enumerate(divisor):
+            rest[shift + power] = (rest[shift + power] - factor * value) % p
+        _trimmed(rest)
+    return rest
+
+
+def image(first, second, point, p):
+    """The image U of the two polynomials at a point, or None if the point is bad."""
+    powers = point_powers(point, p)
+    first_at_point = at_point(first, powers, p)
+    x_degree = exponents(max(first))[0]
+    if len(first_at_point) <= x_degree:
+        return None
+    return monic_gcd(first_at_point, at_point(second, powers, p), p)

@@ -1,0 +1,68 @@
+"""Refusals, and the tests of inputs that give the numbers 1 to 11."""
+
+MODULI = (7, 13, 17, 101, 32003, 65521)
+KEYS = 4096
+MOST_TERMS = 256
+MOST_SKELETON_KEYS = 32
+MOST_POINT_NUMBERS = 96
+WORK_NUMBERS = 8192
+QUOTIENT_TERMS = 4096
+COEFFICIENTS = 65536
+
+
+class Refusal(Exception):
+    """A refusal number and its place."""
+
+    def __init__(self, number, place=0):
+        super().__init__(number, place)
+        self.number = number
+        self.place = place
+
+
+def check_modulus(modulus):
+    if modulus not in MODULI:
+        raise Refusal(1)
+
+
+def check_list(terms, modulus, length_number):
+    """Tests of a term list; its terms are refused with the number after `length_number`."""
+    if not 1 <= len(terms) <= MOST_TERMS:
+        raise Refusal(length_number)
+    before = KEYS  # so a first key above 4095 is refused like a key that does not fall
+    for place, term in enumerate(terms):
+        key, coefficient = divmod(term, COEFFICIENTS)
+        if key >= before or not 1 <= coefficient < modulus:
+            raise Refusal(length_number + 1, place)
+        before = key
+
+
+def check_both_lists(modulus, first, second):
+    """The tests 1 to 5, which candidate, quotient and image share."""
+    check_modulus(modulus)
+    check_list(first, modulus, 2)
+    check_list(second, modulus, 4)
+
+
+def check_skeleton(skeleton):
+    if not 1 <= len(skeleton) <= MOST_SKELETON_KEYS:
+        raise Refusal(6)
+    before = KEYS
+    for place, key in enumerate(skeleton):
+        if key >= before:
+            raise Refusal(7, place)
+        before = key
+
+
+def check_point_numbers(numbers, modulus, most=MOST_POINT_NUMBERS):
+    if not 1 <= len(numbers) <= most or len(numbers) % 3 != 0:
+        raise Refusal(8)
+    for place, number in enumerate(numbers):
+        if number >= modulus:
+            raise Refusal(9, place)
+
+
+def check_rooms(output_room, output_needed, work_room):
+    if output_room < output_needed:
+        raise Refusal(10)
+    if work_room < WORK_NUMBERS:
+        raise Refusal(11)
