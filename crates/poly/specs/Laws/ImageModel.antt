@@ -15,20 +15,22 @@ use Rattle.field.specs.Modulo.{Modulo}
 use Rattle.field.specs.Numbers.{NO_GOOD_POINT}
 use Rattle.field.specs.Refusal.{fault}
 use Rattle.poly.specs.Keys.{keys}
-use Rattle.poly.specs.Terms.{terms-of}
+use Rattle.poly.specs.Terms.{key-of, terms-of}
 use Rattle.poly.specs.Value.{value, x-degree}
 use Rattle.poly.specs.Image.{Bad, Image}
 use Rattle.poly.specs.LeadingPart.{x-of}
 use Rattle.poly.specs.Coefficients.{Eight, series}
 use Rattle.poly.specs.ImageCall.{point-of, refusal, PointAnswer, bad, good}
 use Rattle.poly.specs.Models.Powers.{powers}
+use Rattle.poly.specs.Models.Value.{Ready, value-of}
 use Rattle.poly.specs.Models.Eight.{size, gcd}
 use Rattle.poly.specs.Models.Image.{value-at, found, image-of-values, image-of}
+use Rattle.poly.specs.Laws.Powers.{powers-eight}
 use Rattle.poly.specs.Laws.EightNumbers.{eight-clear, size-clear, size-le}
 use Rattle.poly.specs.Laws.EightMeaning.{clear-ends, IsGcd, gcd-is-gcd, gcd-nonzero}
 use Rattle.poly.specs.Laws.ValueModel.{value-of-eight}
 use Rattle.poly.specs.Laws.ValueMeaning.{value-of-series}
-use Rattle.poly.specs.Laws.RightLists.{falling-key, RightList}
+use Rattle.poly.specs.Laws.RightLists.{falling-key, falling-coefficient, RightList}
 
 -- what the code's test of a's number at x settles
 pub values-bad : (p x : ℕ) (a b : List ℕ) → getD a x 0 ≡ 0 → image-of-values p x a b ≡ refusal (fault NO_GOOD_POINT 0)
@@ -43,6 +45,30 @@ values-good p x a b n = rw (ne-eqb (getD a x 0) 0 n, image-of-values)
 pub size-positive : (p x : ℕ) (a : List ℕ) → Eight p a → ¬ (getD a x 0 ≡ 0) → 0 < size a
 size-positive p x a h n =
     elim (ℕ-discrete (size a) 0) [ yes e ↦ absurd (n (size-clear 8 a (eight-clear p a h) x (omega arith))) | no q ↦ omega arith ]
+
+pub gcd-positive : {p : ℕ} (P : Prime p) (x : ℕ) (a b : List ℕ) → Eight p a → Eight p b → ¬ (getD a x 0 ≡ 0) → 0 < size (gcd p a b)
+gcd-positive {p} P x a b ha hb n =
+    let filled : ¬ (size a ≡ 0) = λ e. omega (arith, size-positive p x a ha n) in
+    omega (arith, gcd-nonzero P a b ha filled hb)
+
+-- with the tables that the code has worked
+module _ (p : ℕ) (point ys zs ws : List ℕ) (y : ys ≡ powers p (getD point 0 0)) (z : zs ≡ powers p (getD point 1 0)) (w : ws ≡ powers p (getD point 2 0)) where
+  pub tables-ready : 1 < p → (ts : List ℕ) → RightList p ts → Ready p ys zs ws ts
+  tables-ready h ts r =
+      record {
+        y-powers = subst (Eight p) (sym y) (powers-eight p (getD point 0 0) h);
+        z-powers = subst (Eight p) (sym z) (powers-eight p (getD point 1 0) h);
+        w-powers = subst (Eight p) (sym w) (powers-eight p (getD point 2 0) h);
+        keys = falling-key p keys ts (r .falls);
+        coefficients = falling-coefficient p keys ts (r .falls);
+      }
+
+  pub value-by-tables : (ts : List ℕ) → value-of p ys zs ws ts ≡ value-at p point ts
+  unfolding value-at
+  value-by-tables ts = λ i. value-of p (y i) (z i) (w i) ts
+
+pub first-power-small : (p : ℕ) (ts : List ℕ) → RightList p ts → x-of (getD ts 0 0) < 8
+first-power-small p ts h = let k : key-of (getD ts 0 0) < keys = falling-key p keys ts (h .falls) 0 (h .some) in omega arith
 
 module _ {p : ℕ} (P : Prime p) (point : List ℕ) where
   pub value-at-eight : (ts : List ℕ) → Eight p (value-at p point ts)
@@ -87,7 +113,7 @@ module _ {p : ℕ} (P : Prime p) (point : List ℕ) where
       model-is-image =
           record {
             good = λ z. el-nonzero p (getD a x 0) (value-at-eight A .below x) n (leading ∙ z);
-            small = omega (arith, size-le 8 (gcd p a b), gcd-nonzero P a b (value-at-eight A) filled (value-at-eight B));
+            small = omega (arith, size-le 8 (gcd p a b), gcd-positive P x a b (value-at-eight A) (value-at-eight B) n);
             monic =
                 record {
                   leads = ap (el p) (greatest .monic .one);
