@@ -4,6 +4,7 @@ pub mod Value
 pub mod Lists
 pub mod Search
 pub mod ListCheck
+pub mod RightLists
 pub mod Terms
 pub mod Powers
 pub mod EightNumbers
@@ -11,3 +12,5 @@ pub mod EightMeaning
 pub mod EightTurns
 pub mod ValueModel
 pub mod ValueMeaning
+pub mod Image
+pub mod ImageModel

@@ -7,3 +7,4 @@ pub mod Powers
 pub mod Value
 pub mod Eight
 pub mod Steps
+pub mod Image

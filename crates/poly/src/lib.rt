@@ -2,6 +2,7 @@
 use field::Fault;
 
 pub mod euclid;
+pub mod image;
 pub mod key;
 pub mod list;
 pub mod value;
