@@ -17,3 +17,4 @@ pub mod DivisorList
 pub mod Assembled
 pub mod EquationTurns
 pub mod PointTurns
+pub mod LookTurns

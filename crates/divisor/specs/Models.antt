@@ -3,3 +3,4 @@ pub mod Rows
 pub mod Sorting
 pub mod Monic
 pub mod Equation
+pub mod Looks

@@ -1,0 +1,95 @@
+-- The turns of the loop over the points that adds the equations of the kept ones. Assumes nothing.
+use mathlib.Core.Path.{_≡_, refl, sym, _∙_, ap, ap₂, subst}
+use mathlib.Core.Bool.{Bool, true, false}
+use mathlib.Core.List.{List, [], _∷_, _++_, map, append-assoc, append-nil}
+use Prim.Native.Nat.{ℕ, zero, suc, _+_, _-_, _*_, _/_, _≤_, _<_}
+use native.Mathlib.Numerals.{add-one}
+use native.Mathlib.Omega.{arith}
+use lib.Dec.{eqb}
+use lib.ListN.{length, getD, take, length-append}
+use borrow.Author.Tests.{eq-eqb, ne-eqb}
+use Rattle.algebra.specs.Four.{Exponents}
+use Rattle.algebra.specs.Field.{Field}
+use Rattle.field.specs.Prime.{Prime}
+use Rattle.field.specs.Modulo.{Modulo}
+use Rattle.poly.specs.Keys.{exponents}
+use Rattle.divisor.specs.declared.table.Row.{Row}
+use Rattle.divisor.specs.declared.table.Table.{Table}
+use Rattle.divisor.specs.Rule.{Kept}
+use Rattle.divisor.specs.TableModel.{TableReady, empty-table}
+use Rattle.divisor.specs.TableMeaning.{added, row-of, rows-of, AllReady}
+use Rattle.divisor.specs.TableAnswer.{added-append, added-ready, added-columns}
+use Rattle.divisor.specs.Models.Rows.{rows-at, rows-from}
+use Rattle.divisor.specs.Models.Sorting.{alike}
+use Rattle.divisor.specs.Models.Equation.{kept-numbers, Equations-to}
+use Rattle.divisor.specs.Models.Looks.{point-at, image-at, kept-before, rows-so, Equations-before}
+
+module _ (K : Field) (es : List Exponents) (n : ℕ) where
+  rows-from-more : (m : ℕ) (ks : List (Kept K)) (k : Kept K) (a : ℕ) → a ≡ m + length ks → rows-from K es n m (ks ++ (k ∷ [])) ≡ rows-from K es n m ks ++ rows-at K es n a k 0 8
+  rows-from-more m [] k a e = let q : m ≡ a = omega arith in append-nil (rows-at K es n m k 0 8) ∙ ap (λ (b : ℕ). rows-at K es n b k 0 8) q
+  rows-from-more m (x ∷ ks) k a e = ap (rows-at K es n m x 0 8 ++_) (rows-from-more (suc m) ks k a (omega arith)) ∙ sym (append-assoc (rows-at K es n m x 0 8) (rows-from K es n (suc m) ks) (rows-at K es n a k 0 8))
+
+-- the column of the next point's multiplier, behind the monomials: the last for the first point
+abbrev pub next-column : ℕ → ℕ → ℕ
+next-column n zero = n
+next-column n (suc kept) = kept
+
+pub rows-so-more : (K : Field) (es : List Exponents) (n : ℕ) (ks : List (Kept K)) (k : Kept K) → rows-so K es n (ks ++ (k ∷ [])) ≡ rows-so K es n ks ++ rows-at K es (suc n) (next-column n (length ks)) k 0 8
+rows-so-more K es n [] k = append-nil (rows-at K es (suc n) n k 0 8)
+rows-so-more K es n (x ∷ ks) k =
+    ap (rows-at K es (suc n) n x 0 8 ++_) (rows-from-more K es (suc n) 0 ks k (length ks) (omega arith))
+    ∙ sym (append-assoc (rows-at K es (suc n) n x 0 8) (rows-from K es (suc n) 0 ks) (rows-at K es (suc n) (length ks) k 0 8))
+
+rows-append : (p c : ℕ) (xs ys : List Row) → rows-of p c (xs ++ ys) ≡ rows-of p c xs ++ rows-of p c ys
+rows-append p c [] ys = refl
+rows-append p c (x ∷ xs) ys = ap (row-of p c x ∷_) (rows-append p c xs ys)
+
+ready-append : (p : ℕ) (xs ys : List Row) → AllReady p xs → AllReady p ys → AllReady p (xs ++ ys)
+ready-append p [] ys h k = k
+ready-append p (x ∷ xs) ys h k = (h .0, ready-append p xs ys (h .1) k)
+
+module _ {p : ℕ} (P : Prime p) (m : ℕ) (points sizes work : List ℕ) (i : ℕ) where
+  pub kept-same : getD sizes i 0 ≡ m → kept-before P m points sizes work (i + 1) ≡ kept-before P m points sizes work i ++ (kept-numbers p P (point-at points i) (image-at work i) ∷ [])
+  unfolding kept-before
+  kept-same e = ap (kept-before P m points sizes work) (add-one i) ∙ rw (eq-eqb (getD sizes i 0) m e, kept-before)
+
+  pub kept-other : ¬ (getD sizes i 0 ≡ m) → kept-before P m points sizes work (i + 1) ≡ kept-before P m points sizes work i
+  unfolding kept-before
+  kept-other n = ap (kept-before P m points sizes work) (add-one i) ∙ rw (ne-eqb (getD sizes i 0) m n, kept-before) (append-nil (kept-before P m points sizes work i))
+
+module _ (p : ℕ) (ks points sizes work : List ℕ) (m columns : ℕ) where
+  pub equations-start : Equations-before 0 p ks points sizes work m columns (empty-table columns)
+  equations-start = record { rows = []; ready = tt; adds = (unfold added in refl); means = λ P. (unfold kept-before in refl) }
+
+  module _ (i : ℕ) (t : Table) (h : Equations-before i p ks points sizes work m columns t) where
+    pub equations-ready : TableReady p (empty-table columns) → TableReady p t
+    equations-ready ready = subst (TableReady p) (sym (h .adds)) (added-ready p (empty-table columns) (h .rows) ready (h .ready))
+
+    pub equations-columns : t .columns ≡ columns
+    equations-columns = ap (λ (s : Table). s .columns) (h .adds) ∙ added-columns p (empty-table columns) (h .rows) (h .ready)
+
+    pub equations-other : ¬ (getD sizes i 0 ≡ m) → Equations-before (i + 1) p ks points sizes work m columns t
+    equations-other n = record {
+      rows = h .rows;
+      ready = h .ready;
+      adds = h .adds;
+      means = λ P. h .means P ∙ ap (rows-so (Modulo p P) (map exponents ks) (alike m (take (length points / 3) sizes) - 1)) (sym (kept-other P m points sizes work i n));
+    }
+
+    pub equations-same : getD sizes i 0 ≡ m → (column kept n : ℕ) (r : Table) → ((P : Prime p) → length (kept-before P m points sizes work i) ≡ kept)
+        → suc n ≡ alike m (take (length points / 3) sizes) → columns ≡ length ks + suc n → column ≡ length ks + next-column n kept → next-column n kept < suc n
+        → Equations-to 8 p t ks (point-at points i) (image-at work i) column r → Equations-before (i + 1) p ks points sizes work m columns r
+    equations-same e column kept n r counted total size col fits g = record {
+      rows = h .rows ++ g .rows;
+      ready = ready-append p (h .rows) (g .rows) (h .ready) (g .ready);
+      adds = g .adds ∙ ap (λ (s : Table). added p s (g .rows)) (h .adds) ∙ sym (added-append p (empty-table columns) (h .rows) (g .rows));
+      means = λ P.
+          let k = kept-numbers p P (point-at points i) (image-at work i) in
+          let K = Modulo p P in
+          let N : alike m (take (length points / 3) sizes) - 1 ≡ n = omega arith in
+          rows-append p (columns - 1) (h .rows) (g .rows)
+          ∙ ap₂ _++_ (h .means P ∙ ap (λ (a : ℕ). rows-so K (map exponents ks) a (kept-before P m points sizes work i)) N)
+          (g .means P (columns - 1) (suc n) (next-column n kept) (omega arith) col fits ∙ ap (λ (a : ℕ). rows-at K (map exponents ks) (suc n) (next-column n a) k 0 8) (sym (counted P)))
+          ∙ sym (rows-so-more K (map exponents ks) n (kept-before P m points sizes work i) k)
+          ∙ ap₂ (rows-so K (map exponents ks)) (sym N) (sym (kept-same P m points sizes work i e));
+    }
