@@ -1,0 +1,8 @@
+-- Laws of the reader that belong to no single function.
+pub mod Tests
+pub mod Bytes
+pub mod Arrays
+pub mod Steps
+pub mod Standing
+pub mod Progress
+pub mod Alone
