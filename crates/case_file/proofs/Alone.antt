@@ -31,7 +31,7 @@ unfolding read-one
 refusal-numbered bs = numbered 0 0 0 no-records bs
 
 module _ (n : ℕ) where
-  stays-whole : (o : Reading) → n ≤ next o → alone n o ≡ o
+  pub stays-whole : (o : Reading) → n ≤ next o → alone n o ≡ o
   unfolding alone
   stays-whole (whole c at) h = rw (le-ltb at n h, alone)
   stays-whole (refused e i) h = refl

@@ -6,3 +6,9 @@ pub mod Steps
 pub mod Standing
 pub mod Progress
 pub mod Alone
+pub mod Packing
+pub mod ReadBack
+pub mod RoundTrip
+pub mod Accepted
+pub mod Settled
+pub mod Determined

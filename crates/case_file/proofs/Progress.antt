@@ -12,10 +12,10 @@ use Rattle.case_file.specs.Reading.{Reading, whole, refused, fault, read
 use Rattle.case_file.specs.Handed.{Gives}
 use Rattle.case_file.specs.Steps.{held, Ready}
 use Rattle.case_file.specs.declared.Counts.{Counts}
-use Rattle.case_file.proofs.Tests.{Passed, passed, fault-same, not-second}
+use Rattle.case_file.proofs.Tests.{Passed, passed, fault-same, not-second, not-below}
 use Rattle.case_file.proofs.Arrays.{length-numbers}
 use Rattle.case_file.proofs.Steps.{runs-out, passed-over, stops, ends, goes-on}
-use Rattle.case_file.proofs.Standing.{Standing, standing-start, standing-more, not-below, counted, threes}
+use Rattle.case_file.proofs.Standing.{Standing, standing-start, standing-more, counted, threes}
 
 pub record Progress (bs : List ℕ) (r : Counts) (first second skeleton points : List ℕ) (before at : ℕ) : Type 0 where
   pub case : Case

@@ -14,7 +14,7 @@ use Rattle.case_file.specs.Reading.{whole}
 use Rattle.case_file.specs.Handed.{counts}
 use Rattle.case_file.specs.Steps.{held}
 use Rattle.case_file.specs.declared.Counts.{Counts}
-use Rattle.case_file.proofs.Tests.{by-kind, rises, not-second}
+use Rattle.case_file.proofs.Tests.{by-kind, not-second}
 use Rattle.case_file.proofs.Arrays.{flat-more}
 
 pub record Standing (before : ℕ) (c : Case) : Type 0 where
@@ -25,11 +25,6 @@ pub record Standing (before : ℕ) (c : Case) : Type 0 where
 pub standing-start : Standing 0 no-records
 unfolding flat
 standing-start = record { below-end = omega arith; later = λ j h. refl; even = λ j. sym (mul-zero (count j)) }
-
--- a record that may stand here is not below the one before it
-pub not-below : (before k : ℕ) → modulus-kind ≤ k → follows before k ≡ true → before ≤ k
-not-below zero k low o = omega arith
-not-below (suc before) k low o = rises (suc before) k (omega arith) o .0
 
 -- the lists of the other kinds stay
 pub added-other : (k : ℕ) (rs : List (List ℕ)) (c : Case) (j : ℕ) → (j ≡ k → ⊥) → added k rs c j ≡ c j

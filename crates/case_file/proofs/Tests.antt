@@ -41,6 +41,10 @@ pub begins : (k : ℕ) → follows 0 k ≡ true → k ≡ modulus-kind
 unfolding follows
 begins k e = eqb-true k modulus-kind e
 
+pub not-first : (before k : ℕ) → follows before k ≡ true → (k ≡ modulus-kind → ⊥) → 1 ≤ before
+not-first zero k o ne = absurd (ne (begins k o))
+not-first (suc before) k o ne = omega arith
+
 pub rises : (before k : ℕ) → 1 ≤ before → follows before k ≡ true → (before ≤ k) × (modulus-kind < k)
 unfolding follows
 rises zero k l e = absurd (omega arith)
@@ -51,6 +55,11 @@ rises (suc before) k l e =
 pub not-second : (before : ℕ) → follows before modulus-kind ≡ true → before < modulus-kind
 not-second zero e = omega arith
 not-second (suc before) e = absurd (let l = rises (suc before) modulus-kind (omega arith) e in omega arith)
+
+-- a record that may stand here is not below the one before it
+pub not-below : (before k : ℕ) → modulus-kind ≤ k → follows before k ≡ true → before ≤ k
+not-below zero k low o = omega arith
+not-below (suc before) k low o = rises (suc before) k (omega arith) o .0
 
 module _ (before k n m : ℕ) where
   pub fails-low : k < modulus-kind → 20 ≡ fault before k n m
