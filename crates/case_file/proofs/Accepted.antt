@@ -1,6 +1,6 @@
 -- A file is accepted exactly if it is the written form of a case that can be stored. Assumes nothing.
-use Prim.Native.Nat.{ℕ, _+_, _≤_}
-use mathlib.Core.Path.{_≡_, refl, sym, ap, _∙_}
+use Prim.Native.Nat.{ℕ, _≤_}
+use mathlib.Core.Path.{_≡_, refl, ap, _∙_}
 use mathlib.Core.Bool.{Bool, true, false}
 use mathlib.Core.Logic.{_↔_}
 use mathlib.Core.List.{List, [], _∷_, _++_, append-nil}
@@ -9,6 +9,7 @@ use native.Mathlib.Omega.{arith}
 use borrow.Author.Tests.{ltb-false}
 use lib.Dec.{ltb}
 use lib.ListN.{length}
+use Rattle.case_file.specs.Refusals.{after-end}
 use Rattle.case_file.specs.Case.{Case}
 use Rattle.case_file.specs.Reading.{Reading, whole, refused, alone, read-one, read}
 use Rattle.case_file.specs.Written.{written, Below, Storable}
@@ -28,8 +29,8 @@ unfolding alone
 alone-whole (refused i j) m c n e = absurd (refused-no-case i j c n e)
 alone-whole (whole d at) m c n e = go (ltb at m) refl e
   where
-    go : (b : Bool) → ltb at m ≡ b → elim b [ true ↦ refused 23 at | false ↦ whole d at ] ≡ whole c n → (whole d at ≡ whole c n) × (m ≤ n)
-    go true t q = absurd (refused-no-case 23 at c n q)
+    go : (b : Bool) → ltb at m ≡ b → elim b [ true ↦ refused after-end at | false ↦ whole d at ] ≡ whole c n → (whole d at ≡ whole c n) × (m ≤ n)
+    go true t q = absurd (refused-no-case after-end at c n q)
     go false t q = let l : at ≡ n = cc in (q, omega (arith, ltb-false at m t))
 
 no-length : (l : List ℕ) → length l ≡ 0 → l ≡ []

@@ -1,11 +1,11 @@
 -- From the case at the start of the bytes to a case file: nothing may stand after it. Assumes nothing.
 use Prim.Native.Nat.{ℕ, zero, suc, _+_, _≤_, _<_}
 use mathlib.Core.Path.{_≡_, refl}
-use mathlib.Core.Bool.{true, false}
 use mathlib.Core.List.{List, [], _∷_}
 use native.Mathlib.Omega.{arith}
 use borrow.Author.Tests.{lt-ltb, le-ltb}
 use lib.ListN.{length}
+use Rattle.case_file.specs.Refusals.{after-end}
 use Rattle.case_file.specs.Format.{body, content}
 use Rattle.case_file.specs.Case.{Case, no-records, added}
 use Rattle.case_file.specs.Reading.{Reading, whole, refused, alone, reading, read-one, read}
@@ -41,7 +41,7 @@ module _ (n : ℕ) where
   stays-refused (whole c at) z = absurd (z refl)
   stays-refused (refused e i) z = refl
 
-  becomes-refused : (o : Reading) → Numbered o → next o < n → fault o .number ≡ 0 → alone n o ≡ refused 23 (next o)
+  becomes-refused : (o : Reading) → Numbered o → next o < n → fault o .number ≡ 0 → alone n o ≡ refused after-end (next o)
   unfolding alone
   becomes-refused (whole c at) m h z = rw (lt-ltb at n h, alone)
   becomes-refused (refused e i) m h z = absurd (m z)
@@ -55,6 +55,6 @@ module _ (bs : List ℕ) {r : Counts} {f s k p : List ℕ} (g : Gives (read-one 
   unfolding read
   refused-before z = rw (stays-refused (length bs) (read-one bs) (rw (g .record-is) at z), read) g
 
-  pub bytes-after : r .next < length bs → r .fault .number ≡ 0 → read bs ≡ refused 23 (r .next)
+  pub bytes-after : r .next < length bs → r .fault .number ≡ 0 → read bs ≡ refused after-end (r .next)
   unfolding read
   bytes-after h z = rw (g .record-is) (becomes-refused (length bs) (read-one bs) (refusal-numbered bs) (rw (g .record-is) at h) (rw (g .record-is) at z))

@@ -8,7 +8,7 @@ use lib.Seq.{set-at, sets}
 use Rattle.case_file.specs.Format.{count, limit, content, numbers}
 use Rattle.case_file.specs.Case.{flat}
 use Rattle.case_file.specs.Handed.{padded}
-use Rattle.case_file.specs.Steps.{Place, Put}
+use Rattle.case_file.specs.Room.{Place, Put}
 
 padded-more : (n : ℕ) (xs : List ℕ) (v : ℕ) → length xs < n → set (padded n xs) (length xs) v ≡ padded n (xs ++ v ∷ [])
 unfolding padded

@@ -6,11 +6,12 @@ use native.Mathlib.Omega.{arith}
 use native.Mathlib.Numerals.{add-one}
 use lib.ListN.{length, getD, drop, length-drop, drop-of-length-le}
 use lib.Seq.{drop-cons, drop-drop}
+use Rattle.case_file.specs.Refusals.{no-end}
 use Rattle.case_file.specs.Format.{modulus-kind, end-kind, count, width, body, content}
 use Rattle.case_file.specs.Case.{Case, no-records, added}
-use Rattle.case_file.specs.Reading.{Reading, whole, refused, fault, reading, read-one}
+use Rattle.case_file.specs.Reading.{whole, refused, fault-number, reading, read-one}
 use Rattle.case_file.specs.Handed.{Gives}
-use Rattle.case_file.specs.Steps.{held, Ready}
+use Rattle.case_file.specs.Room.{held, Ready}
 use Rattle.case_file.specs.declared.Counts.{Counts}
 use Rattle.case_file.proofs.Tests.{Passed, passed, fault-same, not-second, not-below}
 use Rattle.case_file.proofs.Arrays.{length-numbers}
@@ -36,7 +37,7 @@ begun bs g =
     }
 
 module _ {bs : List ℕ} {r : Counts} {f s k p : List ℕ} {before at : ℕ} (q : Progress bs r f s k p before at) where
-  pub out : length bs ≤ at → read-one bs ≡ refused 24 at
+  pub out : length bs ≤ at → read-one bs ≡ refused no-end at
   out h = rw (q .same, drop-of-length-le bs h) (runs-out 0 at before (q .case))
 
   module _ (h : at < length bs) where
@@ -50,11 +51,11 @@ module _ {bs : List ℕ} {r : Counts} {f s k p : List ℕ} {before at : ℕ} (q 
     opened : read-one bs ≡ reading 0 at before (q .case) (kind ∷ after)
     opened = rw (add-one, ← drop-cons bs at 0 h) (q .same)
 
-    left : length bs - at - 1 ≡ length after
+    left : length bs - (at + 1) ≡ length after
     left = rw length-drop (omega arith)
 
-    module _ {e : ℕ} (t : e ≡ fault before kind (held r kind) (length bs - at - 1)) where
-      tests : fault before kind (length (q .case kind)) (length after) ≡ e
+    module _ {e : ℕ} (t : e ≡ fault-number before kind (held r kind) (length bs - (at + 1))) where
+      tests : fault-number before kind (length (q .case kind)) (length after) ≡ e
       tests = rw (← left) (sym (t ∙ fault-same before kind _ _ _ (counted before (q .case) (q .standing) r (q .given .record-is) kind)))
 
       pub stopped : (e ≡ 0 → ⊥) → read-one bs ≡ refused e at

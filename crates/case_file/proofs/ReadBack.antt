@@ -1,22 +1,23 @@
 -- What was read is what a case's written form begins with, and the case can be stored: at each record the bytes passed are
 -- the records of the case so far. Assumes nothing.
-use Prim.Native.Nat.{ℕ, zero, suc, _+_, _*_, _^_, _≤_, _<_}
-use mathlib.Core.Path.{_≡_, refl, sym, ap, _∙_}
+use Prim.Native.Nat.{ℕ, zero, suc, _+_, _^_, _≤_, _<_}
+use mathlib.Core.Path.{_≡_, refl, sym, _∙_}
 use mathlib.Core.Bool.{Bool, true, false}
 use mathlib.Core.List.{List, [], _∷_, _++_, append-assoc, append-nil}
 use native.Mathlib.Omega.{arith}
 use borrow.Author.Tests.{leb-true, leb-false, eqb-true, eqb-false}
 use lib.Dec.{eqb, leb}
-use lib.ListN.{length, take, drop, length-append, length-drop, take-append-drop}
-use Rattle.case_file.specs.Format.{modulus-kind, end-kind, count, width, body, limit, content, follows}
+use lib.ListN.{length, drop, length-append, take-append-drop}
+use Rattle.case_file.specs.Refusals.{no-end}
+use Rattle.case_file.specs.Format.{modulus-kind, end-kind, count, width, body, limit, content}
 use Rattle.case_file.specs.Case.{Case, no-records, added}
 use Rattle.case_file.specs.Reading.{Reading, whole, refused, reading, read-one}
 use Rattle.case_file.specs.Written.{packed, records, in-order, written, Below, Bodies, Storable}
 use Rattle.case_file.proofs.Tests.{Passed, passed, not-first, not-below}
 use Rattle.case_file.proofs.Arrays.{length-numbers}
-use Rattle.case_file.proofs.Steps.{runs-out, by-record}
+use Rattle.case_file.proofs.Steps.{by-record}
 use Rattle.case_file.proofs.Standing.{added-own, added-other}
-use Rattle.case_file.proofs.Packing.{packed-numbers, numbers-below, below-drop}
+use Rattle.case_file.proofs.Packing.{packed-numbers, numbers-below}
 
 records-append : (k : ℕ) (rs ss : List (List ℕ)) → records k (rs ++ ss) ≡ records k rs ++ records k ss
 unfolding records
@@ -137,8 +138,8 @@ module _ (m n : ℕ) (c′ : Case) (before k : ℕ) (c : Case) (bs done : List �
 
 back : (c′ : Case) (n s at before : ℕ) (c : Case) (bs done : List ℕ) → Stored before c done → Below 256 bs → reading s at before c bs ≡ whole c′ n → Back done (drop s bs) (at + length bs) n c′
 unfolding reading
-back c′ n zero at before c [] done t b e = absurd (refused-no-case 24 at c′ n e)
-back c′ n (suc s) at before c [] done t b e = absurd (refused-no-case 24 at c′ n e)
+back c′ n zero at before c [] done t b e = absurd (refused-no-case no-end at c′ n e)
+back c′ n (suc s) at before c [] done t b e = absurd (refused-no-case no-end at c′ n e)
 back c′ n (suc s) at before c (x ∷ bs) done t b e =
     let r : Back done (drop s bs) (at + 1 + length bs) n c′ = back c′ n s (at + 1) before c bs done t (b .1) e in
     record { rest = r .rest; same = r .same; left = omega (arith, r .left); storable = r .storable }

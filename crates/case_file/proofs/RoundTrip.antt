@@ -8,9 +8,9 @@ use native.Mathlib.Nat.{add-zero, zero-add}
 use native.Mathlib.Omega.{arith}
 use borrow.Author.Tests.{eqb-true, eqb-false, le-leb, lt-leb, leb-true, leb-false}
 use lib.Dec.{eqb, leb}
-use lib.ListN.{length, drop, length-append, List·getD-eq-default}
+use lib.ListN.{length, length-append, List·getD-eq-default}
 use lib.Seq.{drop-at}
-use Rattle.case_file.specs.Format.{modulus-kind, point-kind, end-kind, count, width, body, limit, content, follows}
+use Rattle.case_file.specs.Format.{modulus-kind, point-kind, end-kind, count, width, body, limits, limit, follows}
 use Rattle.case_file.specs.Case.{Case, no-records, added}
 use Rattle.case_file.specs.Reading.{Reading, whole, reading, read-one}
 use Rattle.case_file.specs.Written.{packed, records, in-order, written, Below, Bodies, Storable}
@@ -133,7 +133,7 @@ module _ (c : Case) (s : Storable c) where
 
   none-later : (j : ℕ) → end-kind < j → c j ≡ []
   none-later j h =
-      let e : limit j ≡ 0 = List·getD-eq-default (0 ∷ 1 ∷ 256 ∷ 256 ∷ 32 ∷ 32 ∷ 1 ∷ []) 0 h in
+      let e : limit j ≡ 0 = List·getD-eq-default limits 0 h in
       no-length (c j) (omega (arith, s .within j))
 
   upto-all : upto end-kind c ≡ c

@@ -1,7 +1,7 @@
 -- A file's first bytes settle what it says: the records of a case are few, so that longer input can be cut. A program that reads
 -- 4,096 bytes has read enough. Assumes nothing.
 use Prim.Native.Nat.{ℕ, zero, suc, _+_, _-_, _*_, _≤_, _<_}
-use mathlib.Core.Path.{_≡_, refl, sym, ap, ap₂, _∙_}
+use mathlib.Core.Path.{_≡_, refl, sym, ap, _∙_}
 use mathlib.Core.Bool.{Bool, true, false}
 use mathlib.Core.List.{List, [], _∷_}
 use native.Mathlib.Nat.{sub-zero, suc-mul}
@@ -10,9 +10,10 @@ use borrow.Author.Tests.{le-leb, lt-leb, leb-true, leb-false, lt-ltb}
 use lib.Dec.{leb}
 use lib.ListN.{length, take, drop, length-take, length-append}
 use lib.Seq.{take-take, take-nil, take-all, length-take-le}
+use Rattle.case_file.specs.Refusals.{no-end}
 use Rattle.case_file.specs.Format.{end-kind, count, width, body, limit, numbers, content}
 use Rattle.case_file.specs.Case.{Case, no-records, added}
-use Rattle.case_file.specs.Reading.{Reading, whole, refused, fault, reading, read-one, alone, read}
+use Rattle.case_file.specs.Reading.{Reading, whole, refused, fault-number, reading, read-one, alone, read}
 use Rattle.case_file.proofs.Tests.{by-kind, Passed, passed}
 use Rattle.case_file.proofs.Steps.{stops, ends, goes-on, by-record}
 use Rattle.case_file.proofs.ReadBack.{refused-no-case}
@@ -67,8 +68,8 @@ numbers-take (suc n) w m bs h =
     let s : w + n * w ≤ m = omega (arith, suc-mul n w) in
     rw (take-take w m bs (omega arith), drop-take w m bs (omega arith), numbers-take n w (m - w) (drop w bs) (omega arith))
 
-fault-take : (before k n m : ℕ) (bs : List ℕ) → body k ≤ m → fault before k n (length (take m bs)) ≡ fault before k n (length bs)
-unfolding fault
+fault-take : (before k n m : ℕ) (bs : List ℕ) → body k ≤ m → fault-number before k n (length (take m bs)) ≡ fault-number before k n (length bs)
+unfolding fault-number
 fault-take before k n m bs h = rw (go (leb (body k) (length bs)) refl)
   where
     go : (b : Bool) → leb (body k) (length bs) ≡ b → leb (body k) (length (take m bs)) ≡ leb (body k) (length bs)
@@ -85,7 +86,7 @@ cut (suc s) at before c (b ∷ bs) zero h = absurd (omega arith)
 cut (suc s) at before c (b ∷ bs) (suc m) h = cut s (at + 1) before c bs m (omega arith)
 cut zero at before c (k ∷ bs) (suc m) h =
     let w : body k ≤ m = omega (arith, seven-left c, body-small k) in
-    let f : fault before k (length (c k)) (length (take m bs)) ≡ fault before k (length (c k)) (length bs) = fault-take before k (length (c k)) m bs w in
+    let f : fault-number before k (length (c k)) (length (take m bs)) ≡ fault-number before k (length (c k)) (length bs) = fault-take before k (length (c k)) m bs w in
     let n : content k (take m bs) ≡ content k bs = numbers-take (count k) (width k) m bs w in
     by-record at before c k bs (λ (o : Reading). reading 0 at before c (k ∷ take m bs) ≡ o)
     (λ e t z. stops at before c k (take m bs) e (f ∙ t) z)
@@ -97,8 +98,8 @@ cut zero at before c (k ∷ bs) (suc m) h =
 
 ends-by : (c′ : Case) (n s at before : ℕ) (c : Case) (bs : List ℕ) → reading s at before c bs ≡ whole c′ n → n + 6 ≤ at + s + left c
 unfolding reading
-ends-by c′ n zero at before c [] e = absurd (refused-no-case 24 at c′ n e)
-ends-by c′ n (suc s) at before c [] e = absurd (refused-no-case 24 at c′ n e)
+ends-by c′ n zero at before c [] e = absurd (refused-no-case no-end at c′ n e)
+ends-by c′ n (suc s) at before c [] e = absurd (refused-no-case no-end at c′ n e)
 ends-by c′ n (suc s) at before c (b ∷ bs) e = omega (arith, ends-by c′ n s (at + 1) before c bs e)
 ends-by c′ n zero at before c (k ∷ bs) e =
     by-record at before c k bs (λ (o : Reading). o ≡ whole c′ n → n + 6 ≤ at + 0 + left c)

@@ -1,6 +1,6 @@
 -- What holds of the case at each record: later kinds have no records yet, and each record has the numbers of its kind. Assumes nothing.
-use Prim.Native.Nat.{ℕ, zero, suc, _+_, _*_, _/_, _%_, _≤_, _<_}
-use mathlib.Core.Path.{_≡_, refl, sym, ap, _∙_}
+use Prim.Native.Nat.{ℕ, _*_, _%_, _≤_, _<_}
+use mathlib.Core.Path.{_≡_, refl, sym, _∙_}
 use mathlib.Core.Bool.{Bool, true, false}
 use mathlib.Core.List.{List, [], _∷_, _++_}
 use native.Mathlib.Nat.{mul-add, mul-one, mul-zero}
@@ -12,7 +12,7 @@ use Rattle.case_file.specs.Format.{modulus-kind, end-kind, point-kind, c
 use Rattle.case_file.specs.Case.{Case, no-records, added, flat}
 use Rattle.case_file.specs.Reading.{whole}
 use Rattle.case_file.specs.Handed.{counts}
-use Rattle.case_file.specs.Steps.{held}
+use Rattle.case_file.specs.Room.{held}
 use Rattle.case_file.specs.declared.Counts.{Counts}
 use Rattle.case_file.proofs.Tests.{by-kind, not-second}
 use Rattle.case_file.proofs.Arrays.{flat-more}

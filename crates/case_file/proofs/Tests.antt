@@ -2,13 +2,13 @@
 use Prim.Native.Nat.{ℕ, zero, suc, _≤_, _<_}
 use mathlib.Core.Path.{_≡_, refl}
 use mathlib.Core.Bool.{Bool, true, false, _&&_}
-use mathlib.Core.List.{List, [], _∷_}
+use mathlib.Core.List.{[], _∷_}
 use native.Mathlib.Omega.{arith}
 use borrow.Author.Tests.{le-leb, lt-leb, lt-ltb, le-ltb, leb-true, ltb-true, eqb-true}
-use lib.Dec.{eqb, leb, ltb}
-use lib.ListN.{getD}
-use Rattle.case_file.specs.Format.{modulus-kind, end-kind, known, body, limit, follows}
-use Rattle.case_file.specs.Reading.{first-failed, fault}
+use lib.Dec.{leb, ltb}
+use Rattle.case_file.specs.Refusals.{kind-unknown, body-cut, order, too-many}
+use Rattle.case_file.specs.Format.{modulus-kind, end-kind, body, limit, follows}
+use Rattle.case_file.specs.Reading.{first-failed, fault-number}
 
 -- what holds for each known kind holds for every known kind
 pub by-kind : (P : ℕ → Type 0) (k : ℕ) → modulus-kind ≤ k → k ≤ end-kind → P 1 → P 2 → P 3 → P 4 → P 5 → P 6 → P k
@@ -62,32 +62,32 @@ not-below zero k low o = omega arith
 not-below (suc before) k low o = rises (suc before) k (omega arith) o .0
 
 module _ (before k n m : ℕ) where
-  pub fails-low : k < modulus-kind → 20 ≡ fault before k n m
-  unfolding fault
+  pub fails-low : k < modulus-kind → kind-unknown ≡ fault-number before k n m
+  unfolding fault-number
   fails-low h = rw (lt-leb modulus-kind k h)
 
-  pub fails-high : end-kind < k → 20 ≡ fault before k n m
-  unfolding fault
+  pub fails-high : end-kind < k → kind-unknown ≡ fault-number before k n m
+  unfolding fault-number
   fails-high h =
       let l : modulus-kind ≤ k = omega arith in
       rw (le-leb modulus-kind k l, lt-leb k end-kind h)
 
   module _ (low : modulus-kind ≤ k) (high : k ≤ end-kind) where
-    pub fails-order : follows before k ≡ false → 22 ≡ fault before k n m
-    unfolding fault
+    pub fails-order : follows before k ≡ false → order ≡ fault-number before k n m
+    unfolding fault-number
     fails-order o = rw (le-leb modulus-kind k low, le-leb k end-kind high, o)
 
     module _ (o : follows before k ≡ true) where
-      pub fails-whole : m < body k → 21 ≡ fault before k n m
-      unfolding fault
+      pub fails-whole : m < body k → body-cut ≡ fault-number before k n m
+      unfolding fault-number
       fails-whole h = rw (le-leb modulus-kind k low, le-leb k end-kind high, o, lt-leb (body k) m h)
 
-      pub fails-limit : body k ≤ m → limit k ≤ n → 25 ≡ fault before k n m
-      unfolding fault
+      pub fails-limit : body k ≤ m → limit k ≤ n → too-many ≡ fault-number before k n m
+      unfolding fault-number
       fails-limit w h = rw (le-leb modulus-kind k low, le-leb k end-kind high, o, le-leb (body k) m w, le-ltb n (limit k) h)
 
-      pub passes : body k ≤ m → n < limit k → 0 ≡ fault before k n m
-      unfolding fault
+      pub passes : body k ≤ m → n < limit k → 0 ≡ fault-number before k n m
+      unfolding fault-number
       passes w h = rw (le-leb modulus-kind k low, le-leb k end-kind high, o, le-leb (body k) m w, lt-ltb n (limit k) h)
 
 -- what is known of a record that passes its tests
@@ -98,7 +98,7 @@ pub record Passed (before k n m : ℕ) : Type 0 where
   pub in-file : body k ≤ m
   pub room : n < limit k
 
-all-true : (a b c d e : Bool) → first-failed ((20, a && b) ∷ (22, c) ∷ (21, d) ∷ (25, e) ∷ []) ≡ 0 → (a ≡ true) × (b ≡ true) × (c ≡ true) × (d ≡ true) × (e ≡ true)
+all-true : (a b c d e : Bool) → first-failed ((kind-unknown, a && b) ∷ (order, c) ∷ (body-cut, d) ∷ (too-many, e) ∷ []) ≡ 0 → (a ≡ true) × (b ≡ true) × (c ≡ true) × (d ≡ true) × (e ≡ true)
 all-true true true true true true h = (refl, refl, refl, refl, refl)
 all-true true true true true false h = absurd (omega arith)
 all-true true true true false e h = absurd (omega arith)
@@ -106,18 +106,18 @@ all-true true true false d e h = absurd (omega arith)
 all-true true false c d e h = absurd (omega arith)
 all-true false b c d e h = absurd (omega arith)
 
-pub passed : (before k n m : ℕ) → fault before k n m ≡ 0 → Passed before k n m
-unfolding fault
+pub passed : (before k n m : ℕ) → fault-number before k n m ≡ 0 → Passed before k n m
+unfolding fault-number
 passed before k n m h =
     let t = all-true (leb modulus-kind k) (leb k end-kind) (follows before k) (leb (body k) m) (ltb n (limit k)) h in
     record { low = leb-true _ _ (t .0); high = leb-true _ _ (t .1); order = t .2; in-file = leb-true _ _ (t .3); room = ltb-true _ _ (t .4) }
 
 -- how many of its kind were read matters only for a record of a known kind that may stand here
-pub fault-same : (before k n n′ m : ℕ) → (modulus-kind ≤ k → k ≤ end-kind → follows before k ≡ true → n ≡ n′) → fault before k n m ≡ fault before k n′ m
-unfolding fault
+pub fault-same : (before k n n′ m : ℕ) → (modulus-kind ≤ k → k ≤ end-kind → follows before k ≡ true → n ≡ n′) → fault-number before k n m ≡ fault-number before k n′ m
+unfolding fault-number
 fault-same before k n n′ m h = go (leb modulus-kind k) (leb k end-kind) (follows before k) refl refl refl
   where
-    go : (a b o : Bool) → leb modulus-kind k ≡ a → leb k end-kind ≡ b → follows before k ≡ o → first-failed ((20, a && b) ∷ (22, o) ∷ (21, leb (body k) m) ∷ (25, ltb n (limit k)) ∷ []) ≡ first-failed ((20, a && b) ∷ (22, o) ∷ (21, leb (body k) m) ∷ (25, ltb n′ (limit k)) ∷ [])
+    go : (a b o : Bool) → leb modulus-kind k ≡ a → leb k end-kind ≡ b → follows before k ≡ o → first-failed ((kind-unknown, a && b) ∷ (order, o) ∷ (body-cut, leb (body k) m) ∷ (too-many, ltb n (limit k)) ∷ []) ≡ first-failed ((kind-unknown, a && b) ∷ (order, o) ∷ (body-cut, leb (body k) m) ∷ (too-many, ltb n′ (limit k)) ∷ [])
     go true true true low high e = rw (h (leb-true _ _ low) (leb-true _ _ high) e)
     go true true false low high e = refl
     go true false o low high e = refl

@@ -1,11 +1,11 @@
 -- Worked examples: the case file of document 01, and one refusal of each number.
 use Prim.Native.Nat.{ℕ}
 use mathlib.Core.Path.{_≡_, refl}
-use mathlib.Core.List.{List, [], _∷_, _++_}
+use mathlib.Core.List.{List, [], _∷_}
 use lib.ListN.{replicate}
 use Rattle.case_file.specs.Format.{follows, numbers, little}
-use Rattle.case_file.specs.Case.{Case, added, flat}
-use Rattle.case_file.specs.Reading.{Reading, refused, fault, reading, read-one, alone, read}
+use Rattle.case_file.specs.Case.{added, flat}
+use Rattle.case_file.specs.Reading.{refused, fault-number, reading, read-one, alone, read}
 use Rattle.case_file.specs.Written.{written, in-order, records, packed, bytes}
 use Rattle.case_file.specs.Handed.{contents, padded, case}
 
@@ -26,11 +26,11 @@ pub example-read :
       points = padded 96 (0 ∷ 0 ∷ 0 ∷ []);
       «points_count» = 3;
     }
-unfolding read read-one reading alone fault added flat follows numbers little
+unfolding read read-one reading alone fault-number added flat follows numbers little
 example-read = refl
 
 pub example-written : written (case (read example)) ≡ example
-unfolding read read-one reading alone fault added flat follows numbers little written in-order records packed bytes
+unfolding read read-one reading alone fault-number added flat follows numbers little written in-order records packed bytes
 example-written = refl
 
 pub refusals :
@@ -41,10 +41,10 @@ pub refusals :
     × (read (1 ∷ 17 ∷ 0 ∷ 1 ∷ []) ≡ refused 22 3)
     × (read (1 ∷ 17 ∷ 0 ∷ 6 ∷ 0 ∷ []) ≡ refused 23 4)
     × (read (1 ∷ 17 ∷ 0 ∷ []) ≡ refused 24 3)
-unfolding read read-one reading alone fault added follows numbers little
+unfolding read read-one reading alone fault-number added follows numbers little
 refusals = (refl, refl, refl, refl, refl, refl, refl)
 
 -- 32 keys pass, the next is too many
 pub too-many-keys : read (1 ∷ 17 ∷ 0 ∷ records 4 (replicate 33 (0 ∷ []))) ≡ refused 25 99
-unfolding read read-one reading alone fault added follows numbers little records packed bytes
+unfolding read read-one reading alone fault-number added follows numbers little records packed bytes
 too-many-keys = refl

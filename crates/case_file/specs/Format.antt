@@ -36,8 +36,11 @@ count k = getD (0 ∷ 1 ∷ 1 ∷ 1 ∷ 1 ∷ 3 ∷ 0 ∷ []) k 0
 abbrev pub width : ℕ → ℕ
 width k = getD (0 ∷ 2 ∷ 4 ∷ 4 ∷ 2 ∷ 2 ∷ 0 ∷ []) k 0
 
+abbrev pub limits : List ℕ
+limits = 0 ∷ 1 ∷ 256 ∷ 256 ∷ 32 ∷ 32 ∷ 1 ∷ []
+
 abbrev pub limit : ℕ → ℕ
-limit k = getD (0 ∷ 1 ∷ 256 ∷ 256 ∷ 32 ∷ 32 ∷ 1 ∷ []) k 0
+limit k = getD limits k 0
 
 -- the length of a body
 abbrev pub body : ℕ → ℕ

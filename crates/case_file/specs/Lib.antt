@@ -5,5 +5,5 @@ pub mod Case
 pub mod Reading
 pub mod Written
 pub mod Handed
-pub mod Steps
+pub mod Room
 pub mod Examples

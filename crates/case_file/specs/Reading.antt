@@ -14,8 +14,8 @@ first-failed [] = 0
 first-failed (t ∷ ts) = elim (t .1) [ true ↦ first-failed ts | false ↦ t .0 ]
 
 -- the tests of a record of kind k: the record before it is of kind before, n of its kind were read, m bytes follow its kind byte
-unfoldable pub fault : (before k n m : ℕ) → ℕ
-fault before k n m =
+unfoldable pub fault-number : (before k n m : ℕ) → ℕ
+fault-number before k n m =
     first-failed ((kind-unknown, known k) ∷ (order, follows before k) ∷ (body-cut, leb (body k) m) ∷ (too-many, ltb n (limit k)) ∷ [])
 
 pub data Reading : Type 0 where
@@ -30,7 +30,7 @@ reading zero at before c [] = refused no-end at
 reading (suc s) at before c [] = refused no-end at
 reading (suc s) at before c (b ∷ bs) = reading s (at + 1) before c bs
 reading zero at before c (k ∷ bs) =
-    elim (fault before k (length (c k)) (length bs)) [
+    elim (fault-number before k (length (c k)) (length bs)) [
       | suc n ↦ refused (suc n) at
       | zero ↦
           elim (eqb k end-kind) [

@@ -2,10 +2,10 @@
 -- The measure is what is left of the file. Assumes nothing.
 use Prim.Native.Nat.{_-_}
 use native.Mathlib.Omega.{arith}
+use borrow.Author.Needs.{needs}
 use lib.ListN.{length}
 use Rattle.case_file.specs.Case.{added}
 use Rattle.case_file.proofs.Progress.{Progress, begun, out, stopped, ended, fits-in, ready, carried}
-use borrow.Author.Needs.{needs}
 use Rattle.case_file.proofs.read_one_into.Statement.{statement}
 use Rattle.case_file.proofs.read_one_into.Tie as tie
 
@@ -26,11 +26,11 @@ loop-holds c = begun (c .before .before .before .before .before .before .args .b
 shared-slice-read-kind : tie.Need-shared-slice-read-kind Inv-loop μ-loop
 shared-slice-read-kind c = search needs
 
+add-start : tie.Need-add-start Inv-loop μ-loop
+add-start c = search needs
+
 sub-fault-of : tie.Need-sub-fault-of Inv-loop μ-loop
 sub-fault-of c = search needs
-
-sub-fault-of-2 : tie.Need-sub-fault-of-2 Inv-loop μ-loop
-sub-fault-of-2 c = search needs
 
 fault-of-requires : tie.Need-fault-of-requires Inv-loop μ-loop
 fault-of-requires c κs = search needs
@@ -38,36 +38,27 @@ fault-of-requires c κs = search needs
 nothing-requires-2 : tie.Need-nothing-requires-2 Inv-loop μ-loop
 nothing-requires-2 c κs = search needs
 
+-- in what follows d is the place after the tests of a record, t the branch behind it
 returns : tie.Need-returns Inv-loop μ-loop
 returns c =
     let t = c .before .before .before .before .before in
     let d = t .before in
     rw (stopped (d .before .before .before .loop .inv) (d .before .before .loop-test .taken) (d .fault-of .ensures) (t .if1 .taken)) (c .nothing2 .ensures)
 
-add-counts : tie.Need-add-counts Inv-loop μ-loop
-add-counts c = search needs
-
 returns-2 : tie.Need-returns-2 Inv-loop μ-loop
 unfolding added
 returns-2 c =
-    let d = c .before .before in
+    let t = c .before in
+    let d = t .before in
     let g = d .before .before .before .loop .inv .given in
-    rw (ended (d .before .before .before .loop .inv) (d .before .before .loop-test .taken) (d .fault-of .ensures) (c .before .if1 .left) (c .if2 .taken), c .if2 .taken)
+    rw (ended (d .before .before .before .loop .inv) (d .before .before .loop-test .taken) (d .fault-of .ensures) (t .if1 .left) (c .if2 .taken), c .if2 .taken)
     (record { record-is = rw (g .record-is); first-is = g .first-is; second-is = g .second-is; skeleton-is = g .skeleton-is; points-is = g .points-is })
-
-add-with-record : tie.Need-add-with-record Inv-loop μ-loop
-add-with-record c = search needs
 
 with-record-requires : tie.Need-with-record-requires Inv-loop μ-loop
 with-record-requires c κs =
     let t = c .before .before .before .before in
     let d = t .before .before in
     ready (d .before .before .before .loop .inv) (d .before .before .loop-test .taken) (d .fault-of .ensures) (t .before .if1 .left) (t .if2 .left)
-
-add-at : tie.Need-add-at Inv-loop μ-loop
-add-at c =
-    let d = c .before .before .before .before .before .before .before in
-    omega (arith, fits-in (d .before .before .before .loop .inv) (d .before .before .loop-test .taken) (d .fault-of .ensures) (c .before .before .before .before .before .before .if1 .left), d .before .before .before .before .before .before .before .before .before .before .good .0)
 
 body-requires : tie.Need-body-requires Inv-loop μ-loop
 body-requires c κs =
@@ -76,11 +67,12 @@ body-requires c κs =
     let r = ready (d .before .before .before .loop .inv) (d .before .before .loop-test .taken) (d .fault-of .ensures) (t .before .if1 .left) (t .if2 .left) in
     record { low = r .low; high = omega arith }
 
-add-at-2 : tie.Need-add-at-2 Inv-loop μ-loop
-add-at-2 c =
+add-at : tie.Need-add-at Inv-loop μ-loop
+add-at c =
     let t = c .before .before .before .before .before .before in
     let d = t .before .before in
-    omega (arith, fits-in (d .before .before .before .loop .inv) (d .before .before .loop-test .taken) (d .fault-of .ensures) (t .before .if1 .left), c .body .ensures, d .before .before .before .before .before .before .before .before .before .before .good .0)
+    let start = d .before .before .before .before .before .before .before .before .before .before in
+    omega (arith, fits-in (d .before .before .before .loop .inv) (d .before .before .loop-test .taken) (d .fault-of .ensures) (t .before .if1 .left), c .body .ensures, start .good .0)
 
 loop-less : tie.Need-loop-less Inv-loop μ-loop
 loop-less c =
@@ -92,7 +84,8 @@ loop-again : tie.Need-loop-again Inv-loop μ-loop
 loop-again c =
     let t = c .before .before .before .before .before .before in
     let d = t .before .before in
-    rw (c .body .ensures) (carried (d .before .before .before .loop .inv) (d .before .before .loop-test .taken) (d .fault-of .ensures) (t .before .if1 .left) (t .if2 .left) (c .before .with-record .ensures))
+    rw (c .body .ensures)
+    (carried (d .before .before .before .loop .inv) (d .before .before .loop-test .taken) (d .fault-of .ensures) (t .before .if1 .left) (t .if2 .left) (c .before .with-record .ensures))
 
 nothing-requires-3 : tie.Need-nothing-requires-3 Inv-loop μ-loop
 nothing-requires-3 c κs = search needs
@@ -111,18 +104,15 @@ read-one-into-spec =
     nothing-requires
     loop-holds
     shared-slice-read-kind
+    add-start
     sub-fault-of
-    sub-fault-of-2
     fault-of-requires
     nothing-requires-2
     returns
-    add-counts
     returns-2
-    add-with-record
     with-record-requires
-    add-at
     body-requires
-    add-at-2
+    add-at
     loop-less
     loop-again
     nothing-requires-3

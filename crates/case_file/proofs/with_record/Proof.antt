@@ -4,7 +4,7 @@ use native.Mathlib.Omega.{arith}
 use lib.ListN.{length}
 use Rattle.case_file.specs.Format.{first-kind, second-kind, skeleton-kind, point-kind, numbers}
 use Rattle.case_file.specs.Case.{added, flat}
-use Rattle.case_file.specs.Steps.{Place}
+use Rattle.case_file.specs.Room.{Place}
 use Rattle.case_file.proofs.Arrays.{put-counted, put-stored}
 use Rattle.case_file.proofs.with_record.Statement.{statement}
 use Rattle.case_file.proofs.with_record.Tie as tie

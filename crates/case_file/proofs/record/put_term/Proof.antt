@@ -2,8 +2,8 @@
 use mathlib.Core.Path.{refl}
 use borrow.Author.Needs.{needs}
 use Rattle.case_file.specs.Format.{numbers}
-use Rattle.case_file.proofs.put_term.Statement.{statement}
-use Rattle.case_file.proofs.put_term.Tie as tie
+use Rattle.case_file.proofs.record.put_term.Statement.{statement}
+use Rattle.case_file.proofs.record.put_term.Tie as tie
 
 number4-requires : tie.Need-number4-requires
 number4-requires c κs = search needs

@@ -3,8 +3,8 @@ use Prim.Native.Nat.{_+_}
 use native.Mathlib.Omega.{arith}
 use borrow.Author.Needs.{needs}
 use Rattle.case_file.proofs.Bytes.{number-of-two}
-use Rattle.case_file.proofs.number2.Statement.{statement}
-use Rattle.case_file.proofs.number2.Tie as tie
+use Rattle.case_file.proofs.record.number2.Statement.{statement}
+use Rattle.case_file.proofs.record.number2.Tie as tie
 
 shared-slice-read-result : tie.Need-shared-slice-read-result
 shared-slice-read-result c = search needs

@@ -1,14 +1,13 @@
 -- `body` gives the length of a body, by cases of the kind. Assumes nothing.
-use Prim.Native.Nat.{ℕ, zero, _≤_}
+use Prim.Native.Nat.{ℕ}
 use mathlib.Core.Path.{_≡_, refl}
 use mathlib.Core.List.{[], _∷_}
-use native.Mathlib.Omega.{arith}
 use borrow.Author.Needs.{needs}
 use lib.ListN.{getD}
 use Rattle.case_file.specs.Format.{body}
 use Rattle.case_file.proofs.Tests.{by-kind}
-use Rattle.case_file.proofs.body.Statement.{statement}
-use Rattle.case_file.proofs.body.Tie as tie
+use Rattle.case_file.proofs.record.body.Statement.{statement}
+use Rattle.case_file.proofs.record.body.Tie as tie
 
 mul-result : tie.Need-mul-result
 mul-result c = search needs

@@ -3,8 +3,8 @@ use mathlib.Core.Path.{refl}
 use borrow.Author.Needs.{needs}
 use native.Mathlib.Numerals.{add-one, add-two}
 use Rattle.case_file.proofs.Bytes.{three-numbers}
-use Rattle.case_file.proofs.put_point.Statement.{statement}
-use Rattle.case_file.proofs.put_point.Tie as tie
+use Rattle.case_file.proofs.record.put_point.Statement.{statement}
+use Rattle.case_file.proofs.record.put_point.Tie as tie
 
 number2-requires : tie.Need-number2-requires
 number2-requires c κs = search needs

@@ -5,6 +5,9 @@ use mathlib.Core.List.{List, [], _∷_}
 use lib.ListN.{length, getD, drop}
 use lib.Seq.{sets}
 use Rattle.case_file.specs.Format.{modulus-kind, end-kind, count, limit, body, content}
+use Rattle.case_file.specs.Case.{Case, added}
+use Rattle.case_file.specs.Reading.{whole}
+use Rattle.case_file.specs.Handed.{Gives}
 use Rattle.case_file.specs.declared.Counts.{Counts}
 
 pub record Known (k : ℕ) : Type 0 where
@@ -32,3 +35,11 @@ pub record Ready (bytes : List ℕ) (k at : ℕ) (r : Counts) : Type 0 where
   pub whole : at + body k ≤ length bytes
   pub room : held r k < limit k
   pub threes : r .points % 3 ≡ 0
+
+-- the record is added: what holds a case in the arrays and the counts then holds the case with that record
+abbrev pub Adds : (bytes : List ℕ) (k at : ℕ) (r r′ : Counts) (first second skeleton points first′ second′ skeleton′ points′ : List ℕ) → Type 0
+Adds bytes k at r r′ first second skeleton points first′ second′ skeleton′ points′ =
+    (c : Case)
+    → Gives (whole c 0) r first second skeleton points
+    → (k ≡ modulus-kind → c k ≡ [])
+    → Gives (whole (added k (content k (drop at bytes) ∷ []) c) 0) r′ first′ second′ skeleton′ points′

@@ -1,9 +1,8 @@
 -- `follows` decides whether a kind may stand after another. Assumes nothing.
-use borrow.Author.Needs.{needs}
 use Rattle.case_file.specs.Format.{follows}
 use Rattle.case_file.proofs.Tests.{follows-later}
-use Rattle.case_file.proofs.follows.Statement.{statement}
-use Rattle.case_file.proofs.follows.Tie as tie
+use Rattle.case_file.proofs.record.follows.Statement.{statement}
+use Rattle.case_file.proofs.record.follows.Tie as tie
 
 returns : tie.Need-returns
 unfolding follows

@@ -6,8 +6,8 @@ use borrow.Author.Tests.{not-true, not-false}
 use borrow.Author.Needs.{needs}
 use Rattle.case_file.specs.Format.{follows, body}
 use Rattle.case_file.proofs.Tests.{fails-low, fails-high, fails-order, fails-whole, fails-limit, passes}
-use Rattle.case_file.proofs.fault_of.Statement.{statement}
-use Rattle.case_file.proofs.fault_of.Tie as tie
+use Rattle.case_file.proofs.record.fault_of.Statement.{statement}
+use Rattle.case_file.proofs.record.fault_of.Tie as tie
 
 in-order : (c : tie.Else3) → follows (c .before .before .before .before .args .before) (c .before .before .before .before .args .kind) ≡ true
 in-order c = sym (c .before .follows .ensures) ∙ not-false _ (c .if3 .left)

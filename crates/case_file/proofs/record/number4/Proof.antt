@@ -1,8 +1,8 @@
 -- `number4` joins two numbers of two bytes. Assumes nothing.
 use borrow.Author.Needs.{needs}
 use Rattle.case_file.proofs.Bytes.{number-of-four}
-use Rattle.case_file.proofs.number4.Statement.{statement}
-use Rattle.case_file.proofs.number4.Tie as tie
+use Rattle.case_file.proofs.record.number4.Statement.{statement}
+use Rattle.case_file.proofs.record.number4.Tie as tie
 
 number2-requires : tie.Need-number2-requires
 number2-requires c κs = search needs

@@ -2,8 +2,8 @@
 use mathlib.Core.Path.{refl}
 use borrow.Author.Needs.{needs}
 use Rattle.case_file.specs.Format.{numbers}
-use Rattle.case_file.proofs.put_key.Statement.{statement}
-use Rattle.case_file.proofs.put_key.Tie as tie
+use Rattle.case_file.proofs.record.put_key.Statement.{statement}
+use Rattle.case_file.proofs.record.put_key.Tie as tie
 
 number2-requires : tie.Need-number2-requires
 number2-requires c κs = search needs
