@@ -10,10 +10,12 @@ use borrow.Author.Tests.{ltb-false}
 use lib.Dec.{ltb}
 use lib.ListN.{length}
 use Rattle.case_file.specs.Refusals.{after-end}
+use Rattle.case_file.specs.Format.{base}
 use Rattle.case_file.specs.Case.{Case}
 use Rattle.case_file.specs.Reading.{Reading, whole, refused, alone, read-one, read}
+use Rattle.case_file.specs.Handed.{fault}
 use Rattle.case_file.specs.Written.{written, Below, Storable}
-use Rattle.case_file.proofs.Alone.{stays-whole}
+use Rattle.case_file.proofs.Alone.{Numbered, read-numbered, stays-whole}
 use Rattle.case_file.proofs.ReadBack.{refused-no-case, written-of-read-one}
 use Rattle.case_file.proofs.RoundTrip.{read-one-of-written}
 
@@ -44,7 +46,7 @@ read-of-written c s =
     rw (e, read) (stays-whole (length (written c)) (whole c (length (written c))) (le-refl (length (written c))))
 
 module _ (bs : List ℕ) (c : Case) (n : ℕ) where
-  accepted-holds : Below 256 bs → read bs ≡ whole c n → Holds bs c n
+  accepted-holds : Below base bs → read bs ≡ whole c n → Holds bs c n
   unfolding read
   accepted-holds b e =
       let a = alone-whole (read-one bs) (length bs) c n e in
@@ -59,5 +61,16 @@ module _ (bs : List ℕ) (c : Case) (n : ℕ) where
   holds-accepted : Holds bs c n → read bs ≡ whole c n
   holds-accepted h = rw (h .all, h .same) (read-of-written c (h .storable))
 
-  pub accepted : Below 256 bs → (read bs ≡ whole c n) ↔ Holds bs c n
+  pub accepted : Below base bs → (read bs ≡ whole c n) ↔ Holds bs c n
   accepted b = (accepted-holds b, holds-accepted)
+
+-- number 0, exactly if the file is the written form of a case that can be stored
+pub accepted-written : (bs : List ℕ) → Below base bs → (fault (read bs) .number ≡ 0) ↔ ((c : Case) × Storable c × (bs ≡ written c))
+accepted-written bs b = (λ z. to (read bs) refl (read-numbered bs) z, from)
+  where
+    to : (o : Reading) → read bs ≡ o → Numbered o → fault o .number ≡ 0 → (c : Case) × Storable c × (bs ≡ written c)
+    to (refused e i) q m z = absurd (m z)
+    to (whole c n) q m z = let h = accepted-holds bs c n b q in (c, h .storable, h .same)
+
+    from : (c : Case) × Storable c × (bs ≡ written c) → fault (read bs) .number ≡ 0
+    from w = rw (w .2, read-of-written (w .0) (w .1))

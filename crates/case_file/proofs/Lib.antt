@@ -2,6 +2,7 @@
 pub mod Tests
 pub mod Bytes
 pub mod Arrays
+pub mod Added
 pub mod Steps
 pub mod Standing
 pub mod Progress
@@ -11,4 +12,5 @@ pub mod ReadBack
 pub mod RoundTrip
 pub mod Accepted
 pub mod Settled
+pub mod Within
 pub mod Determined

@@ -7,14 +7,13 @@ use native.Mathlib.Numerals.{add-one}
 use lib.ListN.{length, getD, drop, length-drop, drop-of-length-le}
 use lib.Seq.{drop-cons, drop-drop}
 use Rattle.case_file.specs.Refusals.{no-end}
-use Rattle.case_file.specs.Format.{modulus-kind, end-kind, count, width, body, content}
+use Rattle.case_file.specs.Format.{modulus-kind, end-kind, body, content}
 use Rattle.case_file.specs.Case.{Case, no-records, added}
 use Rattle.case_file.specs.Reading.{whole, refused, fault-number, reading, read-one}
 use Rattle.case_file.specs.Handed.{Gives}
-use Rattle.case_file.specs.Room.{held, Ready}
+use Rattle.case_file.specs.Room.{held, Ready, Adds}
 use Rattle.case_file.specs.declared.Counts.{Counts}
-use Rattle.case_file.proofs.Tests.{Passed, passed, fault-same, not-second, not-below}
-use Rattle.case_file.proofs.Arrays.{length-numbers}
+use Rattle.case_file.proofs.Tests.{Passed, passed, fault-same, not-second}
 use Rattle.case_file.proofs.Steps.{runs-out, passed-over, stops, ends, goes-on}
 use Rattle.case_file.proofs.Standing.{Standing, standing-start, standing-more, counted, threes}
 
@@ -22,6 +21,7 @@ pub record Progress (bs : List ℕ) (r : Counts) (first second skeleton points :
   pub case : Case
   pub given : Gives (whole case 0) r first second skeleton points
   pub standing : Standing before case
+  pub not-ended : before < end-kind
   pub within : at ≤ length bs
   pub same : read-one bs ≡ reading 0 at before case (drop at bs)
 
@@ -32,6 +32,7 @@ begun bs g =
       case = no-records;
       given = record { record-is = g .record-is; first-is = g .first-is; second-is = g .second-is; skeleton-is = g .skeleton-is; points-is = g .points-is };
       standing = standing-start;
+      not-ended = omega arith;
       within = omega arith;
       same = refl;
     }
@@ -56,7 +57,7 @@ module _ {bs : List ℕ} {r : Counts} {f s k p : List ℕ} {before at : ℕ} (q 
 
     module _ {e : ℕ} (t : e ≡ fault-number before kind (held r kind) (length bs - (at + 1))) where
       tests : fault-number before kind (length (q .case kind)) (length after) ≡ e
-      tests = rw (← left) (sym (t ∙ fault-same before kind _ _ _ (counted before (q .case) (q .standing) r (q .given .record-is) kind)))
+      tests = rw (← left) (sym (t ∙ fault-same before kind _ _ _ (counted before (q .case) (q .standing) (q .not-ended) r (q .given .record-is) kind)))
 
       pub stopped : (e ≡ 0 → ⊥) → read-one bs ≡ refused e at
       stopped z = opened ∙ stops at before (q .case) kind after e tests z
@@ -78,21 +79,20 @@ module _ {bs : List ℕ} {r : Counts} {f s k p : List ℕ} {before at : ℕ} (q 
                 low = well .low;
                 high = omega (arith, well .high);
                 whole = fits-in;
-                room = rw (counted before (q .case) (q .standing) r (q .given .record-is) kind (well .low) (well .high) (well .order)) (well .room);
-                threes = threes before (q .case) (q .standing) r (q .given .record-is);
+                room = rw (counted before (q .case) (q .standing) (q .not-ended) r (q .given .record-is) kind (well .low) (well .high) (well .order)) (well .room);
+                threes = threes before (q .case) (q .standing) (q .not-ended) r (q .given .record-is);
               }
 
           pub fresh : kind ≡ modulus-kind → q .case kind ≡ []
           fresh y = q .standing .later kind (omega (arith, not-second before (rw y at (well .order))))
 
-          pub carried : {r′ : Counts} {f′ s′ k′ p′ : List ℕ}
-              → ((c : Case) → Gives (whole c 0) r f s k p → (kind ≡ modulus-kind → c kind ≡ []) → Gives (whole (added kind (content kind after ∷ []) c) 0) r′ f′ s′ k′ p′)
-              → Progress bs r′ f′ s′ k′ p′ kind (at + 1 + body kind)
+          pub carried : {r′ : Counts} {f′ s′ k′ p′ : List ℕ} → Adds bs kind (at + 1) r r′ f s k p f′ s′ k′ p′ → Progress bs r′ f′ s′ k′ p′ kind (at + 1 + body kind)
           carried g =
               record {
                 case = added kind (content kind after ∷ []) (q .case);
                 given = g (q .case) (q .given) fresh;
-                standing = standing-more before kind (q .case) (content kind after) (q .standing) (not-below before kind (well .low) (well .order)) (omega (arith, well .high)) (length-numbers (count kind) (width kind) after);
+                standing = standing-more before kind (length after) (q .case) after (q .standing) well;
+                not-ended = omega (arith, well .high);
                 within = fits-in;
                 same =
                     opened ∙ goes-on at before (q .case) kind after (tests ∙ z) ne

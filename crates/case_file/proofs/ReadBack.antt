@@ -1,22 +1,23 @@
 -- What was read is what a case's written form begins with, and the case can be stored: at each record the bytes passed are
 -- the records of the case so far. Assumes nothing.
-use Prim.Native.Nat.{ℕ, zero, suc, _+_, _^_, _≤_, _<_}
+use Prim.Native.Nat.{ℕ, zero, suc, _+_, _≤_, _<_}
 use mathlib.Core.Path.{_≡_, refl, sym, _∙_}
 use mathlib.Core.Bool.{Bool, true, false}
 use mathlib.Core.List.{List, [], _∷_, _++_, append-assoc, append-nil}
 use native.Mathlib.Omega.{arith}
-use borrow.Author.Tests.{leb-true, leb-false, eqb-true, eqb-false}
-use lib.Dec.{eqb, leb}
+use borrow.Author.Tests.{leb-true, leb-false}
+use lib.Dec.{leb}
 use lib.ListN.{length, drop, length-append, take-append-drop}
 use Rattle.case_file.specs.Refusals.{no-end}
-use Rattle.case_file.specs.Format.{modulus-kind, end-kind, count, width, body, limit, content}
+use Rattle.case_file.specs.Format.{base, modulus-kind, end-kind, count, width, body, content}
 use Rattle.case_file.specs.Case.{Case, no-records, added}
 use Rattle.case_file.specs.Reading.{Reading, whole, refused, reading, read-one}
 use Rattle.case_file.specs.Written.{packed, records, in-order, written, Below, Bodies, Storable}
 use Rattle.case_file.proofs.Tests.{Passed, passed, not-first, not-below}
 use Rattle.case_file.proofs.Arrays.{length-numbers}
 use Rattle.case_file.proofs.Steps.{by-record}
-use Rattle.case_file.proofs.Standing.{added-own, added-other}
+use Rattle.case_file.proofs.Added.{added-own, added-other, added-each}
+use Rattle.case_file.proofs.Standing.{Standing, standing-start, standing-more}
 use Rattle.case_file.proofs.Packing.{packed-numbers, numbers-below}
 
 records-append : (k : ℕ) (rs ss : List (List ℕ)) → records k (rs ++ ss) ≡ records k rs ++ records k ss
@@ -59,42 +60,33 @@ bodies-append k (ns ∷ rs) ss b d = (b .0, b .1, bodies-append k rs ss (b .2) d
 
 -- where reading stands: the bytes passed are the records of the case so far
 record Stored (before : ℕ) (c : Case) (done : List ℕ) : Type 0 where
+  standing : Standing before c
   exact : done ≡ in-order before c
-  later : (j : ℕ) → before < j → c j ≡ []
-  within : (j : ℕ) → length (c j) ≤ limit j
   bodies : (j : ℕ) → Bodies j (c j)
   begun : 1 ≤ before → 1 ≤ length (c modulus-kind)
 
 stored-start : Stored 0 no-records []
 unfolding in-order
-stored-start = record { exact = refl; later = λ j h. refl; within = λ j. omega arith; bodies = λ j. tt; begun = λ h. absurd (omega arith) }
+stored-start = record { standing = standing-start; exact = refl; bodies = λ j. tt; begun = λ h. absurd (omega arith) }
 
-module _ (before k : ℕ) (c : Case) (done ns : List ℕ) (m : ℕ) (s : Stored before c done) (p : Passed before k (length (c k)) m) (l : length ns ≡ count k) (b : Below (256 ^ width k) ns) where
-  -- a fact of each list, from that of the list of kind k and those of the others
-  each : (P : ℕ → List (List ℕ) → Type 0) → P k (c k ++ ns ∷ []) → ((j : ℕ) → (j ≡ k → ⊥) → P j (c j)) → (j : ℕ) → P j (added k (ns ∷ []) c j)
-  each P own others j = go (eqb j k) refl
-    where
-      go : (t : Bool) → eqb j k ≡ t → P j (added k (ns ∷ []) c j)
-      go true t = rw (eqb-true j k t, added-own) own
-      go false t = rw (added-other k (ns ∷ []) c j (eqb-false j k t)) (others j (eqb-false j k t))
-
-  stored-more : Stored k (added k (ns ∷ []) c) (done ++ k ∷ packed (width k) ns)
-  stored-more =
-      let up : before ≤ k = not-below before k (p .low) (p .order) in
-      record {
-        exact = rw (s .exact, in-order-more before c (s .later) k ns up (p .low));
-        later = λ j h. added-other k (ns ∷ []) c j (λ e. omega arith) ∙ s .later j (omega arith);
-        within = each (λ (j : ℕ) (rs : List (List ℕ)). length rs ≤ limit j) (rw length-append (omega (arith, p .room))) (λ j ne. s .within j);
-        bodies = each Bodies (bodies-append k (c k) (ns ∷ []) (s .bodies k) (l, b, tt)) (λ j ne. s .bodies j);
-        begun =
-            λ h. each (λ (j : ℕ) (rs : List (List ℕ)). j ≡ modulus-kind → 1 ≤ length rs)
-            (λ e. rw length-append (omega arith))
-            (λ j ne e. rw e (s .begun (not-first before k (p .order) (λ q. ne (e ∙ sym q)))))
-            modulus-kind refl;
-      }
+stored-more : (before k m : ℕ) (c : Case) (bs done : List ℕ) → Stored before c done → Passed before k (length (c k)) m → Below base bs → Stored k (added k (content k bs ∷ []) c) (done ++ k ∷ packed (width k) (content k bs))
+stored-more before k m c bs done s p b =
+    record {
+      standing = standing-more before k m c bs (s .standing) p;
+      exact = rw (s .exact, in-order-more before c (s .standing .later) k (content k bs) (not-below before k (p .low) (p .order)) (p .low));
+      bodies =
+          added-each k (content k bs ∷ []) c Bodies
+          (bodies-append k (c k) (content k bs ∷ []) (s .bodies k) (length-numbers (count k) (width k) bs, numbers-below (count k) (width k) bs b, tt))
+          (λ j ne. s .bodies j);
+      begun =
+          λ h. added-each k (content k bs ∷ []) c (λ (j : ℕ) (rs : List (List ℕ)). j ≡ modulus-kind → 1 ≤ length rs)
+          (λ e. rw length-append (omega arith))
+          (λ j ne e. rw e (s .begun (not-first before k (p .order) (λ q. ne (e ∙ sym q)))))
+          modulus-kind refl;
+    }
 
 -- a record's bytes are its kind and its numbers
-record-bytes : (k : ℕ) (bs done : List ℕ) → body k ≤ length bs → Below 256 bs → done ++ k ∷ bs ≡ (done ++ k ∷ packed (width k) (content k bs)) ++ drop (body k) bs
+record-bytes : (k : ℕ) (bs done : List ℕ) → body k ≤ length bs → Below base bs → done ++ k ∷ bs ≡ (done ++ k ∷ packed (width k) (content k bs)) ++ drop (body k) bs
 record-bytes k bs done h b =
     rw (packed-numbers (count k) (width k) bs h b, append-assoc, take-append-drop)
 
@@ -112,15 +104,15 @@ refused-no-case e i c n h = let z : _≡_ {A = ℕ} 0 1 = cc in omega arith
 storable-end : (k : ℕ) (c : Case) (done : List ℕ) → k ≡ end-kind → Stored k c done → 1 ≤ length (c end-kind) → Storable c
 storable-end k c done e s h =
     record {
-      within = s .within;
+      within = s .standing .within;
       bodies = s .bodies;
-      one-modulus = omega (arith, s .within modulus-kind, s .begun (omega arith));
-      one-end = omega (arith, s .within end-kind);
+      one-modulus = omega (arith, s .standing .within modulus-kind, s .begun (omega arith));
+      one-end = omega (arith, s .standing .within end-kind);
     }
 
-module _ (m n : ℕ) (c′ : Case) (before k : ℕ) (c : Case) (bs done : List ℕ) (s : Stored before c done) (b : Below 256 bs) (p : Passed before k (length (c k)) (length bs)) where
+module _ (m n : ℕ) (c′ : Case) (before k : ℕ) (c : Case) (bs done : List ℕ) (s : Stored before c done) (b : Below base bs) (p : Passed before k (length (c k)) (length bs)) where
   taken : Stored k (added k (content k bs ∷ []) c) (done ++ k ∷ packed (width k) (content k bs))
-  taken = stored-more before k c done (content k bs) (length bs) s p (length-numbers (count k) (width k) bs) (numbers-below (count k) (width k) bs b)
+  taken = stored-more before k (length bs) c bs done s p b
 
   onward : Back (done ++ k ∷ packed (width k) (content k bs)) (drop (body k) bs) m n c′ → Back done (k ∷ bs) m n c′
   onward r = record { rest = r .rest; same = record-bytes k bs done (p .in-file) b ∙ r .same; left = r .left; storable = r .storable }
@@ -136,7 +128,7 @@ module _ (m n : ℕ) (c′ : Case) (before k : ℕ) (c : Case) (bs done : List �
         storable = storable-end k c′ _ e t (rw (← w, e, added-own, length-append) (omega arith));
       })
 
-back : (c′ : Case) (n s at before : ℕ) (c : Case) (bs done : List ℕ) → Stored before c done → Below 256 bs → reading s at before c bs ≡ whole c′ n → Back done (drop s bs) (at + length bs) n c′
+back : (c′ : Case) (n s at before : ℕ) (c : Case) (bs done : List ℕ) → Stored before c done → Below base bs → reading s at before c bs ≡ whole c′ n → Back done (drop s bs) (at + length bs) n c′
 unfolding reading
 back c′ n zero at before c [] done t b e = absurd (refused-no-case no-end at c′ n e)
 back c′ n (suc s) at before c [] done t b e = absurd (refused-no-case no-end at c′ n e)
@@ -157,7 +149,7 @@ back c′ n zero at before c (k ∷ bs) done t b e =
     e
 
 -- what was read is the written form of a case that can be stored, with what stands after it
-pub written-of-read-one : (bs : List ℕ) (c : Case) (n : ℕ) → Below 256 bs → read-one bs ≡ whole c n → (rest : List ℕ) × (bs ≡ written c ++ rest) × (n + length rest ≡ length bs) × Storable c
+pub written-of-read-one : (bs : List ℕ) (c : Case) (n : ℕ) → Below base bs → read-one bs ≡ whole c n → (rest : List ℕ) × (bs ≡ written c ++ rest) × (n + length rest ≡ length bs) × Storable c
 unfolding read-one
 written-of-read-one bs c n b e =
     let r = back c n 0 0 0 no-records bs [] stored-start b e in

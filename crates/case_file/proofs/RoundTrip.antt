@@ -6,40 +6,25 @@ use mathlib.Core.Bool.{Bool, true, false}
 use mathlib.Core.List.{List, [], _∷_, _++_, append-assoc, append-nil}
 use native.Mathlib.Nat.{add-zero, zero-add}
 use native.Mathlib.Omega.{arith}
-use borrow.Author.Tests.{eqb-true, eqb-false, le-leb, lt-leb, leb-true, leb-false}
-use lib.Dec.{eqb, leb}
+use borrow.Author.Tests.{le-leb, lt-leb, leb-true, leb-false}
+use lib.Dec.{leb}
 use lib.ListN.{length, length-append, List·getD-eq-default}
 use lib.Seq.{drop-at}
-use Rattle.case_file.specs.Format.{modulus-kind, point-kind, end-kind, count, width, body, limits, limit, follows}
+use Rattle.case_file.specs.Format.{base, modulus-kind, point-kind, end-kind, count, width, body, limits, limit, follows}
 use Rattle.case_file.specs.Case.{Case, no-records, added}
 use Rattle.case_file.specs.Reading.{Reading, whole, reading, read-one}
 use Rattle.case_file.specs.Written.{packed, records, in-order, written, Below, Bodies, Storable}
-use Rattle.case_file.proofs.Tests.{in-order as may-follow, passes}
+use Rattle.case_file.proofs.Tests.{may-follow, passes}
 use Rattle.case_file.proofs.Steps.{passed-over, goes-on, ends}
-use Rattle.case_file.proofs.Standing.{added-own, added-other}
+use Rattle.case_file.proofs.Added.{added-own, added-is, added-none, added-twice}
 use Rattle.case_file.proofs.Packing.{length-packed, numbers-packed}
-
--- a case is known by its lists
-module _ (k : ℕ) (rs : List (List ℕ)) (c c′ : Case) where
-  added-is : ((j : ℕ) → (j ≡ k → ⊥) → c j ≡ c′ j) → c k ++ rs ≡ c′ k → added k rs c ≡ c′
-  added-is others own = fun-ext (λ j. go j (eqb j k) refl)
-    where
-      go : (j : ℕ) (b : Bool) → eqb j k ≡ b → added k rs c j ≡ c′ j
-      go j true t = rw (eqb-true j k t) (added-own k rs c ∙ own)
-      go j false t = added-other k rs c j (eqb-false j k t) ∙ others j (eqb-false j k t)
-
-added-twice : (k : ℕ) (rs ss : List (List ℕ)) (c : Case) → added k ss (added k rs c) ≡ added k (rs ++ ss) c
-added-twice k rs ss c =
-    added-is k ss (added k rs c) (added k (rs ++ ss) c)
-    (λ j ne. added-other k rs c j ne ∙ sym (added-other k (rs ++ ss) c j ne))
-    (rw (added-own, added-own, append-assoc))
 
 one-record : (k : ℕ) (ns rest : List ℕ) → records k (ns ∷ []) ++ rest ≡ k ∷ packed (width k) ns ++ rest
 unfolding records
 one-record k ns rest = ap (λ (l : List ℕ). k ∷ l ++ rest) (append-nil (packed (width k) ns))
 
 -- one record
-module _ (k : ℕ) (low : modulus-kind ≤ k) (high : k ≤ end-kind) (before : ℕ) (o : follows before k ≡ true) (at : ℕ) (c : Case) (ns rest : List ℕ) (room : length (c k) < limit k) (l : length ns ≡ count k) (small : Below (256 ^ width k) ns) where
+module _ (k : ℕ) (low : modulus-kind ≤ k) (high : k ≤ end-kind) (before : ℕ) (o : follows before k ≡ true) (at : ℕ) (c : Case) (ns rest : List ℕ) (room : length (c k) < limit k) (l : length ns ≡ count k) (small : Below (base ^ width k) ns) where
   length-body : length (packed (width k) ns) ≡ body k
   length-body = length-packed (width k) ns ∙ ap (λ (n : ℕ). n * width k) l
 
@@ -77,8 +62,7 @@ module _ (k : ℕ) (low : modulus-kind < k) (high : k < end-kind) where
       → Comes (suc k) (at + length (records k rs)) (added k rs c) rest (reading 0 at before c (records k rs ++ rest))
   unfolding records
   through [] at before c rest o r b =
-      let e : added k [] c ≡ c = added-is k [] c c (λ j ne. refl) (append-nil (c k)) in
-      record { last = before; order = λ j h. o j (omega arith); to = rw (e, add-zero) }
+      record { last = before; order = λ j h. o j (omega arith); to = rw (added-none, add-zero) }
   through (ns ∷ rs) at before c rest o r b =
       let l : 1 ≤ k = omega arith in
       let u : k ≤ end-kind = omega arith in

@@ -1,5 +1,5 @@
--- A file's first bytes settle what it says: the records of a case are few, so that longer input can be cut. A program that reads
--- 4,096 bytes has read enough. Assumes nothing.
+-- A file's first bytes settle what it says: the records of a case are few, so that longer input can be cut. By the bytes that
+-- records can still take (`left`). Assumes nothing.
 use Prim.Native.Nat.{ℕ, zero, suc, _+_, _-_, _*_, _≤_, _<_}
 use mathlib.Core.Path.{_≡_, refl, sym, ap, _∙_}
 use mathlib.Core.Bool.{Bool, true, false}
@@ -11,7 +11,7 @@ use lib.Dec.{leb}
 use lib.ListN.{length, take, drop, length-take, length-append}
 use lib.Seq.{take-take, take-nil, take-all, length-take-le}
 use Rattle.case_file.specs.Refusals.{no-end}
-use Rattle.case_file.specs.Format.{end-kind, count, width, body, limit, numbers, content}
+use Rattle.case_file.specs.Format.{enough, end-kind, count, width, body, limit, numbers, content}
 use Rattle.case_file.specs.Case.{Case, no-records, added}
 use Rattle.case_file.specs.Reading.{Reading, whole, refused, fault-number, reading, read-one, alone, read}
 use Rattle.case_file.proofs.Tests.{by-kind, Passed, passed}
@@ -115,9 +115,9 @@ at-start = refl
 
 module _ (bs : List ℕ) (m : ℕ) (h : 2890 ≤ m) where
   -- the case at the start of the bytes
-  pub settled-one : read-one (take m bs) ≡ read-one bs
+  pub settled-one-from : read-one (take m bs) ≡ read-one bs
   unfolding read-one
-  settled-one = cut 0 0 0 no-records bs m (omega (arith, at-start))
+  settled-one-from = cut 0 0 0 no-records bs m (omega (arith, at-start))
 
   end-early : (c : Case) (n : ℕ) → read-one bs ≡ whole c n → n + 6 ≤ 2890
   unfolding read-one
@@ -125,7 +125,7 @@ module _ (bs : List ℕ) (m : ℕ) (h : 2890 ≤ m) where
 
   longer : m ≤ length bs → read (take m bs) ≡ read bs
   unfolding read alone
-  longer l = rw (settled-one, length-take-le m bs l) (go (read-one bs) refl)
+  longer l = rw (settled-one-from, length-take-le m bs l) (go (read-one bs) refl)
     where
       go : (o : Reading) → read-one bs ≡ o → alone m o ≡ alone (length bs) o
       go (refused e i) s = refl
@@ -134,9 +134,9 @@ module _ (bs : List ℕ) (m : ℕ) (h : 2890 ≤ m) where
           let b : n < length bs = omega arith in
           rw (alone, lt-ltb n m a, lt-ltb n (length bs) b)
 
-  -- a file
-  pub settled : read (take m bs) ≡ read bs
-  settled = go (leb m (length bs)) refl
+  -- a case file
+  pub settled-from : read (take m bs) ≡ read bs
+  settled-from = go (leb m (length bs)) refl
     where
       go : (b : Bool) → leb m (length bs) ≡ b → read (take m bs) ≡ read bs
       go true t = longer (leb-true m (length bs) t)
@@ -144,6 +144,6 @@ module _ (bs : List ℕ) (m : ℕ) (h : 2890 ≤ m) where
           let l : length bs ≤ m = omega (arith, leb-false m (length bs) t) in
           rw (take-all m bs l)
 
--- what a program reads into a buffer of 4,096 bytes
-pub settled-by-4096 : (bs : List ℕ) → read (take 4096 bs) ≡ read bs
-settled-by-4096 bs = settled bs 4096 (omega arith)
+-- a program reads no more than that
+pub settled : (bs : List ℕ) → read (take enough bs) ≡ read bs
+settled bs = settled-from bs enough (omega arith)

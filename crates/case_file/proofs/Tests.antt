@@ -7,11 +7,11 @@ use native.Mathlib.Omega.{arith}
 use borrow.Author.Tests.{le-leb, lt-leb, lt-ltb, le-ltb, leb-true, ltb-true, eqb-true}
 use lib.Dec.{leb, ltb}
 use Rattle.case_file.specs.Refusals.{kind-unknown, body-cut, order, too-many}
-use Rattle.case_file.specs.Format.{modulus-kind, end-kind, body, limit, follows}
+use Rattle.case_file.specs.Format.{modulus-kind, first-kind, second-kind, skeleton-kind, point-kind, end-kind, body, limit, follows}
 use Rattle.case_file.specs.Reading.{first-failed, fault-number}
 
 -- what holds for each known kind holds for every known kind
-pub by-kind : (P : ℕ → Type 0) (k : ℕ) → modulus-kind ≤ k → k ≤ end-kind → P 1 → P 2 → P 3 → P 4 → P 5 → P 6 → P k
+pub by-kind : (P : ℕ → Type 0) (k : ℕ) → modulus-kind ≤ k → k ≤ end-kind → P modulus-kind → P first-kind → P second-kind → P skeleton-kind → P point-kind → P end-kind → P k
 by-kind P zero low high p₁ p₂ p₃ p₄ p₅ p₆ = absurd (omega arith)
 by-kind P (suc zero) low high p₁ p₂ p₃ p₄ p₅ p₆ = p₁
 by-kind P (suc (suc zero)) low high p₁ p₂ p₃ p₄ p₅ p₆ = p₂
@@ -27,10 +27,10 @@ unfolding follows
 follows-later zero k h = absurd (h refl)
 follows-later (suc before) k h = refl
 
-pub in-order : (before k : ℕ) → 1 ≤ before → before ≤ k → modulus-kind < k → follows before k ≡ true
+pub may-follow : (before k : ℕ) → 1 ≤ before → before ≤ k → modulus-kind < k → follows before k ≡ true
 unfolding follows
-in-order zero k a b d = absurd (omega arith)
-in-order (suc before) k a b d = rw (le-leb (suc before) k b, lt-ltb modulus-kind k d)
+may-follow zero k a b d = absurd (omega arith)
+may-follow (suc before) k a b d = rw (le-leb (suc before) k b, lt-ltb modulus-kind k d)
 
 both : (a b : Bool) → a && b ≡ true → (a ≡ true) × (b ≡ true)
 both true b e = (refl, e)

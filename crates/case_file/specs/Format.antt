@@ -51,10 +51,14 @@ unfoldable pub follows : ℕ → ℕ → Bool
 follows zero k = eqb k modulus-kind
 follows (suc before) k = leb (suc before) k && ltb modulus-kind k
 
+-- how many values a byte has
+abbrev pub base : ℕ
+base = 256
+
 -- a number from its bytes, the low byte first
 unfoldable pub little : List ℕ → ℕ
 little [] = 0
-little (b ∷ bs) = b + 256 * little bs
+little (b ∷ bs) = b + base * little bs
 
 -- the n numbers of w bytes each with which a list of bytes begins
 unfoldable pub numbers : ℕ → ℕ → List ℕ → List ℕ
@@ -64,3 +68,7 @@ numbers (suc n) w bs = little (take w bs) ∷ numbers n w (drop w bs)
 -- the numbers of a record of kind k whose body begins a list of bytes
 abbrev pub content : ℕ → List ℕ → List ℕ
 content k bs = numbers (count k) (width k) bs
+
+-- how many bytes of a file a program reads: they settle the answer, whatever stands after them
+abbrev pub enough : ℕ
+enough = 4096

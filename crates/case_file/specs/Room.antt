@@ -4,7 +4,7 @@ use mathlib.Core.Path.{_≡_}
 use mathlib.Core.List.{List, [], _∷_}
 use lib.ListN.{length, getD, drop}
 use lib.Seq.{sets}
-use Rattle.case_file.specs.Format.{modulus-kind, end-kind, count, limit, body, content}
+use Rattle.case_file.specs.Format.{modulus-kind, point-kind, end-kind, count, limit, body, content}
 use Rattle.case_file.specs.Case.{Case, added}
 use Rattle.case_file.specs.Reading.{whole}
 use Rattle.case_file.specs.Handed.{Gives}
@@ -16,7 +16,7 @@ pub record Known (k : ℕ) : Type 0 where
 
 -- by kind, the records that the counts say; those of modulus and end have no count, and the order of kinds bounds them
 abbrev pub held : Counts → ℕ → ℕ
-held r k = getD (0 ∷ 0 ∷ r .first ∷ r .second ∷ r .skeleton ∷ r .points / 3 ∷ 0 ∷ []) k 0
+held r k = getD (0 ∷ 0 ∷ r .first ∷ r .second ∷ r .skeleton ∷ r .points / count point-kind ∷ 0 ∷ []) k 0
 
 -- a body of kind k at the offset at is whole, and a list with n numbers has room for it
 pub record Place (k : ℕ) (bytes : List ℕ) (at n : ℕ) : Type 0 where
@@ -34,7 +34,7 @@ pub record Ready (bytes : List ℕ) (k at : ℕ) (r : Counts) : Type 0 where
   pub high : k < end-kind
   pub whole : at + body k ≤ length bytes
   pub room : held r k < limit k
-  pub threes : r .points % 3 ≡ 0
+  pub threes : r .points % count point-kind ≡ 0
 
 -- the record is added: what holds a case in the arrays and the counts then holds the case with that record
 abbrev pub Adds : (bytes : List ℕ) (k at : ℕ) (r r′ : Counts) (first second skeleton points first′ second′ skeleton′ points′ : List ℕ) → Type 0

@@ -3,13 +3,13 @@ use Prim.Native.Nat.{ℕ, zero, suc, _/_, _%_, _^_, _≤_, _<_}
 use mathlib.Core.Path.{_≡_}
 use mathlib.Core.List.{List, [], _∷_, _++_}
 use lib.ListN.{length}
-use Rattle.case_file.specs.Format.{modulus-kind, end-kind, count, width, limit}
+use Rattle.case_file.specs.Format.{base, modulus-kind, end-kind, count, width, limit}
 use Rattle.case_file.specs.Case.{Case}
 
 -- the w bytes of a number, the low byte first
 unfoldable pub bytes : ℕ → ℕ → List ℕ
 bytes zero v = []
-bytes (suc w) v = v % 256 ∷ bytes w (v / 256)
+bytes (suc w) v = v % base ∷ bytes w (v / base)
 
 -- numbers of w bytes each
 unfoldable pub packed : ℕ → List ℕ → List ℕ
@@ -37,7 +37,7 @@ Below m (v ∷ vs) = (v < m) × Below m vs
 -- each record is one of kind k
 abbrev pub Bodies : ℕ → List (List ℕ) → Type 0
 Bodies k [] = Unit {0}
-Bodies k (ns ∷ rs) = (length ns ≡ count k) × Below (256 ^ width k) ns × Bodies k rs
+Bodies k (ns ∷ rs) = (length ns ≡ count k) × Below (base ^ width k) ns × Bodies k rs
 
 -- a case that a file can hold
 pub record Storable (c : Case) : Type 0 where

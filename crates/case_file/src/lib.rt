@@ -5,32 +5,21 @@ ghost use Rattle.case_file.specs.Handed.{contents, Gives};
 ghost use Rattle.case_file.specs.Room.{Ready, Adds};
 use field::Fault;
 use field::Number;
-use record::AFTER_END;
-use record::END;
-use record::FIRST;
-use record::MODULUS;
-use record::NO_END;
-use record::SECOND;
-use record::SKELETON;
-use record::body;
-use record::fault_of;
-use record::number2;
-use record::put_key;
-use record::put_point;
-use record::put_term;
 
 mod record;
 
 pub type Term = u32;
 
-// The most records of a kind. A point has three numbers.
+// The most records of a kind, and the numbers of a point.
 pub const TERMS: usize = 256;
 
 pub const KEYS: usize = 32;
 
 pub const POINTS: usize = 32;
 
-pub const POINT_NUMBERS: usize = 3 * POINTS;
+pub const COORDINATES: usize = 3;
+
+pub const POINT_NUMBERS: usize = POINTS * COORDINATES;
 
 pub type Terms = [Term; TERMS];
 
@@ -104,24 +93,25 @@ fn with_record(
 {
     let mut next = counts;
     match kind {
-        MODULUS => {
-            next.modulus = number2(bytes, at);
+        record::MODULUS => {
+            next.modulus = record::number2(bytes, at);
             next
         }
-        FIRST => {
-            next.first = put_term(bytes, at, first, counts.first);
+        record::FIRST => {
+            next.first = record::put_term(bytes, at, first, counts.first);
             next
         }
-        SECOND => {
-            next.second = put_term(bytes, at, second, counts.second);
+        record::SECOND => {
+            next.second = record::put_term(bytes, at, second, counts.second);
             next
         }
-        SKELETON => {
-            next.skeleton = put_key(bytes, at, skeleton, counts.skeleton);
+        record::SKELETON => {
+            next.skeleton = record::put_key(bytes, at, skeleton, counts.skeleton);
             next
         }
+        // A point: the end record never comes here.
         _ => {
-            next.points = put_point(bytes, at, points, counts.points);
+            next.points = record::put_point(bytes, at, points, counts.points);
             next
         }
     }
@@ -143,19 +133,19 @@ pub fn read_one_into(
     while at < bytes.len() {
         let kind = bytes[at];
         let start = at + 1;
-        let number = fault_of(before, kind, counts, bytes.len() - start);
+        let number = record::fault_of(before, kind, counts, bytes.len() - start);
         if number != 0 {
             return nothing(number, at, first, second, skeleton, points);
         }
-        if kind == END {
+        if kind == record::END {
             counts.next = start;
             return counts;
         }
         counts = with_record(bytes, kind, start, counts, first, second, skeleton, points);
         before = kind;
-        at = start + body(kind);
+        at = start + record::body(kind);
     }
-    nothing(NO_END, at, first, second, skeleton, points)
+    nothing(record::NO_END, at, first, second, skeleton, points)
 }
 
 // A case file: one case, and nothing after it. The first 4,096 bytes settle the answer, so that a program need read no more.
@@ -175,7 +165,14 @@ pub fn read_into(
     if counts.fault.number != 0 {
         return counts;
     }
-    nothing(AFTER_END, counts.next, first, second, skeleton, points)
+    nothing(
+        record::AFTER_END,
+        counts.next,
+        first,
+        second,
+        skeleton,
+        points,
+    )
 }
 
 // The same in one record.

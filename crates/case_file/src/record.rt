@@ -1,10 +1,11 @@
 // One record of a case file: its kind, its tests, and its numbers into their list.
 ghost use mathlib.Core.Path.{_≡_};
-ghost use Prim.Native.Nat.{_+_, _≤_};
+ghost use Prim.Native.Nat.{_+_, _<_, _≤_};
 ghost use lib.ListN.{length, take, drop};
 ghost use Rattle.case_file.specs.Format.{body as body-of, follows as follows-of, little, first-kind, skeleton-kind, point-kind};
 ghost use Rattle.case_file.specs.Reading.{fault-number};
 ghost use Rattle.case_file.specs.Room.{Known, held as held-of, Place, Put};
+use crate::COORDINATES;
 use crate::Counts;
 use crate::KEYS;
 use crate::Keys;
@@ -31,6 +32,11 @@ pub const END: u8 = 6;
 const BODIES: [usize; 7] = [0, 2, 4, 4, 2, 6, 0];
 
 const LIMITS: [usize; 7] = [0, 1, TERMS, TERMS, KEYS, POINTS, 1];
+
+// How many values one byte has, and two.
+const BASE: u16 = 256;
+
+const BASE_SQUARED: u32 = 65536;
 
 // The reader's refusal numbers.
 pub const KIND_UNKNOWN: Number = 20;
@@ -73,7 +79,7 @@ fn held(kind: u8, counts: Counts) -> usize
         counts.first,
         counts.second,
         counts.skeleton,
-        counts.points / 3,
+        counts.points / COORDINATES,
         0,
     ];
     held[kind as usize]
@@ -101,19 +107,25 @@ pub fn fault_of(before: u8, kind: u8, counts: Counts, left: usize) -> Number
     0
 }
 
+fn wide(byte: u8) -> u16
+    ensures { λ r. ⌜ (r ≡ byte) × (r < 256) ⌝ }
+{
+    byte as u16
+}
+
 // Numbers of two and of four bytes, the low byte first.
 pub fn number2(bytes: &[u8], at: usize) -> u16
     requires { ⌜ at + 2 ≤ length (now bytes) ⌝ }
     ensures { λ r. ⌜ r ≡ little (take 2 (drop at (now (bytes .entry)))) ⌝ }
 {
-    (bytes[at] as u16) + 256 * (bytes[at + 1] as u16)
+    wide(bytes[at]) + BASE * wide(bytes[at + 1])
 }
 
 fn number4(bytes: &[u8], at: usize) -> u32
     requires { ⌜ at + 4 ≤ length (now bytes) ⌝ }
     ensures { λ r. ⌜ r ≡ little (take 4 (drop at (now (bytes .entry)))) ⌝ }
 {
-    (number2(bytes, at) as u32) + 65536 * (number2(bytes, at + 2) as u32)
+    (number2(bytes, at) as u32) + BASE_SQUARED * (number2(bytes, at + 2) as u32)
 }
 
 // The numbers of the body at the offset go behind the n numbers of the list; how many it has then.
@@ -140,5 +152,5 @@ pub fn put_point(bytes: &[u8], at: usize, list: &mut PointNumbers, n: usize) -> 
     list[n] = number2(bytes, at);
     list[n + 1] = number2(bytes, at + 2);
     list[n + 2] = number2(bytes, at + 4);
-    n + 3
+    n + COORDINATES
 }
