@@ -1,0 +1,75 @@
+-- From the case at the start of the bytes to a case file: nothing may stand after it. Assumes nothing.
+use Prim.Native.Nat.{ℕ, zero, suc, _+_, _≤_, _<_}
+use mathlib.Core.Path.{_≡_, refl}
+use mathlib.Core.Bool.{Bool, true, false}
+use mathlib.Core.List.{List, [], _∷_}
+use native.Mathlib.Omega.{arith}
+use borrow.Author.Tests.{lt-ltb, le-ltb}
+use lib.Dec.{ltb}
+use lib.ListN.{length}
+use Rattle.case_file.specs.Refusals.{after-end}
+use Rattle.case_file.specs.Format.{body, content}
+use Rattle.case_file.specs.Case.{Case, no-records, added}
+use Rattle.case_file.specs.Reading.{Reading, whole, refused, alone, reading, read-one, read}
+use Rattle.case_file.specs.Handed.{fault, next, Gives}
+use Rattle.case_file.specs.declared.Counts.{Counts}
+use Rattle.case_file.proofs.Steps.{by-record}
+
+-- a refusal's number is not 0, so that number 0 says that a case was read
+abbrev pub Numbered : Reading → Type 0
+Numbered (whole c at) = Unit {0}
+Numbered (refused e at) = e ≡ 0 → ⊥
+
+numbered : (s at before : ℕ) (c : Case) (bs : List ℕ) → Numbered (reading s at before c bs)
+unfolding reading
+numbered zero at before c [] = λ z. omega arith
+numbered (suc s) at before c [] = λ z. omega arith
+numbered (suc s) at before c (b ∷ bs) = numbered s (at + 1) before c bs
+numbered zero at before c (k ∷ bs) =
+    by-record at before c k bs Numbered (λ e h z. z) (λ h q. tt) (λ h q. numbered (body k) (at + 1) k (added k (content k bs ∷ []) c) bs)
+
+pub read-one-numbered : (bs : List ℕ) → Numbered (read-one bs)
+unfolding read-one
+read-one-numbered bs = numbered 0 0 0 no-records bs
+
+module _ (n : ℕ) where
+  pub stays-whole : (o : Reading) → n ≤ next o → alone n o ≡ o
+  unfolding alone
+  stays-whole (whole c at) h = rw (le-ltb at n h, alone)
+  stays-whole (refused e i) h = refl
+
+  stays-refused : (o : Reading) → (fault o .number ≡ 0 → ⊥) → alone n o ≡ o
+  unfolding alone
+  stays-refused (whole c at) z = absurd (z refl)
+  stays-refused (refused e i) z = refl
+
+  becomes-refused : (o : Reading) → Numbered o → next o < n → fault o .number ≡ 0 → alone n o ≡ refused after-end (next o)
+  unfolding alone
+  becomes-refused (whole c at) m h z = rw (lt-ltb at n h, alone)
+  becomes-refused (refused e i) m h z = absurd (m z)
+
+alone-numbered : (n : ℕ) (o : Reading) → Numbered o → Numbered (alone n o)
+unfolding alone
+alone-numbered n (refused e i) m = m
+alone-numbered n (whole c at) m = go (ltb at n)
+  where
+    go : (b : Bool) → Numbered (elim b [ true ↦ refused after-end at | false ↦ whole c at ])
+    go true = λ z. omega arith
+    go false = tt
+
+pub read-numbered : (bs : List ℕ) → Numbered (read bs)
+unfolding read
+read-numbered bs = alone-numbered (length bs) (read-one bs) (read-one-numbered bs)
+
+module _ (bs : List ℕ) {r : Counts} {f s k p : List ℕ} (g : Gives (read-one bs) r f s k p) where
+  pub nothing-after : length bs ≤ r .next → Gives (read bs) r f s k p
+  unfolding read
+  nothing-after h = rw (stays-whole (length bs) (read-one bs) (rw (g .record-is) at h), read) g
+
+  pub refused-before : (r .fault .number ≡ 0 → ⊥) → Gives (read bs) r f s k p
+  unfolding read
+  refused-before z = rw (stays-refused (length bs) (read-one bs) (rw (g .record-is) at z), read) g
+
+  pub bytes-after : r .next < length bs → r .fault .number ≡ 0 → read bs ≡ refused after-end (r .next)
+  unfolding read
+  bytes-after h z = rw (g .record-is) (becomes-refused (length bs) (read-one bs) (read-one-numbered bs) (rw (g .record-is) at h) (rw (g .record-is) at z))

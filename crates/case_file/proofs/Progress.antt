@@ -1,0 +1,101 @@
+-- What the reader's loop keeps: the arrays hold a case, and reading on from here gives what reading from the start gives. Assumes nothing.
+use Prim.Native.Nat.{ℕ, _+_, _-_, _≤_, _<_}
+use mathlib.Core.Path.{_≡_, refl, sym, ap, _∙_}
+use mathlib.Core.List.{List, [], _∷_}
+use native.Mathlib.Omega.{arith}
+use native.Mathlib.Numerals.{add-one}
+use lib.ListN.{length, getD, drop, length-drop, drop-of-length-le}
+use lib.Seq.{drop-cons, drop-drop}
+use Rattle.case_file.specs.Refusals.{no-end}
+use Rattle.case_file.specs.Format.{modulus-kind, end-kind, body, content}
+use Rattle.case_file.specs.Case.{Case, no-records, added}
+use Rattle.case_file.specs.Reading.{whole, refused, fault-number, reading, read-one}
+use Rattle.case_file.specs.Handed.{Gives}
+use Rattle.case_file.specs.Room.{held, Ready, Adds}
+use Rattle.case_file.specs.declared.Counts.{Counts}
+use Rattle.case_file.proofs.Tests.{Passed, passed, fault-same, not-second}
+use Rattle.case_file.proofs.Steps.{runs-out, passed-over, stops, ends, goes-on}
+use Rattle.case_file.proofs.Standing.{Standing, standing-start, standing-more, counted, threes}
+
+pub record Progress (bs : List ℕ) (r : Counts) (first second skeleton points : List ℕ) (before at : ℕ) : Type 0 where
+  pub case : Case
+  pub given : Gives (whole case 0) r first second skeleton points
+  pub standing : Standing before case
+  pub not-ended : before < end-kind
+  pub within : at ≤ length bs
+  pub same : read-one bs ≡ reading 0 at before case (drop at bs)
+
+pub begun : {r : Counts} {f s k p : List ℕ} (bs : List ℕ) → Gives (refused 0 0) r f s k p → Progress bs r f s k p 0 0
+unfolding read-one
+begun bs g =
+    record {
+      case = no-records;
+      given = record { record-is = g .record-is; first-is = g .first-is; second-is = g .second-is; skeleton-is = g .skeleton-is; points-is = g .points-is };
+      standing = standing-start;
+      not-ended = omega arith;
+      within = omega arith;
+      same = refl;
+    }
+
+module _ {bs : List ℕ} {r : Counts} {f s k p : List ℕ} {before at : ℕ} (q : Progress bs r f s k p before at) where
+  pub out : length bs ≤ at → read-one bs ≡ refused no-end at
+  out h = rw (q .same, drop-of-length-le bs h) (runs-out 0 at before (q .case))
+
+  module _ (h : at < length bs) where
+    -- the kind byte and the bytes after it
+    abbrev kind : ℕ
+    kind = getD bs at 0
+
+    abbrev after : List ℕ
+    after = drop (at + 1) bs
+
+    opened : read-one bs ≡ reading 0 at before (q .case) (kind ∷ after)
+    opened = rw (add-one, ← drop-cons bs at 0 h) (q .same)
+
+    left : length bs - (at + 1) ≡ length after
+    left = rw length-drop (omega arith)
+
+    module _ {e : ℕ} (t : e ≡ fault-number before kind (held r kind) (length bs - (at + 1))) where
+      tests : fault-number before kind (length (q .case kind)) (length after) ≡ e
+      tests = rw (← left) (sym (t ∙ fault-same before kind _ _ _ (counted before (q .case) (q .standing) (q .not-ended) r (q .given .record-is) kind)))
+
+      pub stopped : (e ≡ 0 → ⊥) → read-one bs ≡ refused e at
+      stopped z = opened ∙ stops at before (q .case) kind after e tests z
+
+      module _ (z : e ≡ 0) where
+        well : Passed before kind (length (q .case kind)) (length after)
+        well = passed before kind _ _ (tests ∙ z)
+
+        pub ended : kind ≡ end-kind → read-one bs ≡ whole (added kind (content kind after ∷ []) (q .case)) (at + 1)
+        ended y = opened ∙ ends at before (q .case) kind after (tests ∙ z) y
+
+        pub fits-in : at + 1 + body kind ≤ length bs
+        fits-in = omega (arith, well .in-file, left)
+
+        module _ (ne : kind ≡ end-kind → ⊥) where
+          pub ready : Ready bs kind (at + 1) r
+          ready =
+              record {
+                low = well .low;
+                high = omega (arith, well .high);
+                whole = fits-in;
+                room = rw (counted before (q .case) (q .standing) (q .not-ended) r (q .given .record-is) kind (well .low) (well .high) (well .order)) (well .room);
+                threes = threes before (q .case) (q .standing) (q .not-ended) r (q .given .record-is);
+              }
+
+          pub fresh : kind ≡ modulus-kind → q .case kind ≡ []
+          fresh y = q .standing .later kind (omega (arith, not-second before (rw y at (well .order))))
+
+          pub carried : {r′ : Counts} {f′ s′ k′ p′ : List ℕ} → Adds bs kind (at + 1) r r′ f s k p f′ s′ k′ p′ → Progress bs r′ f′ s′ k′ p′ kind (at + 1 + body kind)
+          carried g =
+              record {
+                case = added kind (content kind after ∷ []) (q .case);
+                given = g (q .case) (q .given) fresh;
+                standing = standing-more before kind (length after) (q .case) after (q .standing) well;
+                not-ended = omega (arith, well .high);
+                within = fits-in;
+                same =
+                    opened ∙ goes-on at before (q .case) kind after (tests ∙ z) ne
+                    ∙ passed-over (body kind) (at + 1) kind (added kind (content kind after ∷ []) (q .case)) after (well .in-file)
+                    ∙ ap (λ (l : List ℕ). reading 0 (at + 1 + body kind) kind (added kind (content kind after ∷ []) (q .case)) l) (drop-drop (body kind) (at + 1) bs);
+              }

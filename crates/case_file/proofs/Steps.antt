@@ -1,0 +1,65 @@
+-- Reading, one record at a time: where it stops, ends or goes on. Assumes nothing.
+use Prim.Native.Nat.{ℕ, zero, suc, _+_, _≤_}
+use mathlib.Core.Path.{_≡_, refl, ap, _∙_}
+use mathlib.Core.Bool.{Bool, true, false}
+use mathlib.Core.List.{List, [], _∷_}
+use native.Mathlib.Nat.{add-zero}
+use native.Mathlib.Omega.{arith}
+use borrow.Author.Tests.{eqb-true, eqb-false, eq-eqb, ne-eqb}
+use lib.Dec.{eqb}
+use lib.ListN.{length, drop}
+use Rattle.case_file.specs.Refusals.{no-end}
+use Rattle.case_file.specs.Format.{end-kind, body, content}
+use Rattle.case_file.specs.Case.{Case, added}
+use Rattle.case_file.specs.Reading.{Reading, whole, refused, fault-number, reading}
+
+pub runs-out : (s at before : ℕ) (c : Case) → reading s at before c [] ≡ refused no-end at
+unfolding reading
+runs-out zero at before c = refl
+runs-out (suc s) at before c = refl
+
+-- the rest of a body is passed over
+pub passed-over : (s at before : ℕ) (c : Case) (bs : List ℕ) → s ≤ length bs → reading s at before c bs ≡ reading 0 (at + s) before c (drop s bs)
+unfolding reading
+passed-over zero at before c bs h = rw add-zero
+passed-over (suc s) at before c [] h = absurd (omega arith)
+passed-over (suc s) at before c (b ∷ bs) h =
+    let e : at + 1 + s ≡ at + suc s = omega arith in
+    passed-over s (at + 1) before c bs (omega arith) ∙ ap (λ (i : ℕ). reading 0 i before c (drop s bs)) e
+
+module _ (at before : ℕ) (c : Case) (k : ℕ) (bs : List ℕ) where
+  -- the case with the record of kind k
+  abbrev with-it : Case
+  with-it = added k (content k bs ∷ []) c
+
+  pub stops : (e : ℕ) → fault-number before k (length (c k)) (length bs) ≡ e → (e ≡ 0 → ⊥) → reading 0 at before c (k ∷ bs) ≡ refused e at
+  unfolding reading
+  stops zero h z = absurd (z refl)
+  stops (suc e) h z = rw (h, reading)
+
+  module _ (h : fault-number before k (length (c k)) (length bs) ≡ 0) where
+    pub ends : k ≡ end-kind → reading 0 at before c (k ∷ bs) ≡ whole with-it (at + 1)
+    unfolding reading
+    ends e = rw (h, eq-eqb k end-kind e, reading)
+
+    pub goes-on : (k ≡ end-kind → ⊥) → reading 0 at before c (k ∷ bs) ≡ reading (body k) (at + 1) k with-it bs
+    unfolding reading
+    goes-on e = rw (h, ne-eqb k end-kind e, reading)
+
+  -- what holds however a record is taken holds of reading from it
+  pub by-record : (P : Reading → Type 0)
+      → ((e : ℕ) → fault-number before k (length (c k)) (length bs) ≡ e → (e ≡ 0 → ⊥) → P (refused e at))
+      → (fault-number before k (length (c k)) (length bs) ≡ 0 → k ≡ end-kind → P (whole with-it (at + 1)))
+      → (fault-number before k (length (c k)) (length bs) ≡ 0 → (k ≡ end-kind → ⊥) → P (reading (body k) (at + 1) k with-it bs))
+      → P (reading 0 at before c (k ∷ bs))
+  by-record P stop end on = tests (fault-number before k (length (c k)) (length bs)) refl
+    where
+      last : fault-number before k (length (c k)) (length bs) ≡ 0 → (b : Bool) → eqb k end-kind ≡ b → P (reading 0 at before c (k ∷ bs))
+      last h true s = rw (ends h (eqb-true k end-kind s)) (end h (eqb-true k end-kind s))
+      last h false s = rw (goes-on h (eqb-false k end-kind s)) (on h (eqb-false k end-kind s))
+
+      tests : (x : ℕ) → fault-number before k (length (c k)) (length bs) ≡ x → P (reading 0 at before c (k ∷ bs))
+      tests zero h = last h (eqb k end-kind) refl
+      tests (suc x) h =
+          let z : suc x ≡ 0 → ⊥ = λ q. omega arith in
+          rw (stops (suc x) h z) (stop (suc x) h z)

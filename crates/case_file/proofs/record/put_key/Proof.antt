@@ -1,0 +1,25 @@
+-- `put_key` stores the number of a body behind those of the list. Assumes nothing.
+use mathlib.Core.Path.{refl}
+use borrow.Author.Needs.{needs}
+use Rattle.case_file.specs.Format.{numbers}
+use Rattle.case_file.proofs.record.put_key.Statement.{statement}
+use Rattle.case_file.proofs.record.put_key.Tie as tie
+
+number2-requires : tie.Need-number2-requires
+number2-requires c κs = search needs
+
+mul-list : tie.Need-mul-list
+mul-list c = search needs
+
+element-write-list : tie.Need-element-write-list
+element-write-list c = search needs
+
+add-result : tie.Need-add-result
+add-result c = search needs
+
+returns : tie.Need-returns
+unfolding numbers
+returns c = record { stored = rw (c .number2 .ensures); counted = refl }
+
+pub put-key-spec : {M : Type 1} → statement M
+put-key-spec = tie.close (tie.spec number2-requires mul-list element-write-list add-result returns)

@@ -1,0 +1,156 @@
+// One record of a case file: its kind, its tests, and its numbers into their list.
+ghost use mathlib.Core.Path.{_≡_};
+ghost use Prim.Native.Nat.{_+_, _<_, _≤_};
+ghost use lib.ListN.{length, take, drop};
+ghost use Rattle.case_file.specs.Format.{body as body-of, follows as follows-of, little, first-kind, skeleton-kind, point-kind};
+ghost use Rattle.case_file.specs.Reading.{fault-number};
+ghost use Rattle.case_file.specs.Room.{Known, held as held-of, Place, Put};
+use crate::COORDINATES;
+use crate::Counts;
+use crate::KEYS;
+use crate::Keys;
+use crate::POINTS;
+use crate::PointNumbers;
+use crate::TERMS;
+use crate::Terms;
+use field::Number;
+
+// The kinds.
+pub const MODULUS: u8 = 1;
+
+pub const FIRST: u8 = 2;
+
+pub const SECOND: u8 = 3;
+
+pub const SKELETON: u8 = 4;
+
+pub const POINT: u8 = 5;
+
+pub const END: u8 = 6;
+
+// By kind, the length of a body and the most records.
+const BODIES: [usize; 7] = [0, 2, 4, 4, 2, 6, 0];
+
+const LIMITS: [usize; 7] = [0, 1, TERMS, TERMS, KEYS, POINTS, 1];
+
+// How many values one byte has, and two.
+const BASE: u16 = 256;
+
+const BASE_SQUARED: u32 = 65536;
+
+// The reader's refusal numbers.
+pub const KIND_UNKNOWN: Number = 20;
+
+pub const BODY_CUT: Number = 21;
+
+pub const ORDER: Number = 22;
+
+pub const AFTER_END: Number = 23;
+
+pub const NO_END: Number = 24;
+
+pub const TOO_MANY: Number = 25;
+
+pub fn body(kind: u8) -> usize
+    requires { ⌜ Known kind ⌝ }
+    ensures { λ r. ⌜ r ≡ body-of kind ⌝ }
+{
+    BODIES[kind as usize]
+}
+
+// Whether a record of the kind may stand after one of kind `before`, which is 0 at the start.
+fn follows(before: u8, kind: u8) -> bool
+    ensures { λ r. ⌜ r ≡ follows-of before kind ⌝ }
+{
+    if before == 0 {
+        return kind == MODULUS;
+    }
+    (before <= kind) & (MODULUS < kind)
+}
+
+// How many records of the kind were read. Those of modulus and end have no count: the order of kinds bounds them.
+fn held(kind: u8, counts: Counts) -> usize
+    requires { ⌜ Known kind ⌝ }
+    ensures { λ r. ⌜ r ≡ held-of counts kind ⌝ }
+{
+    let held = [
+        0,
+        0,
+        counts.first,
+        counts.second,
+        counts.skeleton,
+        counts.points / COORDINATES,
+        0,
+    ];
+    held[kind as usize]
+}
+
+// The number of the first test that a record does not pass, or 0. `left` bytes follow its kind byte.
+pub fn fault_of(before: u8, kind: u8, counts: Counts, left: usize) -> Number
+    ensures { λ r. ⌜ r ≡ fault-number before kind (held-of counts kind) left ⌝ }
+{
+    if kind < MODULUS {
+        return KIND_UNKNOWN;
+    }
+    if END < kind {
+        return KIND_UNKNOWN;
+    }
+    if !follows(before, kind) {
+        return ORDER;
+    }
+    if left < body(kind) {
+        return BODY_CUT;
+    }
+    if LIMITS[kind as usize] <= held(kind, counts) {
+        return TOO_MANY;
+    }
+    0
+}
+
+fn wide(byte: u8) -> u16
+    ensures { λ r. ⌜ (r ≡ byte) × (r < 256) ⌝ }
+{
+    byte as u16
+}
+
+// Numbers of two and of four bytes, the low byte first.
+pub fn number2(bytes: &[u8], at: usize) -> u16
+    requires { ⌜ at + 2 ≤ length (now bytes) ⌝ }
+    ensures { λ r. ⌜ r ≡ little (take 2 (drop at (now (bytes .entry)))) ⌝ }
+{
+    wide(bytes[at]) + BASE * wide(bytes[at + 1])
+}
+
+fn number4(bytes: &[u8], at: usize) -> u32
+    requires { ⌜ at + 4 ≤ length (now bytes) ⌝ }
+    ensures { λ r. ⌜ r ≡ little (take 4 (drop at (now (bytes .entry)))) ⌝ }
+{
+    (number2(bytes, at) as u32) + BASE_SQUARED * (number2(bytes, at + 2) as u32)
+}
+
+// The numbers of the body at the offset go behind the n numbers of the list; how many it has then.
+pub fn put_term(bytes: &[u8], at: usize, list: &mut Terms, n: usize) -> usize
+    requires { ⌜ Place first-kind (now bytes) at n ⌝ }
+    ensures { λ r. ⌜ Put first-kind (now (bytes .entry)) at n r (now (list .entry)) (now (list .exit)) ⌝ }
+{
+    list[n] = number4(bytes, at);
+    n + 1
+}
+
+pub fn put_key(bytes: &[u8], at: usize, list: &mut Keys, n: usize) -> usize
+    requires { ⌜ Place skeleton-kind (now bytes) at n ⌝ }
+    ensures { λ r. ⌜ Put skeleton-kind (now (bytes .entry)) at n r (now (list .entry)) (now (list .exit)) ⌝ }
+{
+    list[n] = number2(bytes, at);
+    n + 1
+}
+
+pub fn put_point(bytes: &[u8], at: usize, list: &mut PointNumbers, n: usize) -> usize
+    requires { ⌜ Place point-kind (now bytes) at n ⌝ }
+    ensures { λ r. ⌜ Put point-kind (now (bytes .entry)) at n r (now (list .entry)) (now (list .exit)) ⌝ }
+{
+    list[n] = number2(bytes, at);
+    list[n + 1] = number2(bytes, at + 2);
+    list[n + 2] = number2(bytes, at + 4);
+    n + COORDINATES
+}
