@@ -5,6 +5,7 @@ pub mod Lists
 pub mod Search
 pub mod ListCheck
 pub mod RightLists
+pub mod LeadingPart
 pub mod PointCheck
 pub mod Terms
 pub mod Powers
