@@ -65,6 +65,17 @@ abbrev pub rows-so : (K : Field) → List Exponents → ℕ → List (Kept K) �
 rows-so K es n [] = []
 rows-so K es n (k ∷ ks) = rows-at K es (suc n) n k 0 8 ++ rows-from K es (suc n) 0 ks
 
+-- the column of the next point's multiplier, behind the monomials: the last for the first point
+abbrev pub next-column : ℕ → ℕ → ℕ
+next-column n zero = n
+next-column n (suc kept) = kept
+
+-- some column behind the keys, and not all multipliers placed
+pub record ColumnReady (keys kept columns : ℕ) : Type 0 where
+  pub behind : keys < columns
+  pub most : columns ≤ COLUMNS
+  pub left : keys + kept < columns
+
 -- what all equations ask for
 pub record EquationsReady (p : ℕ) (ks points sizes work : List ℕ) (m columns : ℕ) : Type 0 where
   pub listed : Listed p
