@@ -5,6 +5,8 @@ pub mod Lists
 pub mod Search
 pub mod ListCheck
 pub mod RightLists
+pub mod LeadingPart
+pub mod PointCheck
 pub mod Terms
 pub mod Powers
 pub mod EightNumbers
@@ -14,3 +16,4 @@ pub mod ValueModel
 pub mod ValueMeaning
 pub mod Image
 pub mod ImageModel
+pub mod ImageCall

@@ -1,9 +1,8 @@
 -- `poly::euclid::size` meets its contract: the loop keeps the model's answer. Assumes nothing.
 use borrow.Author.Needs.{needs}
-use mathlib.Core.Path.{_≡_, refl, sym, ap, _∙_, subst}
-use Prim.Native.Nat.{ℕ, suc, _+_, _-_, _*_, _/_, _%_, _≤_, _<_}
+use mathlib.Core.Path.{_≡_, refl, sym, _∙_}
+use Prim.Native.Nat.{_-_, _≤_}
 use native.Mathlib.Omega.{arith}
-use lib.ListN.{length, getD, set, drop, replicate}
 use Rattle.poly.specs.Models.Eight.{size-to, size}
 use Rattle.poly.specs.Laws.EightNumbers.{size-down, size-found, size-none}
 use Rattle.poly.proofs.euclid.size.Statement.{statement}
