@@ -3,3 +3,5 @@ pub mod Cells
 pub mod Powers
 pub mod Value
 pub mod Eight
+pub mod Spread
+pub mod Division
