@@ -9,3 +9,9 @@ pub mod EightMeaning
 pub mod EightTurns
 pub mod ValueModel
 pub mod ValueMeaning
+pub mod KeyDifference
+pub mod GreatestExponents
+pub mod Dense
+pub mod Spread
+pub mod DivisionSteps
+pub mod DivisionModel
