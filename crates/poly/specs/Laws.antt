@@ -15,3 +15,5 @@ pub mod Dense
 pub mod Spread
 pub mod DivisionSteps
 pub mod DivisionModel
+pub mod QuotientCells
+pub mod Falling

@@ -50,8 +50,8 @@ module _ (p : ℕ) (P : Prime p) where
   unfolding polynomial
   within v [] e h = refl
   within v (t ∷ ts) e h =
-    ap₂ (R .add) (monomial-off R (exponents (key-of t)) e (el p (coefficient-of t)) (λ q. let w = ap (exponent v) q in omega arith)) (within v ts e (omega arith))
-    ∙ R .add-zero _
+      ap₂ (R .add) (monomial-off R (exponents (key-of t)) e (el p (coefficient-of t)) (λ q. let w = ap (exponent v) q in omega arith)) (within v ts e (omega arith))
+      ∙ R .add-zero _
 
   -- a key of the list where the greatest exponent is reached
   record Reached (v : Variable) (b : ℕ) (ts : List ℕ) : Type 0 where
@@ -72,13 +72,14 @@ module _ (p : ℕ) (P : Prime p) where
         below = let a = h .0 in let c = r .below in omega arith;
         is-most = let a = r .is-most in omega arith;
         stands = λ e. r .stands (sym (zero-add R _)
-          ∙ ap (λ c. R .add c (coef R (poly p P (u ∷ us)) (exponents (r .key)))) (sym (monomial-off R (exponents (key-of t)) (exponents (r .key)) (el p (coefficient-of t)) (λ q. let a = exponents-injective (key-of t) (r .key) q in let c = r .below in omega arith)))
-          ∙ e) }
+            ∙ ap (λ c. R .add c (coef R (poly p P (u ∷ us)) (exponents (r .key)))) (sym (monomial-off R (exponents (key-of t)) (exponents (r .key)) (el p (coefficient-of t)) (λ q. let a = exponents-injective (key-of t) (r .key) q in let c = r .below in omega arith)))
+            ∙ e);
+      }
 
   most-is : (t : ℕ) (ts : List ℕ) (b : ℕ) → Falling p b (t ∷ ts) → (v : Variable) → GreatestExponent R v (most v (t ∷ ts)) (poly p P (t ∷ ts))
   most-is t ts b h v =
-    let r = reached v t ts b h in
-    record { within = within v (t ∷ ts); place = exponents (r .key); reached = r .is-most; stands = r .stands }
+      let r = reached v t ts b h in
+      record { within = within v (t ∷ ts); place = exponents (r .key); reached = r .is-most; stands = r .stands }
 
   pub poly-most : (t : ℕ) (ts : List ℕ) (b : ℕ) → Falling p b (t ∷ ts) → Most R (most-of (t ∷ ts)) (poly p P (t ∷ ts))
   poly-most t ts b h in-x = most-is t ts b h in-x
@@ -94,4 +95,5 @@ module _ (p : ℕ) (P : Prime p) where
     most-f = most-of (t ∷ ts);
     is-most-f = poly-most t ts keys h;
     most-g = most-of (u ∷ us);
-    is-most-g = poly-most u us keys k }
+    is-most-g = poly-most u us keys k;
+  }

@@ -52,21 +52,21 @@ module _ (p : ℕ) (P : Prime p) where
   unfolding spread
   spread-reduced [] l b h m red = red
   spread-reduced (t ∷ ts) l b h m red =
-    let lt : key-of t < length l = let a = h .0 in omega arith in
-    spread-reduced ts (set l (key-of t) (coefficient-of t)) (key-of t) (h .3) (subst (λ (n : ℕ). key-of t ≤ n) (sym (length-set l _ _)) (omega arith)) (set-reduced p P l (key-of t) (coefficient-of t) lt (h .2) red)
+      let lt : key-of t < length l = let a = h .0 in omega arith in
+      spread-reduced ts (set l (key-of t) (coefficient-of t)) (key-of t) (h .3) (subst (λ (n : ℕ). key-of t ≤ n) (sym (length-set l _ _)) (omega arith)) (set-reduced p P l (key-of t) (coefficient-of t) lt (h .2) red)
 
   pub spread-dense : (ts l : List ℕ) (b : ℕ) → Falling p b ts → b ≤ length l → ((i : ℕ) → i < b → getD l i 0 ≡ 0) → dense p P (spread ts l) ≡ S4 R .add (dense p P l) (poly p P ts)
   unfolding spread polynomial
   spread-dense [] l b h m z = sym (S4 R .add-zero (dense p P l))
   spread-dense (t ∷ ts) l b h m z =
-    let lt : key-of t < length l = let a = h .0 in omega arith in
-    spread-dense ts (set l (key-of t) (coefficient-of t)) (key-of t) (h .3) (subst (λ (n : ℕ). key-of t ≤ n) (sym (length-set l _ _)) (omega arith))
+      let lt : key-of t < length l = let a = h .0 in omega arith in
+      spread-dense ts (set l (key-of t) (coefficient-of t)) (key-of t) (h .3) (subst (λ (n : ℕ). key-of t ≤ n) (sym (length-set l _ _)) (omega arith))
       (λ i q. getD-set-other l (key-of t) i (coefficient-of t) 0 (λ r. omega arith) ∙ z i (let a = h .0 in omega arith))
-    ∙ ap (λ (d : S4 R .Car). S4 R .add d (poly p P ts))
-        (dense-set p P l (key-of t) (coefficient-of t) lt
-        ∙ ap (λ (x : Fp p). S4 R .add (dense p P l) (monomial R (exponents (key-of t)) x))
-            (ap (λ (n : ℕ). R .add (el p (coefficient-of t)) (R .neg (el p n))) (z (key-of t) (h .0)) ∙ ring1 R (λ a. a ⊖ k0 ≗ a) tt (el p (coefficient-of t))))
-    ∙ S4 R .add-assoc _ _ _
+      ∙ ap (λ (d : S4 R .Car). S4 R .add d (poly p P ts))
+      (dense-set p P l (key-of t) (coefficient-of t) lt
+      ∙ ap (λ (x : Fp p). S4 R .add (dense p P l) (monomial R (exponents (key-of t)) x))
+      (ap (λ (n : ℕ). R .add (el p (coefficient-of t)) (R .neg (el p n))) (z (key-of t) (h .0)) ∙ ring1 R (λ a. a ⊖ k0 ≗ a) tt (el p (coefficient-of t))))
+      ∙ S4 R .add-assoc _ _ _
 
   term-key : (n q : ℕ) → q < 65536 → key-of (n * 65536 + q) ≡ n
   term-key n q h = omega arith
@@ -82,10 +82,10 @@ module _ (p : ℕ) (P : Prime p) where
       go : Dec (getD l k 0 ≡ 0) → ((c : ℕ) → k ≤ c → Falling p c (gathered k l)) → Falling p b (gathered (suc k) l)
       go (yes z) again = subst (Falling p b) (sym (gather-passed k l z)) (again b (omega arith))
       go (no n) again =
-        let r = red k in
-        let ek : key-of (k * 65536 + getD l k 0) ≡ k = term-key k (getD l k 0) (omega arith) in
-        let ec : coefficient-of (k * 65536 + getD l k 0) ≡ getD l k 0 = term-coeff k (getD l k 0) (omega arith) in
-        subst (Falling p b) (sym (gather-taken k l n)) (omega arith, omega arith, omega arith, again (key-of (k * 65536 + getD l k 0)) (omega arith))
+          let r = red k in
+          let ek : key-of (k * 65536 + getD l k 0) ≡ k = term-key k (getD l k 0) (omega arith) in
+          let ec : coefficient-of (k * 65536 + getD l k 0) ≡ getD l k 0 = term-coeff k (getD l k 0) (omega arith) in
+          subst (Falling p b) (sym (gather-taken k l n)) (omega arith, omega arith, omega arith, again (key-of (k * 65536 + getD l k 0)) (omega arith))
 
   -- the cells' terms mean what the cells mean
   pub gather-dense : p ≤ 65536 → (k : ℕ) (l : List ℕ) → k ≤ length l → Reduced p l → ((i : ℕ) → k ≤ i → getD l i 0 ≡ 0) → poly p P (gathered k l) ≡ dense p P l
@@ -95,23 +95,26 @@ module _ (p : ℕ) (P : Prime p) where
     where
       lt : k < length l
       lt = omega arith
+
       here : (l′ : List ℕ) → l′ ≡ l → (i : ℕ) → k ≤ i → getD l k 0 ≡ 0 → Dec (i ≡ k) → getD l i 0 ≡ 0
       here l′ q i h e (yes r) = ap (λ (n : ℕ). getD l n 0) r ∙ e
       here l′ q i h e (no r) = z i (omega arith)
+
       cleared : (i : ℕ) → k ≤ i → Dec (i ≡ k) → getD (set l k 0) i 0 ≡ 0
       cleared i h (yes r) = ap (λ (n : ℕ). getD (set l k 0) n 0) r ∙ getD-set-same l k 0 0 lt
       cleared i h (no r) = getD-set-other l k i 0 0 r ∙ z i (omega arith)
+
       go : Dec (getD l k 0 ≡ 0) → ((l′ : List ℕ) → k ≤ length l′ → Reduced p l′ → ((i : ℕ) → k ≤ i → getD l′ i 0 ≡ 0) → poly p P (gathered k l′) ≡ dense p P l′)
-        → poly p P (gathered (suc k) l) ≡ dense p P l
+          → poly p P (gathered (suc k) l) ≡ dense p P l
       go (yes e) again = ap (poly p P) (gather-passed k l e) ∙ again l (omega arith) red (λ i h. here l refl i h e (ℕ-discrete i k))
       go (no n) again =
-        let v = getD l k 0 in
-        let lv : v < 65536 = let r = red k in omega arith in
-        let M : Fp p → S4 R .Car = monomial R (exponents k) in
-        ap (poly p P) (gather-taken k l n)
-        ∙ ap₂ (S4 R .add) (ap₂ (λ (i j : ℕ). monomial R (exponents i) (el p j)) (term-key k v lv) (term-coeff k v lv))
-            (ap (poly p P) (sym (gather-set k k 0 l (omega arith)))
-            ∙ again (set l k 0) (subst (λ (n : ℕ). k ≤ n) (sym (length-set l k 0)) (omega arith)) (set-reduced p P l k 0 lt (prime-positive P) red) (λ i h. cleared i h (ℕ-discrete i k))
-            ∙ dense-set p P l k 0 lt
-            ∙ ap (S4 R .add (dense p P l)) (ap M (ring1 R (λ a. k0 ⊖ a ≗ ⊝ a) tt (el p v)) ∙ monomial-neg R (exponents k) (el p v)))
-        ∙ ring2 (S4 R) (λ a d. a ⊕ (d ⊖ a) ≗ d) tt (M (el p v)) (dense p P l)
+          let v = getD l k 0 in
+          let lv : v < 65536 = let r = red k in omega arith in
+          let M : Fp p → S4 R .Car = monomial R (exponents k) in
+          ap (poly p P) (gather-taken k l n)
+          ∙ ap₂ (S4 R .add) (ap₂ (λ (i j : ℕ). monomial R (exponents i) (el p j)) (term-key k v lv) (term-coeff k v lv))
+          (ap (poly p P) (sym (gather-set k k 0 l (omega arith)))
+          ∙ again (set l k 0) (subst (λ (n : ℕ). k ≤ n) (sym (length-set l k 0)) (omega arith)) (set-reduced p P l k 0 lt (prime-positive P) red) (λ i h. cleared i h (ℕ-discrete i k))
+          ∙ dense-set p P l k 0 lt
+          ∙ ap (S4 R .add (dense p P l)) (ap M (ring1 R (λ a. k0 ⊖ a ≗ ⊝ a) tt (el p v)) ∙ monomial-neg R (exponents k) (el p v)))
+          ∙ ring2 (S4 R) (λ a d. a ⊕ (d ⊖ a) ≗ d) tt (M (el p v)) (dense p P l)
