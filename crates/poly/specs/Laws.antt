@@ -2,6 +2,8 @@
 pub mod Keys
 pub mod Value
 pub mod Lists
+pub mod Search
+pub mod ListCheck
 pub mod Terms
 pub mod Powers
 pub mod EightNumbers

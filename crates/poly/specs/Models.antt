@@ -1,5 +1,8 @@
 -- Models: what the code computes, step by step, on lists of numbers. Nobody has to believe a model: its laws carry it to the definitions.
 pub mod Cells
+pub mod Keys
+pub mod Search
+pub mod Lists
 pub mod Powers
 pub mod Value
 pub mod Eight

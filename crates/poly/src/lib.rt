@@ -1,6 +1,9 @@
 // Layer 2, polynomials in x, y, z, w modulo a listed prime: keys and lists, the value and the image at a point, division.
 use field::Fault;
 
+pub mod key;
+pub mod list;
+
 // A term: its key times 65536, plus its coefficient.
 pub type Term = u32;
 

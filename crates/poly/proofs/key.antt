@@ -1,0 +1,2 @@
+-- What the proofs of keys share.
+pub mod Fields

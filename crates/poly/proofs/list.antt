@@ -1,0 +1,2 @@
+-- What the proofs of lists share.
+pub mod Walk

@@ -1,0 +1,70 @@
+-- `poly::list::first_wrong` meets its contract. The loop keeps `Walked`: no term before i is wrong; the measure is what is left of the list.
+-- Assumes nothing.
+use borrow.Author.Needs.{needs}
+use borrow.Author.Tests.{not-true, not-false}
+use Prim.Native.Nat.{_-_}
+use lib.ListN.{length}
+use Rattle.poly.proofs.list.Walk.{Walked, walk-begins, walk-ends, walk-stops, walk-goes-on}
+use Rattle.poly.proofs.list.first_wrong.Statement.{statement}
+use Rattle.poly.proofs.list.first_wrong.Tie as tie
+
+abbrev Inv-loop : tie.InvT-loop
+Inv-loop bound terms before₀ i₀ before i = Walked bound terms before i
+
+abbrev μ-loop : tie.MeasureT-loop
+μ-loop bound terms before₀ i₀ before i = length terms - i
+
+loop-holds : tie.Need-loop-holds Inv-loop μ-loop
+loop-holds c = walk-begins _ _
+
+mul-t : tie.Need-mul-t Inv-loop μ-loop
+mul-t c = search needs
+
+shared-slice-read-t : tie.Need-shared-slice-read-t Inv-loop μ-loop
+shared-slice-read-t c = search needs
+
+of-requires : tie.Need-of-requires Inv-loop μ-loop
+of-requires c κs = search needs
+
+coefficient-of-requires : tie.Need-coefficient-of-requires Inv-loop μ-loop
+coefficient-of-requires c κs = search needs
+
+cast-coefficient : tie.Need-cast-coefficient Inv-loop μ-loop
+cast-coefficient c = search needs
+
+returns : tie.Need-returns Inv-loop μ-loop
+returns c =
+    let turn = c .before .before .before .before in
+    walk-stops _ _ _ _ (turn .before .loop .inv) (turn .loop-test .taken) _ _ (c .before .before .of .ensures) (c .before .coefficient-of .ensures) (not-true _ (c .if1 .taken))
+
+add-i : tie.Need-add-i Inv-loop μ-loop
+add-i c = search needs
+
+loop-less : tie.Need-loop-less Inv-loop μ-loop
+loop-less c = search needs
+
+loop-again : tie.Need-loop-again Inv-loop μ-loop
+loop-again c =
+    let turn = c .before .before .before .before in
+    walk-goes-on _ _ _ _ (turn .before .loop .inv) (turn .loop-test .taken) _ _ (c .before .before .of .ensures) (c .before .coefficient-of .ensures) (not-false _ (c .if1 .left))
+
+returns-2 : tie.Need-returns-2 Inv-loop μ-loop
+returns-2 c = walk-ends _ _ _ _ (c .before .loop .inv) (c .loop-test .left)
+
+pub first-wrong-spec : {M : Type 1} → statement M
+first-wrong-spec =
+    tie.close
+    (tie.spec
+    Inv-loop
+    μ-loop
+    loop-holds
+    mul-t
+    shared-slice-read-t
+    of-requires
+    coefficient-of-requires
+    cast-coefficient
+    returns
+    add-i
+    loop-less
+    loop-again
+    returns-2)

@@ -1,0 +1,86 @@
+// Keys: the four exponents of a monomial in three bits each. Terms: a key and a coefficient in one number.
+ghost use mathlib.Core.Path.{_≡_};
+ghost use Prim.Native.Nat.{_+_, _*_};
+ghost use Rattle.poly.specs.Keys.{exponents};
+ghost use Rattle.poly.specs.Terms.{key-of, coefficient-of};
+ghost use Rattle.poly.specs.Models.Keys.{Packable};
+use crate::Term;
+
+pub struct Key {
+    pub bits: u16,
+}
+
+impl Key {
+    pub const WIDTH: u16 = 3;
+
+    pub const MASK: u16 = (1 << Key::WIDTH) - 1;
+
+    pub const SHIFT_X: u16 = 3 * Key::WIDTH;
+
+    pub const SHIFT_Y: u16 = 2 * Key::WIDTH;
+
+    pub const SHIFT_Z: u16 = Key::WIDTH;
+
+    // Every key is below.
+    pub const LIMIT: u16 = 1 << (4 * Key::WIDTH);
+
+    // The bits of a coefficient, which stand below the key in a term, and what every coefficient is below.
+    pub const COEFFICIENT: u32 = 16;
+
+    pub const COEFFICIENT_LIMIT: u32 = 1 << Key::COEFFICIENT;
+
+    pub fn pack(x: u16, y: u16, z: u16, w: u16) -> Key
+        requires { ⌜ Packable x y z w ⌝ }
+        ensures { λ r. ⌜ r .bits ≡ 512 * x + 64 * y + 8 * z + w ⌝ }
+    {
+        Key {
+            bits: (x << Key::SHIFT_X) | (y << Key::SHIFT_Y) | (z << Key::SHIFT_Z) | w,
+        }
+    }
+
+    // The key of a term.
+    pub fn of(t: Term) -> Key
+        ensures { λ r. ⌜ r .bits ≡ key-of t ⌝ }
+    {
+        Key {
+            bits: (t >> Key::COEFFICIENT) as u16,
+        }
+    }
+
+    pub fn x(self) -> u16
+        ensures { λ r. ⌜ r ≡ exponents (self .bits) .x ⌝ }
+    {
+        self.bits >> Key::SHIFT_X
+    }
+
+    pub fn y(self) -> u16
+        ensures { λ r. ⌜ r ≡ exponents (self .bits) .y ⌝ }
+    {
+        (self.bits >> Key::SHIFT_Y) & Key::MASK
+    }
+
+    pub fn z(self) -> u16
+        ensures { λ r. ⌜ r ≡ exponents (self .bits) .z ⌝ }
+    {
+        (self.bits >> Key::SHIFT_Z) & Key::MASK
+    }
+
+    pub fn w(self) -> u16
+        ensures { λ r. ⌜ r ≡ exponents (self .bits) .w ⌝ }
+    {
+        self.bits & Key::MASK
+    }
+}
+
+pub fn coefficient_of(t: Term) -> u16
+    ensures { λ r. ⌜ r ≡ coefficient-of t ⌝ }
+{
+    (t % Key::COEFFICIENT_LIMIT) as u16
+}
+
+// The term of a key and a coefficient.
+pub fn term(key: u16, coefficient: u16) -> Term
+    ensures { λ r. ⌜ r ≡ key * 65536 + coefficient ⌝ }
+{
+    (key as u32) * Key::COEFFICIENT_LIMIT + (coefficient as u32)
+}

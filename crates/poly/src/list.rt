@@ -1,0 +1,77 @@
+// Lists of terms: the check with which every service begins, the public list check, and the leading part.
+ghost use lib.ListN.{length};
+ghost use Rattle.field.specs.Refusal.{Tested};
+ghost use Rattle.poly.specs.Lists.{WrongModulo, of-lists};
+ghost use Rattle.poly.specs.LeadingPart.{of-list};
+ghost use Rattle.poly.specs.Models.Search.{Searched};
+ghost use Rattle.poly.specs.Models.Lists.{of-terms};
+use crate::Term;
+use crate::key::Key;
+use field::Fault;
+use field::Number;
+
+// The most terms that a list has.
+pub const MOST: usize = 256;
+
+// The place of the first term that is wrong where coefficients are below the bound, or the length.
+fn first_wrong(bound: u32, terms: &[Term]) -> usize
+    ensures { λ r. ⌜ Searched (WrongModulo bound (now (terms .entry))) (length (now (terms .entry))) r ⌝ }
+{
+    let mut before = Key::LIMIT;
+    let mut i: usize = 0;
+    while i < terms.len() {
+        let t = terms[i];
+        let key = Key::of(t).bits;
+        let coefficient = crate::key::coefficient_of(t) as u32;
+        let right = (key < before) & ((0 < coefficient) & (coefficient < bound));
+        if !right {
+            return i;
+        }
+        before = key;
+        i += 1;
+    }
+    i
+}
+
+// The check of one list, whose two refusal numbers are given.
+fn list_fault(count: Number, term: Number, bound: u32, terms: &[Term]) -> Fault
+    ensures { λ r. ⌜ Tested (of-terms count term bound (now (terms .entry))) r ⌝ }
+{
+    if terms.len() == 0 {
+        return Fault::at(count, 0);
+    }
+    if terms.len() > MOST {
+        return Fault::at(count, 0);
+    }
+    let place = first_wrong(bound, terms);
+    if place < terms.len() {
+        return Fault::at(term, place);
+    }
+    Fault::none()
+}
+
+// The refusals 1 to 5, of the modulus and the two lists.
+pub fn lists_fault(p: Number, first: &[Term], second: &[Term]) -> Fault
+    ensures { λ r. ⌜ Tested (of-lists p (now (first .entry)) (now (second .entry))) r ⌝ }
+{
+    if !field::is_modulus(p) {
+        return Fault::at(Fault::MODULUS, 0);
+    }
+    let fault = list_fault(Fault::FIRST_COUNT, Fault::FIRST_TERM, p as u32, first);
+    if fault.number != 0 {
+        return fault;
+    }
+    list_fault(Fault::SECOND_COUNT, Fault::SECOND_TERM, p as u32, second)
+}
+
+// The list check: the refusals 2 and 3 without a modulus, by a bound that no coefficient reaches.
+pub fn check_list(terms: &[Term]) -> Fault
+    ensures { λ r. ⌜ Tested (of-list (now (terms .entry))) r ⌝ }
+{
+    list_fault(
+        Fault::FIRST_COUNT,
+        Fault::FIRST_TERM,
+        Key::COEFFICIENT_LIMIT,
+        terms,
+    )
+}
