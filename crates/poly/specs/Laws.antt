@@ -19,3 +19,4 @@ pub mod DivisionSteps
 pub mod DivisionModel
 pub mod QuotientCells
 pub mod Falling
+pub mod DivisionEnds
