@@ -20,3 +20,4 @@ pub mod DivisionModel
 pub mod QuotientCells
 pub mod Falling
 pub mod DivisionEnds
+pub mod QuotientFound

@@ -29,12 +29,9 @@ pub fits-above : (d : Setting) (k : ℕ) → fits d k ≡ true → d .lead ≤ k
 unfolding fits
 fits-above d k h = below-key (d .lead) k (at-most-says (d .lead) k (and-left (at-most (d .lead) k) _ h))
 
-module _ (d : Setting) (P : Prime (d .modulus)) (word : d .modulus ≤ 65536) (n : ℕ) where
-  abbrev p : ℕ
-  p = d .modulus
-
+module _ (p : ℕ) (P : Prime p) (n : ℕ) where
   abbrev R : CommRing
-  R = Modulo (d .modulus) P .ring
+  R = Modulo p P .ring
 
   -- the cells c′ are the cells c with the terms qs stored
   pub record Stored (c c′ qs : List ℕ) : Type 0 where
@@ -42,9 +39,13 @@ module _ (d : Setting) (P : Prime (d .modulus)) (word : d .modulus ≤ 65536) (n
     pub reduced : Reduced p c′
     pub means : dense p P c′ ≡ S4 R .add (dense p P c) (poly p P qs)
 
-  store-one : (s q : ℕ) (c c′ qs : List ℕ) → q < p → s < length c → getD c s 0 ≡ 0 → Stored (set c s q) c′ qs → Stored c c′ ((s * 65536 + q) ∷ qs)
+  pub nothing-stored : (c : List ℕ) → length c ≡ n → Reduced p c → Stored c c []
   unfolding polynomial
-  store-one s q c c′ qs lq ls z r =
+  nothing-stored c long red = record { long = long; reduced = red; means = sym (S4 R .add-zero (dense p P c)) }
+
+  store-one : p ≤ 65536 → (s q : ℕ) (c c′ qs : List ℕ) → q < p → s < length c → getD c s 0 ≡ 0 → Stored (set c s q) c′ qs → Stored c c′ ((s * 65536 + q) ∷ qs)
+  unfolding polynomial
+  store-one word s q c c′ qs lq ls z r =
       record {
         long = r .long;
         reduced = r .reduced;
@@ -60,18 +61,25 @@ module _ (d : Setting) (P : Prime (d .modulus)) (word : d .modulus ≤ 65536) (n
             (ap₂ (λ (i j : ℕ). monomial R (exponents i) (el p j)) (sym (key-of-term s q w)) (sym (coefficient-of-term s q w)));
       }
 
+  pub zeros-reduced : (c : List ℕ) → ((i : ℕ) → getD c i 0 ≡ 0) → Reduced p c
+  zeros-reduced c z = λ i. subst (λ (m : ℕ). m < p) (sym (z i)) (prime-positive P)
+
+module _ (d : Setting) (P : Prime (d .modulus)) (word : d .modulus ≤ 65536) (n : ℕ) where
+  abbrev p : ℕ
+  p = d .modulus
+
   stores : (k : ℕ) (l c : List ℕ) → k ≤ n → length c ≡ n → Reduced p c → ((i : ℕ) → i + d .lead < k → getD c i 0 ≡ 0)
-      → Stored c (divide-from d k l c .quotient) (found-from d k l)
-  unfolding found-from divide-from polynomial
-  stores zero l c m long red z = record { long = long; reduced = red; means = sym (S4 R .add-zero (dense p P c)) }
+      → Stored p P n c (divide-from d k l c .quotient) (found-from d k l)
+  unfolding found-from divide-from
+  stores zero l c m long red z = nothing-stored p P n c long red
   stores (suc k) l c m long red z = cell (ℕ-discrete (getD l k 0) 0) (fits d k) refl (λ l′ c′. stores k l′ c′ (omega arith))
     where
-      to : (qs qs′ : List ℕ) (o o′ : Outcome) → qs ≡ qs′ → o ≡ o′ → Stored c (o′ .quotient) qs′ → Stored c (o .quotient) qs
-      to qs qs′ o o′ e f r = subst (λ (x : List ℕ). Stored c (o .quotient) x) (sym e) (subst (λ (x : Outcome). Stored c (x .quotient) qs′) (sym f) r)
+      to : (qs qs′ : List ℕ) (o o′ : Outcome) → qs ≡ qs′ → o ≡ o′ → Stored p P n c (o′ .quotient) qs′ → Stored p P n c (o .quotient) qs
+      to qs qs′ o o′ e f r = subst (λ (x : List ℕ). Stored p P n c (o .quotient) x) (sym e) (subst (λ (x : Outcome). Stored p P n c (x .quotient) qs′) (sym f) r)
 
       cell : Dec (getD l k 0 ≡ 0) → (a : Bool) → fits d k ≡ a
-          → ((l′ c′ : List ℕ) → length c′ ≡ n → Reduced p c′ → ((i : ℕ) → i + d .lead < k → getD c′ i 0 ≡ 0) → Stored c′ (divide-from d k l′ c′ .quotient) (found-from d k l′))
-          → Stored c (divide-from d (suc k) l c .quotient) (found-from d (suc k) l)
+          → ((l′ c′ : List ℕ) → length c′ ≡ n → Reduced p c′ → ((i : ℕ) → i + d .lead < k → getD c′ i 0 ≡ 0) → Stored p P n c′ (divide-from d k l′ c′ .quotient) (found-from d k l′))
+          → Stored p P n c (divide-from d (suc k) l c .quotient) (found-from d (suc k) l)
       cell (yes e) a q again =
           to _ _ _ _ (found-passed d k l e) (outcome-passed d k l c e) (again l c long red (λ i h. z i (omega arith)))
       cell (no e) true q again =
@@ -81,18 +89,18 @@ module _ (d : Setting) (P : Prime (d .modulus)) (word : d .modulus ≤ 65536) (n
           let b = fits-above d k q in
           let ls : s < length c = subst (λ (i : ℕ). s < i) (sym long) (omega arith) in
           to _ _ _ _ (found-taken d k l e q) (outcome-taken d k l c e q)
-          (store-one s v c _ (found-from d k (less d k l)) lv ls (z s (omega arith))
+          (store-one p P n word s v c _ (found-from d k (less d k l)) lv ls (z s (omega arith))
           (again (less d k l) (set c s v) (length-set c s v ∙ long) (set-reduced p P c s v ls lv red)
           (λ i h. getD-set-other c s i v 0 (λ r. omega arith) ∙ z i (omega arith))))
       cell (no e) false q again =
           to _ _ _ _ (found-stopped d k l e q) (outcome-stopped d k l c e q)
-          (record { long = long; reduced = red; means = sym (S4 R .add-zero (dense p P c)) })
+          (nothing-stored p P n c long red)
 
-  -- cells that were 0 mean the sum of the terms that were found
-  pub quotient-stored : (l c : List ℕ) → length c ≡ n → ((i : ℕ) → getD c i 0 ≡ 0) → Stored c (divide-from d n l c .quotient) (found-from d n l)
-  quotient-stored l c long z =
-      stores n l c (omega arith) long (λ i. subst (λ (m : ℕ). m < p) (sym (z i)) (prime-positive P)) (λ i h. z i)
+  -- into cells that were 0
+  pub quotient-stored : (l c : List ℕ) → length c ≡ n → ((i : ℕ) → getD c i 0 ≡ 0) → Stored (d .modulus) P n c (divide-from d n l c .quotient) (found-from d n l)
+  quotient-stored l c long z = stores n l c (omega arith) long (zeros-reduced p P n c z) (λ i h. z i)
 
-  pub quotient-means : (l c : List ℕ) → length c ≡ n → ((i : ℕ) → getD c i 0 ≡ 0) → dense p P (divide-from d n l c .quotient) ≡ poly p P (found-from d n l)
-  quotient-means l c long z =
-      quotient-stored l c long z .means ∙ ap (λ (f : S4 R .Car). S4 R .add f (poly p P (found-from d n l))) (dense-zero p P c z) ∙ zero-add (S4 R) _
+-- which then mean the sum of the terms
+pub stored-means : (p : ℕ) (P : Prime p) (n : ℕ) (c c′ qs : List ℕ) → ((i : ℕ) → getD c i 0 ≡ 0) → Stored p P n c c′ qs → dense p P c′ ≡ poly p P qs
+stored-means p P n c c′ qs z r =
+    r .means ∙ ap (λ (f : S4 (Modulo p P .ring) .Car). S4 (Modulo p P .ring) .add f (poly p P qs)) (dense-zero p P c z) ∙ zero-add (S4 (Modulo p P .ring)) _
