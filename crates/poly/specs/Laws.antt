@@ -21,3 +21,4 @@ pub mod QuotientCells
 pub mod Falling
 pub mod DivisionEnds
 pub mod QuotientFound
+pub mod Quotient
