@@ -22,3 +22,6 @@ pub mod Falling
 pub mod DivisionEnds
 pub mod QuotientFound
 pub mod Quotient
+pub mod Room
+pub mod WorkRoom
+pub mod DivisionTurns

@@ -8,3 +8,4 @@ pub mod Value
 pub mod Eight
 pub mod Spread
 pub mod Division
+pub mod WorkRoom

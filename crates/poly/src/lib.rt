@@ -1,6 +1,7 @@
 // Layer 2, polynomials in x, y, z, w modulo a listed prime: keys and lists, the value and the image at a point, division.
 use field::Fault;
 
+pub mod division;
 pub mod key;
 pub mod list;
 

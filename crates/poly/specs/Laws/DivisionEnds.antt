@@ -26,6 +26,7 @@ use Rattle.poly.specs.Terms.{key-of, coefficient-of, term-of, terms-of, 
 use Rattle.poly.specs.Image.{Divides}
 use Rattle.poly.specs.Laws.KeyDifference.{at-most-says, at-most-of, exponents-difference}
 use Rattle.poly.specs.Laws.Lists.{Falling}
+use Rattle.poly.specs.Laws.Falling.{falling-keys}
 use Rattle.poly.specs.Laws.Terms.{poly-lead}
 use Rattle.poly.specs.Laws.GreatestExponents.{most-exponents, sizes}
 use Rattle.poly.specs.Laws.Dense.{Reduced, dense, dense-zero}
@@ -80,9 +81,9 @@ module _ (p : ℕ) (P : Prime p) (t : ℕ) (ts : List ℕ) (u : ℕ) (us : List 
   pub spare : at-most (most-key (u ∷ us)) (most-key (t ∷ ts)) ≡ true → exponents (setting p (t ∷ ts) (u ∷ us) .bound) ⊞ most-of (u ∷ us) ≡ most-of (t ∷ ts)
   spare h =
       let b = most-key (t ∷ ts) - most-key (u ∷ us) in
-      ap (λ (e : Exponents). exponents b ⊞ e) (sym (most-exponents p (u ∷ us) hg))
+      ap (λ (e : Exponents). exponents b ⊞ e) (sym (most-exponents (u ∷ us) (falling-keys p keys (u ∷ us) hg)))
       ∙ sym (exponents-difference (most-key (u ∷ us)) (most-key (t ∷ ts)) (at-most-says (most-key (u ∷ us)) (most-key (t ∷ ts)) h))
-      ∙ most-exponents p (t ∷ ts) hf
+      ∙ most-exponents (t ∷ ts) (falling-keys p keys (t ∷ ts) hf)
 
   -- where one is not, the rule stops at once
   too-wide : at-most (most-key (u ∷ us)) (most-key (t ∷ ts)) ≡ false → Division (Modulo p P .ring) (poly p P (t ∷ ts)) (poly p P (u ∷ us)) [] false
@@ -99,7 +100,7 @@ module _ (p : ℕ) (P : Prime p) (t : ℕ) (ts : List ℕ) (u : ℕ) (us : List 
       never : most-of (u ∷ us) ≼ most-of (t ∷ ts) → ⊥
       never l =
           let m : exponents (most-key (u ∷ us)) ≼ exponents (most-key (t ∷ ts)) =
-          rw (most-exponents p (u ∷ us) hg, most-exponents p (t ∷ ts) hf) l in
+          rw (most-exponents (u ∷ us) (falling-keys p keys (u ∷ us) hg), most-exponents (t ∷ ts) (falling-keys p keys (t ∷ ts) hf)) l in
           let e = at-most-of (most-key (u ∷ us)) (most-key (t ∷ ts)) m in
           let z : _≡_ {A = ℕ} 0 1 = cc in
           omega arith

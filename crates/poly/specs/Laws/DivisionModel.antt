@@ -28,11 +28,12 @@ use Rattle.poly.specs.Terms.{key-of, coefficient-of, term-of, terms-of, 
 use Rattle.poly.specs.Laws.Keys.{exponents-add, exponents-order}
 use Rattle.poly.specs.Laws.KeyDifference.{and-left, and-right, and-both, at-most-says, at-most-of, exponents-difference, difference-only}
 use Rattle.poly.specs.Laws.Lists.{Falling}
+use Rattle.poly.specs.Laws.Falling.{falling-keys}
 use Rattle.poly.specs.Laws.Terms.{poly-head}
 use Rattle.poly.specs.Laws.Dense.{Reduced, MovesUp, dense, dense-at, dense-zero, dense-lead, less-dense, less-reduced, less-length}
 use Rattle.poly.specs.Laws.GreatestExponents.{most-small, sizes}
 use Rattle.poly.specs.Laws.DivisionSteps.{outcome-passed, outcome-taken, outcome-stopped, found-passed, found-taken, found-stopped}
-use Rattle.poly.specs.Models.Division.{most, most-of, at-most, Setting, less-product, fits, factor, less, Outcome, divide-from, found-from}
+use Rattle.poly.specs.Models.Division.{most, most-of, at-most, Setting, less-product, fits-in, fits, factor, less, Outcome, divide-from, found-from}
 
 -- the number of a term has its key and its coefficient
 pub key-of-term : (n q : ℕ) → q < 65536 → key-of (n * 65536 + q) ≡ n
@@ -62,7 +63,7 @@ module _ (d : Setting) (f g : Exponents) (spare : exponents (d .bound) ⊞ g ≡
       record { x = omega arith; y = omega arith; z = omega arith; w = omega arith }
 
   pub fits-says : fits d k ≡ true → Fits
-  unfolding fits
+  unfolding fits-in
   fits-says h =
       record {
         exact = exponents-difference (d .lead) k (at-most-says (d .lead) k (and-left (at-most (d .lead) k) _ h));
@@ -72,7 +73,7 @@ module _ (d : Setting) (f g : Exponents) (spare : exponents (d .bound) ⊞ g ≡
       }
 
   pub fits-of : (e : Exponents) → exponents k ≡ e ⊞ exponents (d .lead) → e ⊞ g ≼ f → fits d k ≡ true
-  unfolding fits
+  unfolding fits-in
   fits-of e p l =
       let o = difference-only (d .lead) k e p in
       and-both _ _ (at-most-of (d .lead) k (o .0))
@@ -127,9 +128,10 @@ module _ (p : ℕ) (P : Prime p) (word : p ≤ 65536) (t : ℕ) (ts : List ℕ) 
 
   divisor-moves : (k : ℕ) → Fits d (most-of (t ∷ ts)) (most-of (u ∷ us)) spare k → MovesUp (k - key-of u) keys (u ∷ us)
   divisor-moves k o =
+      let small = falling-keys p keys (t ∷ ts) hf in
       moves-up (k - key-of u) (most-of (t ∷ ts)) (most-of (u ∷ us)) (o .bounded)
-      (most-small in-x p keys (t ∷ ts) (omega arith) hf) (most-small in-y p keys (t ∷ ts) (omega arith) hf)
-      (most-small in-z p keys (t ∷ ts) (omega arith) hf) (most-small in-w p keys (t ∷ ts) (omega arith) hf)
+      (most-small in-x (t ∷ ts) small) (most-small in-y (t ∷ ts) small)
+      (most-small in-z (t ∷ ts) small) (most-small in-w (t ∷ ts) small)
       (u ∷ us) (omega arith) (omega arith) (omega arith) (omega arith)
 
   -- a cell that is not 0 and can be divided

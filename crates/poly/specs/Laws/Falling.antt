@@ -7,6 +7,7 @@ use Rattle.poly.specs.Keys.{keys}
 use Rattle.poly.specs.Terms.{key-of, coefficient-of}
 use Rattle.poly.specs.Lists.{WrongModulo}
 use Rattle.poly.specs.Models.Lists.{key-before}
+use Rattle.poly.specs.Models.Division.{KeysBelow}
 use Rattle.poly.specs.Laws.Lists.{Falling}
 use Rattle.poly.specs.Laws.ListCheck.{wrong-within, term-is-right}
 
@@ -14,6 +15,9 @@ pub falling-below : (p b : ℕ) (ts : List ℕ) → Falling p b ts → (i : ℕ)
 falling-below p b [] h i l = absurd (omega arith)
 falling-below p b (t ∷ ts) h zero l = h .0
 falling-below p b (t ∷ ts) h (suc i) l = omega (arith, h .0, falling-below p (key-of t) ts (h .3) i (omega arith))
+
+pub falling-keys : (p b : ℕ) (ts : List ℕ) → Falling p b ts → KeysBelow 0 b ts
+falling-keys p b ts h i l = omega (arith, falling-below p b ts h i l)
 
 pub falling-first : (p b : ℕ) (ts : List ℕ) → Falling p b ts → (i : ℕ) → i < length ts → key-of (getD ts i 0) ≤ key-of (getD ts 0 0)
 falling-first p b [] h i l = absurd (omega arith)

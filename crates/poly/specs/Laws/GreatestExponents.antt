@@ -1,7 +1,7 @@
 -- The greatest exponents of a list of terms, computed, are those of its polynomial. Assumes nothing.
 use mathlib.Core.Path.{_≡_, refl, sym, _∙_, ap, ap₂, subst}
 use mathlib.Core.List.{List, [], _∷_}
-use Prim.Native.Nat.{ℕ, _≤_, _<_, max}
+use Prim.Native.Nat.{ℕ, suc, _+_, _≤_, _<_, max}
 use native.Mathlib.Decide.{decLe}
 use native.Mathlib.Omega.{arith}
 use Rattle.algebra.specs.Ring.{CommRing, zero-add}
@@ -17,7 +17,7 @@ use Rattle.poly.specs.Terms.{key-of, coefficient-of, poly}
 use Rattle.poly.specs.Laws.Keys.{exponents-injective, exponents-of-key}
 use Rattle.poly.specs.Laws.Lists.{Falling}
 use Rattle.poly.specs.Laws.Terms.{poly-lead}
-use Rattle.poly.specs.Models.Division.{most, most-of, most-key}
+use Rattle.poly.specs.Models.Division.{KeysBelow, most, most-of, most-key}
 
 exponent-small : (v : Variable) (k : ℕ) → k < keys → exponent v (exponents k) < 8
 exponent-small in-x k h = omega arith
@@ -25,22 +25,17 @@ exponent-small in-y k h = omega arith
 exponent-small in-z k h = omega arith
 exponent-small in-w k h = omega arith
 
-pub most-small : (v : Variable) (p b : ℕ) (ts : List ℕ) → b ≤ keys → Falling p b ts → most v ts < 8
-most-small v p b [] l h = omega arith
-most-small v p b (t ∷ ts) l h =
-    let a = exponent-small v (key-of t) (let m = h .0 in omega arith) in
-    let r = most-small v p (key-of t) ts (let m = h .0 in omega arith) (h .3) in
+pub most-small : (v : Variable) (ts : List ℕ) → KeysBelow 0 keys ts → most v ts < 8
+most-small v [] h = omega arith
+most-small v (t ∷ ts) h =
+    let l : key-of t + 0 < keys = h 0 (omega arith) in
+    let a = exponent-small v (key-of t) (omega arith) in
+    let r = most-small v ts (λ i m. h (suc i) (omega arith)) in
     omega arith
 
 -- the key of the greatest exponents has them
-pub most-exponents : (p : ℕ) (ts : List ℕ) → Falling p keys ts → exponents (most-key ts) ≡ most-of ts
-most-exponents p ts h =
-    exponents-of-key (most-of ts)
-    (record {
-      y = most-small in-y p keys ts (omega arith) h;
-      z = most-small in-z p keys ts (omega arith) h;
-      w = most-small in-w p keys ts (omega arith) h;
-    })
+pub most-exponents : (ts : List ℕ) → KeysBelow 0 keys ts → exponents (most-key ts) ≡ most-of ts
+most-exponents ts h = exponents-of-key (most-of ts) (record { y = most-small in-y ts h; z = most-small in-z ts h; w = most-small in-w ts h })
 
 module _ (p : ℕ) (P : Prime p) where
   abbrev R : CommRing

@@ -8,7 +8,7 @@ use lib.Dec.{leb}
 use Rattle.algebra.specs.Four.{Exponents, _⊞_, _≼_, exponents-path, exponents-cancel}
 use Rattle.poly.specs.Keys.{key, exponents}
 use Rattle.poly.specs.Laws.Keys.{Digits, digits-of, key-of-exponents, exponents-of-key, key-add}
-use Rattle.poly.specs.Models.Division.{at-most}
+use Rattle.poly.specs.Models.Division.{at-most, fits-in}
 
 -- of a test of several, each holds
 pub and-left : (a b : Bool) → a && b ≡ true → a ≡ true
@@ -96,6 +96,23 @@ module _ (a b : ℕ) (h : exponents a ≼ exponents b) where
 
   pub exponents-difference : exponents b ≡ exponents (b - a) ⊞ exponents a
   exponents-difference = plain-difference a b (exponents b) (exponents a) refl refl h
+
+pub at-most-key : (a b : ℕ) → at-most a b ≡ true → a ≤ b
+at-most-key a b h = below-key a b (at-most-says a b h)
+
+-- the test of a leading term, as the code makes it
+module _ (lead bound k : ℕ) where
+  pub fits-not : at-most lead k ≡ false → false ≡ fits-in lead bound k
+  unfolding fits-in
+  fits-not h = ap (λ (a : Bool). a && at-most (k - lead) bound) (sym h)
+
+  pub fits-rest : at-most lead k ≡ true → {r : Bool} → r ≡ at-most (k - lead) bound → r ≡ fits-in lead bound k
+  unfolding fits-in
+  fits-rest h e = e ∙ ap (λ (a : Bool). a && at-most (k - lead) bound) (sym h)
+
+  pub fits-key : fits-in lead bound k ≡ true → lead ≤ k
+  unfolding fits-in
+  fits-key h = at-most-key lead k (and-left (at-most lead k) _ h)
 
 -- the quotient's exponents are those of the difference
 pub difference-only : (a b : ℕ) (e : Exponents) → exponents b ≡ e ⊞ exponents a → (exponents a ≼ exponents b) × (exponents (b - a) ≡ e)

@@ -1,6 +1,6 @@
 -- The quotient's cells hold the terms that the division on cells finds. Assumes nothing.
 use mathlib.Core.Path.{_≡_, refl, sym, _∙_, ap, ap₂, subst}
-use mathlib.Core.Bool.{Bool, true, false, _&&_}
+use mathlib.Core.Bool.{Bool, true, false}
 use mathlib.Core.List.{List, [], _∷_}
 use Prim.Native.Nat.{ℕ, zero, suc, _+_, _-_, _*_, _≤_, _<_}
 use native.Mathlib.Nat.{mod-lt}
@@ -18,16 +18,11 @@ use Rattle.field.specs.PrimeLaws.{prime-positive}
 use Rattle.field.specs.Modulo.{Modulo}
 use Rattle.poly.specs.Keys.{exponents}
 use Rattle.poly.specs.Terms.{poly}
-use Rattle.poly.specs.Laws.KeyDifference.{and-left, at-most-says, below-key}
+use Rattle.poly.specs.Laws.KeyDifference.{fits-key}
 use Rattle.poly.specs.Laws.Dense.{Reduced, dense, dense-zero, dense-set, set-reduced}
 use Rattle.poly.specs.Laws.DivisionSteps.{outcome-passed, outcome-taken, outcome-stopped, found-passed, found-taken, found-stopped}
 use Rattle.poly.specs.Laws.DivisionModel.{key-of-term, coefficient-of-term}
-use Rattle.poly.specs.Models.Division.{at-most, Setting, fits, factor, less, Outcome, divide-from, found-from}
-
--- a leading term that can be divided stands at or above the divisor's
-pub fits-above : (d : Setting) (k : ℕ) → fits d k ≡ true → d .lead ≤ k
-unfolding fits
-fits-above d k h = below-key (d .lead) k (at-most-says (d .lead) k (and-left (at-most (d .lead) k) _ h))
+use Rattle.poly.specs.Models.Division.{Setting, fits, factor, less, Outcome, divide-from, found-from}
 
 module _ (p : ℕ) (P : Prime p) (n : ℕ) where
   abbrev R : CommRing
@@ -86,7 +81,7 @@ module _ (d : Setting) (P : Prime (d .modulus)) (word : d .modulus ≤ 65536) (n
           let s : ℕ = k - d .lead in
           let v : ℕ = factor d k l in
           let lv : v < p = mod-lt _ (prime-positive P) in
-          let b = fits-above d k q in
+          let b = fits-key (d .lead) (d .bound) k q in
           let ls : s < length c = subst (λ (i : ℕ). s < i) (sym long) (omega arith) in
           to _ _ _ _ (found-taken d k l e q) (outcome-taken d k l c e q)
           (store-one p P n word s v c _ (found-from d k (less d k l)) lv ls (z s (omega arith))

@@ -1,15 +1,19 @@
 -- Division on cells, as the code does it: the cell at a key holds that monomial's coefficient, and the highest cell that is not 0 is the leading term.
 use mathlib.Core.Bool.{Bool, true, false, _&&_}
 use mathlib.Core.List.{List, [], _∷_}
-use Prim.Native.Nat.{ℕ, zero, suc, _+_, _-_, _*_, _%_, max}
+use Prim.Native.Nat.{ℕ, zero, suc, _+_, _-_, _*_, _%_, _<_, max}
 use lib.Dec.{eqb, leb}
-use lib.ListN.{getD, set}
+use lib.ListN.{length, getD, set}
 use Rattle.algebra.specs.Four.{Exponents}
 use Rattle.algebra.specs.GreatestExponent.{Variable, in-x, in-y, in-z, in-w, exponent}
 use Rattle.field.specs.Fp.{el, inv}
 use Rattle.poly.specs.Keys.{key, exponents, keys}
 use Rattle.poly.specs.Terms.{key-of, coefficient-of}
 use Rattle.poly.specs.Models.Spread.{spread}
+
+-- each key of a list, moved up by s, is below n
+abbrev pub KeysBelow : ℕ → ℕ → List ℕ → Type 0
+KeysBelow s n ts = (i : ℕ) → i < length ts → key-of (getD ts i 0) + s < n
 
 -- a list's greatest exponent in a variable, in each, and the key of all four
 abbrev pub most : Variable → List ℕ → ℕ
@@ -46,10 +50,13 @@ unfoldable pub less-product : ℕ → ℕ → ℕ → List ℕ → List ℕ → 
 less-product p s q [] l = l
 less-product p s q (t ∷ ts) l = less-product p s q ts (less-term p s q t l)
 
+-- the monomial at k can be divided by the one at lead: no exponent of the quotient is negative, none above the bound's
+unfoldable pub fits-in : ℕ → ℕ → ℕ → Bool
+fits-in lead bound k = at-most lead k && at-most (k - lead) bound
+
 module _ (d : Setting) where
-  -- the monomial at k can be divided: no exponent of the quotient is negative, none above the bound's
-  unfoldable pub fits : ℕ → Bool
-  fits k = at-most (d .lead) k && at-most (k - d .lead) (d .bound)
+  abbrev pub fits : ℕ → Bool
+  fits k = fits-in (d .lead) (d .bound) k
 
   -- the quotient's coefficient at the cell k, and what it leaves of the remainder
   abbrev pub factor : ℕ → List ℕ → ℕ
