@@ -25,3 +25,4 @@ pub mod Quotient
 pub mod Room
 pub mod WorkRoom
 pub mod DivisionTurns
+pub mod DivisionGoing

@@ -105,3 +105,40 @@ fn subtract(p: Number, q: Number, shift: usize, divisor: &[Term], cells: &mut [N
         i += 1;
     }
 }
+
+// The steps of a division. Each leading term that can be divided gives a term of the quotient, stored at its key;
+// the search for the next one is left at the first that cannot.
+fn steps(
+    p: Number,
+    divisor: &[Term],
+    lead: u16,
+    inverse: Number,
+    bound: Key,
+    work: &mut [Number],
+) -> bool
+    requires { ⌜ CanStep (record { modulus = p; terms = now divisor; lead = lead; inverse = inverse; bound = bound .bits }) (now work) ⌝ }
+    ensures { λ r. ⌜ Stepped (record { modulus = p; terms = now (divisor .entry); lead = lead; inverse = inverse; bound = bound .bits }) (now (work .entry)) (now (work .exit)) r ⌝ }
+{
+    let low = lead as usize;
+    let mut k = KEYS;
+    let mut whole = true;
+    'steps: loop {
+        loop {
+            if k == 0 {
+                break 'steps;
+            }
+            k -= 1;
+            if work[k] != 0 {
+                break;
+            }
+        }
+        if !fits(k as u16, lead, bound) {
+            whole = false;
+            break 'steps;
+        }
+        let q = field::times(p, work[k], inverse);
+        work[KEYS + (k - low)] = q;
+        subtract(p, q, k - low, divisor, work);
+    }
+    whole
+}

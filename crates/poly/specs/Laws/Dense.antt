@@ -33,6 +33,11 @@ abbrev pub MovesUp : ℕ → ℕ → List ℕ → Type 0
 MovesUp s n [] = Unit {0}
 MovesUp s n (t ∷ ts) = (key-of t + s < n) × (exponents (key-of t + s) ≡ exponents s ⊞ exponents (key-of t)) × MovesUp s n ts
 
+pub less-length : (p s q : ℕ) (ts l : List ℕ) → length (less-product p s q ts l) ≡ length l
+unfolding less-product
+less-length p s q [] l = refl
+less-length p s q (t ∷ ts) l = less-length p s q ts (less-term p s q t l) ∙ length-set l _ _
+
 module _ (p : ℕ) (P : Prime p) where
   abbrev R : CommRing
   R = Modulo p P .ring
@@ -157,8 +162,3 @@ module _ (p : ℕ) (P : Prime p) where
   less-reduced s q (t ∷ ts) l f red =
       less-reduced s q ts (less-term p s q t l) (moves-same s (length l) (length (less-term p s q t l)) ts (sym (length-set l _ _)) (f .2))
       (set-reduced l (key-of t + s) _ (f .0) (mod-lt _ (prime-positive P)) red)
-
-  pub less-length : (s q : ℕ) (ts l : List ℕ) → length (less-product p s q ts l) ≡ length l
-  unfolding less-product
-  less-length s q [] l = refl
-  less-length s q (t ∷ ts) l = less-length s q ts (less-term p s q t l) ∙ length-set l _ _

@@ -204,7 +204,7 @@ module _ (p : ℕ) (P : Prime p) (word : p ≤ 65536) (t : ℕ) (ts : List ℕ) 
       take-cell qs whole again =
           step (exponents k) (term-of p P T) leads over times-lead
           (subst (λ (r : S4 R .Car). Goes R F G S r (terms-of p P qs) whole) left
-          (again (less-length p P s q (u ∷ us) l ∙ long) left-reduced left-zeros))
+          (again (less-length p s q (u ∷ us) l ∙ long) left-reduced left-zeros))
 
     -- one that cannot
     stop-cell : fits d k ≡ false → Run l [] false
