@@ -26,3 +26,4 @@ pub mod Room
 pub mod WorkRoom
 pub mod DivisionTurns
 pub mod DivisionGoing
+pub mod DivisionBegins

@@ -142,3 +142,38 @@ fn steps(
     }
     whole
 }
+
+// Whether the divisor divides the dividend, in a room whose cells of the remainder are 0; the quotient's coefficients are stored in its other cells.
+pub fn divide(p: Number, dividend: &[Term], divisor: &[Term], work: &mut [Number]) -> bool
+    requires { ⌜ CanBegin p (now dividend) (now divisor) (now work) ⌝ }
+    ensures { λ r. ⌜ Divided p (now (dividend .entry)) (now (divisor .entry)) (now (work .entry)) (now (work .exit)) r ⌝ }
+{
+    let above = most(dividend);
+    let below = most(divisor);
+    if !at_most(below, above) {
+        return false;
+    }
+    let bound = Key {
+        bits: above.bits - below.bits,
+    };
+    let first = divisor[0];
+    let coefficient = Element {
+        modulus: p,
+        value: crate::key::coefficient_of(first),
+    };
+    let inverse = coefficient.inverse();
+    let lead = Key::of(first);
+    spread(dividend, work);
+    steps(p, divisor, lead.bits, inverse.value, bound, work)
+}
+
+// Trial division: whether the divisor divides the dividend, as polynomials. The work room is left cleared.
+pub fn divides(p: Number, dividend: &[Term], divisor: &[Term], work: &mut [Number]) -> bool
+    requires { ⌜ CanDivide p (now dividend) (now divisor) (now work) ⌝ }
+    ensures { λ r. ⌜ TrialDivision p (now (dividend .entry)) (now (divisor .entry)) (now (work .entry)) (now (work .exit)) r ⌝ }
+{
+    clear(KEYS, work);
+    let whole = divide(p, dividend, divisor, work);
+    clear(WORK_ROOM, work);
+    whole
+}
