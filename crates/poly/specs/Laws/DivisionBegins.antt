@@ -3,24 +3,26 @@ use mathlib.Core.Path.{_≡_, refl, sym, _∙_, ap, ap₂}
 use mathlib.Core.Logic.{_↔_}
 use mathlib.Core.Bool.{Bool, true, false}
 use mathlib.Core.List.{List}
-use Prim.Native.Nat.{ℕ, _-_, _≤_, _<_}
+use Prim.Native.Nat.{ℕ, _+_, _-_, _≤_, _<_}
 use native.Mathlib.Omega.{arith}
-use lib.ListN.{length, getD}
+use lib.ListN.{length, getD, drop}
 use Rattle.field.specs.Prime.{Prime}
 use Rattle.field.specs.Fp.{el, inv}
 use Rattle.field.specs.ModuliLaws.{listed-prime, listed-positive, listed-below}
+use Rattle.field.specs.Modulo.{Modulo}
 use Rattle.field.specs.Link.{inverse-val}
-use Rattle.field.specs.Contract.{element, Invertible, Inverse}
+use Rattle.field.specs.Contract.{Invertible, Inverse}
 use Rattle.field.specs.declared.Element.{Element}
 use Rattle.poly.specs.Keys.{keys}
-use Rattle.poly.specs.Terms.{key-of, coefficient-of}
+use Rattle.poly.specs.Terms.{coefficient-of, poly}
+use Rattle.poly.specs.Image.{Divides}
 use Rattle.poly.specs.Room.{work-room, zeroed, cleared}
-use Rattle.poly.specs.TrialDivision.{CanDivide, TrialDivision}
+use Rattle.poly.specs.TrialDivision.{CanDivide}
 use Rattle.poly.specs.Laws.Falling.{falling-keys, falling-first, falling-coefficient}
 use Rattle.poly.specs.Laws.Room.{zeroed-length, zeroed-at, zeroed-beyond, zeroed-same}
 use Rattle.poly.specs.Laws.Spread.{spread-length}
 use Rattle.poly.specs.Laws.WorkRoom.{take-spread, drop-spread, same-quotient-cells, same-beyond, remainder-empty}
-use Rattle.poly.specs.Laws.DivisionEnds.{divided-says}
+use Rattle.poly.specs.Laws.DivisionEnds.{Empty, divided-says}
 use Rattle.poly.specs.Models.Spread.{spread}
 use Rattle.poly.specs.Models.Division.{most-key, at-most, Setting, Outcome, divide-from, setting, divided}
 use Rattle.poly.specs.Models.WorkRoom.{remainder-cells, quotient-cells, beyond, CanStep, Stepped, CanBegin, Divided}
@@ -90,3 +92,25 @@ module _ (p : ℕ) (f g work : List ℕ) (can : CanDivide p f g work) where
               };
           empty = λ i h. zeroed-at n work i (omega arith);
         }
+
+    -- the room around it: as it was beyond, and cleared again
+    module _ (begun after : List ℕ) (whole : Bool) (clears : begun ≡ zeroed n work) (ran : Divided p f g begun after whole) where
+      pub cleared-room : (end : List ℕ) → end ≡ zeroed work-room after → end ≡ cleared work
+      cleared-room end e =
+          let m : n + (work-room - n) ≡ work-room = omega arith in
+          e
+          ∙ zeroed-same work-room after work
+          (ran .rest ∙ ap beyond clears ∙ ap (λ (j : ℕ). drop j (zeroed n work)) (sym m) ∙ zeroed-beyond n (work-room - n) work
+          ∙ ap (λ (j : ℕ). drop j work) m)
+
+      begun-empty : Empty (remainder-cells begun)
+      begun-empty = rw clears (remainder-empty (zeroed n work) (cleared-begins .lists .room) (cleared-begins .empty))
+
+      -- the answer is that of the rule
+      pub cleared-says : (P : Prime p) → (whole ≡ true) ↔ Divides (Modulo p P) (poly p P g) (poly p P f)
+      cleared-says P =
+          let w = listed-below (can .is-listed) in
+          let e : divided p f g (remainder-cells begun) (quotient-cells begun) .whole ≡ whole = ap (λ (o : Outcome). o .whole) (sym (ran .outcome)) in
+          let s =
+          divided-says p P (omega arith) f g (can .some-dividend) (can .dividend-falls) (can .some-divisor) (can .divisor-falls) (remainder-cells begun) (quotient-cells begun) begun-empty in
+          (λ t. s .0 (e ∙ t), λ d. sym e ∙ s .1 d)
