@@ -3,7 +3,6 @@ use mathlib.Core.Path.{_≡_}
 use mathlib.Core.List.{List, [], _∷_, _++_}
 use lib.ListN.{length, getD, replicate}
 use Prim.Native.Nat.{ℕ}
-use Rattle.algebra.specs.Field.{Field}
 use Rattle.field.specs.Prime.{Prime}
 use Rattle.field.specs.Fp.{el}
 use Rattle.field.specs.Moduli.{Listed}

@@ -4,6 +4,9 @@ pub mod Value
 pub mod Lists
 pub mod Search
 pub mod ListCheck
+pub mod RightLists
+pub mod LeadingPart
+pub mod PointCheck
 pub mod Terms
 pub mod Powers
 pub mod EightNumbers
@@ -27,3 +30,6 @@ pub mod WorkRoom
 pub mod DivisionTurns
 pub mod DivisionGoing
 pub mod DivisionBegins
+pub mod Image
+pub mod ImageModel
+pub mod ImageCall

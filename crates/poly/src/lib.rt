@@ -2,8 +2,11 @@
 use field::Fault;
 
 pub mod division;
+pub mod euclid;
+pub mod image;
 pub mod key;
 pub mod list;
+pub mod value;
 
 // A term: its key times 65536, plus its coefficient.
 pub type Term = u32;

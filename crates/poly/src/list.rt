@@ -1,10 +1,11 @@
 // Lists of terms: the check with which every service begins, the public list check, and the leading part.
+ghost use Prim.Native.Nat.{_<_};
 ghost use lib.ListN.{length};
 ghost use Rattle.field.specs.Refusal.{Tested};
 ghost use Rattle.poly.specs.Lists.{WrongModulo, of-lists};
-ghost use Rattle.poly.specs.LeadingPart.{of-list};
+ghost use Rattle.poly.specs.LeadingPart.{of-list, Leading};
 ghost use Rattle.poly.specs.Models.Search.{Searched};
-ghost use Rattle.poly.specs.Models.Lists.{of-terms};
+ghost use Rattle.poly.specs.Models.Lists.{of-terms, Lower};
 use crate::Term;
 use crate::key::Key;
 use field::Fault;
@@ -74,4 +75,32 @@ pub fn check_list(terms: &[Term]) -> Fault
         Key::COEFFICIENT_LIMIT,
         terms,
     )
+}
+
+// How many terms stand before the first with a lower power of x than the first term's.
+fn leading_length(terms: &[Term]) -> usize
+    requires { ⌜ 0 < length (now terms) ⌝ }
+    ensures { λ r. ⌜ Searched (Lower (now (terms .entry))) (length (now (terms .entry))) r ⌝ }
+{
+    let top = Key::of(terms[0]).x();
+    let mut i: usize = 0;
+    while i < terms.len() {
+        if Key::of(terms[i]).x() < top {
+            return i;
+        }
+        i += 1;
+    }
+    i
+}
+
+// The leading part: all terms with the highest power of x, as a part of the caller's list; on refusal its empty head.
+pub fn leading_part(terms: &[Term]) -> &[Term]
+    ensures { λ r. ⌜ Leading (now (terms .entry)) (now r) ⌝ }
+{
+    let fault = check_list(terms);
+    if fault.number != 0 {
+        return &terms[..0];
+    }
+    let n = leading_length(terms);
+    &terms[..n]
 }

@@ -6,13 +6,11 @@ use Prim.Native.Nat.{ℕ, suc, _+_ as _+ₙ_, _≤_}
 use native.Mathlib.Omega.{arith}
 use Rattle.algebra.specs.Ring.{CommRing}
 use Rattle.algebra.specs.Series.{Seq}
-use Rattle.algebra.specs.Degree.{Top}
 use Rattle.algebra.specs.Four.{Exponents}
-use Rattle.algebra.specs.Univariate.{monic-top, monic-greatest-unique}
 use Rattle.algebra.specs.Field.{Field}
 use Rattle.poly.specs.Terms.{Polynomial}
 use Rattle.poly.specs.Value.{Point}
-use Rattle.poly.specs.Image.{Image}
+use Rattle.poly.specs.Laws.Image.{image-unique}
 use Rattle.divisor.specs.declared.CandidateRecord.{CandidateRecord}
 use Rattle.divisor.specs.Rule.{report, DividesBoth, Kept, Sorted, done, bad, unlucky, keep, AllBad, Unknowns, divisor, Verdict, none, several, rejected, accepted, Answer, all-bad, some-good}
 
@@ -21,13 +19,6 @@ module _ (K : Field) (A B : Polynomial K) where
   open CommRing R using (Car, 𝟘, 𝟙, mul as _*_)
 
   infixl 70 _*_
-  pub image-top : (at : Point R) (e : ℕ) (U : Seq R) → Image K A B at e U → Top R e U
-  image-top at e U i = monic-top K e U (i .monic)
-
-  -- a point has one image
-  pub image-unique : (at : Point R) (e f : ℕ) (U W : Seq R) → Image K A B at e U → Image K A B at f W → (e ≡ f) × (U ≡ W)
-  image-unique at e f U W i j = monic-greatest-unique K e f _ _ U W (i .monic) (j .monic) (i .greatest) (j .greatest)
-
   -- the least degree is least
   pub least : (d e : ℕ) (points : List (Point R)) (b u b′ u′ : ℕ) (ks : List (Kept K)) (k : Kept K) (ls : List (Kept K))
       → Sorted K A B d points b u ks → Sorted K A B e points b′ u′ (k ∷ ls) → d ≤ e
@@ -36,10 +27,10 @@ module _ (K : Field) (A B : Polynomial K) where
   least d e points b u b′ u′ ks k ls (bad x s) (keep W j t) = absurd (j .good x)
   least d e points b u b′ u′ ks k ls (unlucky g U i l s) (bad y t) = absurd (i .good y)
   least d e points b u b′ u′ ks k ls (unlucky g U i l s) (unlucky f W j m t) = least d e _ b _ b′ _ ks k ls s t
-  least d e points b u b′ u′ ks k ls (unlucky {at = at} g U i l s) (keep W j t) = let q : g ≡ e = image-unique at g e U W i j .0 in omega arith
+  least d e points b u b′ u′ ks k ls (unlucky {at = at} g U i l s) (keep W j t) = let q : g ≡ e = image-unique K A B at g e U W i j .0 in omega arith
   least d e points b u b′ u′ ks k ls (keep U i s) (bad y t) = absurd (i .good y)
   least d e points b u b′ u′ ks k ls (keep U i s) (unlucky f W j m t) = least d e _ b u b′ _ _ k ls s t
-  least d e points b u b′ u′ ks k ls (keep {at = at} U i s) (keep W j t) = let q : d ≡ e = image-unique at d e U W i j .0 in omega arith
+  least d e points b u b′ u′ ks k ls (keep {at = at} U i s) (keep W j t) = let q : d ≡ e = image-unique K A B at d e U W i j .0 in omega arith
 
   abbrev Same : ℕ → ℕ → ℕ → ℕ → List (Kept K) → List (Kept K) → Type 0
   Same b u b′ u′ ks ls = (b ≡ b′) × (u ≡ u′) × (ks ≡ ls)
@@ -55,13 +46,13 @@ module _ (K : Field) (A B : Polynomial K) where
   sorted-determined d points b u b′ u′ ks ls (unlucky g U i l s) (unlucky f W j m t) =
       let r = sorted-determined d _ b _ b′ _ ks ls s t in (r .0, ap suc (r .1), r .2)
   sorted-determined d points b u b′ u′ ks ls (unlucky {at = at} g U i l s) (keep W j t) =
-      let q : g ≡ d = image-unique at g d U W i j .0 in absurd (omega arith)
+      let q : g ≡ d = image-unique K A B at g d U W i j .0 in absurd (omega arith)
   sorted-determined d points b u b′ u′ ks ls (keep U i s) (bad y t) = absurd (i .good y)
   sorted-determined d points b u b′ u′ ks ls (keep {at = at} U i s) (unlucky f W j m t) =
-      let q : d ≡ f = image-unique at d f U W i j .0 in absurd (omega arith)
+      let q : d ≡ f = image-unique K A B at d f U W i j .0 in absurd (omega arith)
   sorted-determined d points b u b′ u′ ks ls (keep {at = at} U i s) (keep W j t) =
       let r = sorted-determined d _ b u b′ u′ _ _ s t in
-      (r .0, r .1, ap₂ (λ (X : Seq R) (ms : List (Kept K)). record { point = at; image = X } ∷ ms) (image-unique at d d U W i j .1) (r .2))
+      (r .0, r .1, ap₂ (λ (X : Seq R) (ms : List (Kept K)). record { point = at; image = X } ∷ ms) (image-unique K A B at d d U W i j .1) (r .2))
 
   -- every point is bad, unlucky or kept
   pub counts-add-up : (d : ℕ) (points : List (Point R)) (b u : ℕ) (ks : List (Kept K)) → Sorted K A B d points b u ks → b +ₙ u +ₙ length ks ≡ length points

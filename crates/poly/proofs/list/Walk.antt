@@ -1,33 +1,31 @@
 -- What the search of the first wrong term keeps: no term before i is wrong, and the key before is at hand. Assumes nothing.
 use mathlib.Core.Path.{_≡_, refl, sym, _∙_}
-use mathlib.Core.Logic.{_⊎_, inl, inr}
 use mathlib.Core.Bool.{Bool, true, false, _&&_}
 use mathlib.Core.List.{List}
 use Prim.Native.Nat.{ℕ, _+_, _≤_, _<_}
 use native.Mathlib.Omega.{arith}
 use lib.Dec.{ltb}
 use lib.ListN.{length, getD}
-use borrow.Author.Count.{below-none, below-more}
 use borrow.Author.Tests.{ltb-true, ltb-false}
 use Rattle.poly.specs.Keys.{keys}
 use Rattle.poly.specs.Terms.{key-of, coefficient-of}
 use Rattle.poly.specs.Lists.{WrongModulo, wrong-term, coefficient-zero, coefficient-large}
-use Rattle.poly.specs.Models.Search.{Searched}
+use Rattle.poly.specs.Models.Search.{Searching, Searched}
 use Rattle.poly.specs.Models.Lists.{key-before}
+use Rattle.poly.specs.Laws.Search.{search-begins, search-goes-on, search-stops, search-ends}
 use Rattle.poly.specs.Laws.ListCheck.{key-before-first, key-before-next, key-is-wrong, term-is-right}
 
 pub record Walked (bound : ℕ) (ts : List ℕ) (before i : ℕ) : Type 0 where
-  pub within : i ≤ length ts
+  pub searching : Searching (WrongModulo bound ts) (length ts) i
   pub key : before ≡ key-before ts i
   pub in-range : before ≤ keys
-  pub right : (j : ℕ) → j < i → ¬ WrongModulo bound ts j
 
 module _ (bound : ℕ) (ts : List ℕ) where
   pub walk-begins : Walked bound ts keys 0
-  walk-begins = record { within = omega arith; key = sym (key-before-first ts); in-range = omega arith; right = below-none _ }
+  walk-begins = record { searching = search-begins; key = sym (key-before-first ts); in-range = omega arith }
 
   pub walk-ends : (before i : ℕ) → Walked bound ts before i → length ts ≤ i → Searched (WrongModulo bound ts) (length ts) i
-  walk-ends before i h l = record { within = h .within; before = h .right; here = λ m. absurd (omega arith) }
+  walk-ends before i h l = search-ends (h .searching) l
 
   -- at the term with the key k and the coefficient c
   module _ (before i : ℕ) (h : Walked bound ts before i) (l : i < length ts) (k c : ℕ) (ek : k ≡ key-of (getD ts i 0)) (ec : c ≡ coefficient-of (getD ts i 0)) where
@@ -47,15 +45,14 @@ module _ (bound : ℕ) (ts : List ℕ) where
         (omega (arith, ltb-true c bound ez))
 
     pub walk-stops : (ltb k before && (ltb 0 c && ltb c bound)) ≡ false → Searched (WrongModulo bound ts) (length ts) i
-    walk-stops e = record { within = h .within; before = h .right; here = λ m. wrong-by _ _ _ refl refl refl e }
+    walk-stops e = search-stops (h .searching) (wrong-by _ _ _ refl refl refl e)
 
     pub walk-goes-on : (ltb k before && (ltb 0 c && ltb c bound)) ≡ true → Walked bound ts k (i + 1)
     walk-goes-on e =
         record {
-          within = omega arith;
+          searching = search-goes-on (h .searching) l (right-by _ _ _ refl refl refl e);
           key = ek ∙ sym (key-before-next ts i);
           in-range = below _ _ refl e;
-          right = below-more _ i (h .right) (right-by _ _ _ refl refl refl e);
         }
       where
         below : (x y : Bool) → ltb k before ≡ x → (x && y) ≡ true → k ≤ keys

@@ -1,22 +1,20 @@
 -- What the model means: `series` of eight numbers, and the model's Euclid gives the monic greatest common divisor. Assumes nothing.
-use mathlib.Core.Path.{_≡_, refl, sym, ap, ap₂, _∙_, subst, fun-ext}
-use mathlib.Core.Bool.{Bool, true, false}
+use mathlib.Core.Path.{_≡_, refl, sym, ap, _∙_, subst, fun-ext}
 use mathlib.Core.List.{List}
 use Prim.Native.Nat.{ℕ, zero, suc, _+_, _-_, _*_, _%_, _≤_, _<_}
-use native.Mathlib.Decide.{ℕ-discrete, decLe, decLt}
-use native.Mathlib.Nat.{mod-eq-of-lt, mod-lt, mul-zero as mul-zeroₙ, zero-mod}
+use native.Mathlib.Decide.{ℕ-discrete, decLt}
+use native.Mathlib.Nat.{mod-eq-of-lt, mul-zero as mul-zeroₙ, zero-mod}
 use native.Mathlib.Omega.{arith}
-use lib.Dec.{eqb}
-use borrow.Author.Tests.{eqb-true, eqb-false, eq-eqb, ne-eqb}
-use lib.ListN.{length, getD}
-use Rattle.algebra.specs.Ring.{CommRing, neg-mul, neg-zero, mul-zero}
-use Rattle.algebra.specs.Series.{Seq, zeroS, conv}
-use Rattle.algebra.specs.Degree.{Ends, Top, conv-ends}
+use borrow.Author.Tests.{eq-eqb, ne-eqb}
+use lib.ListN.{getD}
+use Rattle.algebra.specs.Ring.{CommRing, neg-zero, mul-zero}
+use Rattle.algebra.specs.Series.{conv}
+use Rattle.algebra.specs.Degree.{Ends, conv-ends}
 use Rattle.algebra.specs.Mono.{mono, mono-low, mono-high, mono-ends}
 use Rattle.algebra.specs.GreatestCommon.{GreatestCommon, Associate, greatest-swap, greatest-zero, greatest-first, greatest-second}
-use Rattle.algebra.specs.Univariate.{Monic, Poly, PolyD, less, greatest-less, over-lead, over-lead-associate}
+use Rattle.algebra.specs.Univariate.{Poly, PolyD, less, greatest-less, over-lead, over-lead-associate}
 use Rattle.field.specs.Fp.{Fp, el, add, mul, neg}
-use Rattle.field.specs.FpLaws.{Fp-path, el-val, el-mod, el-inj, el-add, el-mul, el-neg, val-lt, val-of-el, val-el, el-nonzero}
+use Rattle.field.specs.FpLaws.{el-val, el-mod, el-inj, el-mul, el-nonzero}
 use Rattle.field.specs.Prime.{Prime}
 use Rattle.field.specs.Fp.{inv}
 use Rattle.field.specs.InverseLaws.{mul-inv}
@@ -25,9 +23,9 @@ use Rattle.field.specs.Residues.{Residues}
 use Rattle.field.specs.Modulo.{Modulo}
 use Rattle.field.specs.Link.{minus-times-el}
 use Rattle.poly.specs.Coefficients.{Eight, series}
-use Rattle.poly.specs.Models.Cells.{cells, cells-length, cells-at, cells-past, past-end}
-use Rattle.poly.specs.Models.Eight.{size-to, size, scaled, monic, less-at, subtract, remainder, euclid, gcd}
-use Rattle.poly.specs.Laws.EightNumbers.{Clear, Leads, eight-clear, size-clear, size-lead, size-below, size-le, size-is, scaled-eight, less-low, less-high, subtract-eight, subtract-clear, remainder-eight, remainder-clear}
+use Rattle.poly.specs.Models.Cells.{cells, cells-at, cells-past, past-end}
+use Rattle.poly.specs.Models.Eight.{size, scaled, monic, less-at, subtract, remainder, euclid, gcd}
+use Rattle.poly.specs.Laws.EightNumbers.{Clear, Leads, eight-clear, size-clear, size-lead, size-below, size-le, size-is, scaled-eight, less-low, less-high, subtract-eight, remainder-eight, remainder-clear}
 
 pub clear-ends : (p : ℕ) (h : 0 < p) (n : ℕ) (f : List ℕ) → Clear n f → Ends (Residues p h) n (series p f)
 clear-ends p h n f c i l = ap (λ (x : ℕ). el p x) (c i l)

@@ -1,17 +1,15 @@
 -- The model on eight numbers, as numbers: what stays below p, what is clear, and how sizes fall. Assumes nothing.
 use mathlib.Core.Path.{_≡_, refl, sym, ap, ap₂, _∙_, subst}
-use mathlib.Core.Bool.{Bool, true, false}
 use mathlib.Core.List.{List}
 use Prim.Native.Nat.{ℕ, zero, suc, _+_, _-_, _*_, _%_, _≤_, _<_}
 use native.Mathlib.Decide.{ℕ-discrete, decLe, decLt}
-use native.Mathlib.Nat.{mod-lt, mod-self, zero-mod, mul-one, mul-zero, zero-mul}
+use native.Mathlib.Nat.{mod-lt, mod-self, zero-mod, mul-one, mul-zero}
 use native.Mathlib.Omega.{arith}
-use lib.Dec.{eqb, ltb}
-use borrow.Author.Tests.{eqb-true, eqb-false, eq-eqb, ne-eqb, lt-ltb, le-ltb}
-use lib.ListN.{length, getD}
+use borrow.Author.Tests.{eq-eqb, ne-eqb, lt-ltb, le-ltb}
+use lib.ListN.{getD}
 use Rattle.poly.specs.Coefficients.{Eight}
 use Rattle.poly.specs.Models.Cells.{cells, cells-length, cells-at, cells-past, past-end}
-use Rattle.poly.specs.Models.Eight.{size-to, size, scaled, less-at, subtract, remainder}
+use Rattle.poly.specs.Models.Eight.{size-to, scaled, less-at, subtract, remainder}
 
 -- zeros from n on
 abbrev pub Clear : ℕ → List ℕ → Type 0

@@ -1,12 +1,12 @@
 -- How the code goes on in the model: one step of the remainder, one turn of Euclid's algorithm. Assumes nothing.
 use mathlib.Core.Path.{_≡_, refl, sym, ap, _∙_, subst}
 use mathlib.Core.List.{List}
-use Prim.Native.Nat.{ℕ, zero, suc, _+_, _-_, _*_, _%_, _≤_, _<_}
+use Prim.Native.Nat.{ℕ, zero, suc, _+_, _-_, _≤_, _<_}
 use native.Mathlib.Omega.{arith}
-use lib.ListN.{length, getD}
+use lib.ListN.{getD}
 use Rattle.field.specs.Prime.{Prime}
 use Rattle.poly.specs.Coefficients.{Eight}
-use Rattle.poly.specs.Models.Eight.{size-to, size, monic, subtract, remainder, euclid}
+use Rattle.poly.specs.Models.Eight.{size, monic, subtract, remainder, euclid}
 use Rattle.poly.specs.Laws.EightNumbers.{size-lead, size-le}
 use Rattle.poly.specs.Laws.EightMeaning.{euclid-next, turn-smaller}
 

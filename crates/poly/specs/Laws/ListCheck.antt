@@ -1,21 +1,18 @@
 -- The check of one list: what a term's test says, and what the search of the first wrong term settles; without a modulus the bound is one
 -- that no coefficient reaches. Assumes nothing.
-use mathlib.Core.Path.{_≡_, refl, sym, ap, _∙_, subst}
-use mathlib.Core.Logic.{_⊎_, inl, inr}
-use mathlib.Core.Bool.{Bool, true, false, _&&_}
+use mathlib.Core.Path.{_≡_, refl, ap}
+use mathlib.Core.Logic.{inl, inr}
 use mathlib.Core.List.{List, map}
-use Prim.Native.Nat.{ℕ, zero, suc, _+_, _%_, _≤_, _<_}
+use Prim.Native.Nat.{ℕ, zero, suc, _+_, _≤_, _<_}
 use native.Mathlib.Omega.{arith}
-use lib.Dec.{ltb}
-use borrow.Author.Tests.{ltb-true, ltb-false}
 use lib.ListN.{length, getD, length-map, List·getD-map}
 use Rattle.field.specs.Numbers.{FIRST_COUNT, FIRST_TERM}
-use Rattle.field.specs.Refusal.{first, fault, none, Tested, refused, passed}
-use Rattle.field.specs.RefusalLaws.{placed-never, tested-line, tested-past, tested-end}
+use Rattle.field.specs.Refusal.{fault, none, Tested, refused, passed}
+use Rattle.field.specs.RefusalLaws.{OnePlaceEach, whole-one-place, first-one-place, placed-never, tested-line, tested-past, tested-end, tested-determined}
 use Rattle.field.specs.declared.Fault.{Fault}
 use Rattle.poly.specs.Keys.{keys}
 use Rattle.poly.specs.Terms.{key-of, coefficient-of}
-use Rattle.poly.specs.Lists.{most-terms, Count, WrongKey, above, not-below, WrongTerm, wrong-key, coefficient-zero, WrongModulo, wrong-term, coefficient-large}
+use Rattle.poly.specs.Lists.{most-terms, Count, WrongKey, above, not-below, WrongTerm, wrong-key, coefficient-zero, WrongModulo, wrong-term, coefficient-large, of-lists}
 use Rattle.poly.specs.LeadingPart.{of-list}
 use Rattle.poly.specs.Models.Search.{Searched}
 use Rattle.poly.specs.Models.Lists.{of-terms, key-before}
@@ -91,3 +88,11 @@ module _ (count term bound : ℕ) (ts : List ℕ) where
 
     pub list-right : length ts ≤ place → {f : Fault} → f ≡ none → Tested (of-terms count term bound ts) f
     list-right l e = tested-past (placed-never counted) (tested-past (searched-none (WrongModulo bound ts) (length ts) beyond place s l) (tested-end e))
+
+-- each line has one place
+pub lists-one-place : (p : ℕ) (A B : List ℕ) → OnePlaceEach (of-lists p A B)
+lists-one-place p A B = (whole-one-place _, (whole-one-place _, (first-one-place _, (whole-one-place _, (first-one-place _, tt)))))
+
+-- the promise of the list check settles its fault
+pub list-check-determined : (ts : List ℕ) (f g : Fault) → Tested (of-list ts) f → Tested (of-list ts) g → f ≡ g
+list-check-determined ts = tested-determined (of-list ts) (whole-one-place _, (first-one-place _, tt))

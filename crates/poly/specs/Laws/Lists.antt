@@ -1,6 +1,6 @@
 -- What the tests of a list give: where no place is the first wrong one none is wrong, keys of which none is wrong fall,
 -- and then no power of x is above the first term's. Assumes nothing.
-use mathlib.Core.Path.{_≡_, refl, ap}
+use mathlib.Core.Path.{refl, ap}
 use mathlib.Core.List.{List, [], _∷_, map}
 use Prim.Native.Nat.{ℕ, zero, suc, _/_, _≤_, _<_}
 use native.Mathlib.Decide.{ℕ-discrete, decLe}
@@ -11,7 +11,7 @@ use Rattle.field.specs.Refusal.{first}
 use Rattle.poly.specs.Keys.{keys}
 use Rattle.poly.specs.Terms.{key-of, coefficient-of, terms-of}
 use Rattle.poly.specs.Value.{x-degree}
-use Rattle.poly.specs.Lists.{WrongKey, above, not-below, WrongTerm, wrong-key, coefficient-zero, WrongModulo, wrong-term, coefficient-large}
+use Rattle.poly.specs.Lists.{WrongKey, above, not-below, wrong-key, coefficient-zero, WrongModulo, wrong-term, coefficient-large}
 use Rattle.poly.specs.Laws.Value.{WithinX}
 
 -- no first wrong place: no wrong place

@@ -1,10 +1,10 @@
 -- The value of a list of terms is the value of its polynomial, so the value of a product is the product of the values; where it ends. Assumes nothing.
-use mathlib.Core.Path.{_≡_, refl, sym, _∙_, ap, ap₂}
+use mathlib.Core.Path.{_≡_, refl, _∙_, ap₂}
 use mathlib.Core.List.{[], _∷_}
 use Prim.Native.Nat.{ℕ, suc, _≤_}
 use native.Mathlib.Omega.{arith}
 use Rattle.algebra.specs.Ring.{CommRing}
-use Rattle.algebra.specs.Series.{Seq, SeriesR, S4}
+use Rattle.algebra.specs.Series.{SeriesR, S4}
 use Rattle.algebra.specs.Degree.{Ends, Finite, SeriesD}
 use Rattle.algebra.specs.Mono.{mono-off}
 use Rattle.algebra.specs.Divides.{mono-fin}

@@ -1,11 +1,10 @@
 -- The model of a polynomial in x on eight numbers modulo p, x^0 first: degree, scaling, remainder, and Euclid's algorithm as the code does it.
-use mathlib.Core.Bool.{Bool, true, false}
+use mathlib.Core.Bool.{true, false}
 use mathlib.Core.List.{List}
 use Prim.Native.Nat.{ℕ, zero, suc, _+_, _-_, _*_, _%_}
 use lib.Dec.{eqb, ltb}
 use lib.ListN.{getD}
-use Rattle.field.specs.Fp.{Fp, el}
-use Rattle.field.specs.Fp.{inv}
+use Rattle.field.specs.Fp.{el, inv}
 use Rattle.poly.specs.Models.Cells.{cells}
 
 -- the place after the highest number that is not 0, among the first n; 0 where all are 0

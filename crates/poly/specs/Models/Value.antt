@@ -1,5 +1,4 @@
 -- The model of the value of a term list at a point, as the code sums it up. Assumes nothing.
-use mathlib.Core.Path.{_≡_}
 use mathlib.Core.List.{List, [], _∷_}
 use Prim.Native.Nat.{ℕ, _+_, _*_, _%_, _<_}
 use lib.ListN.{length, getD, set, replicate}

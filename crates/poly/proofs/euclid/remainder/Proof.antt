@@ -1,0 +1,81 @@
+-- `poly::euclid::remainder` meets its contract: the loop keeps the model's answer on the powers that are left. Assumes nothing.
+use borrow.Author.Needs.{needs}
+use mathlib.Core.Path.{_≡_, refl, sym, ap, _∙_, subst}
+use Prim.Native.Nat.{ℕ, _+_, _-_, _≤_, _<_}
+use native.Mathlib.Omega.{arith}
+use lib.ListN.{getD}
+use mathlib.Core.List.{List}
+use Rattle.poly.specs.Coefficients.{Eight}
+use Rattle.poly.specs.Models.Eight.{subtract, remainder}
+use Rattle.poly.specs.Laws.EightNumbers.{subtract-eight}
+use Rattle.poly.specs.Laws.EightTurns.{remainder-next, remainder-end}
+use Rattle.poly.proofs.euclid.remainder.Statement.{statement}
+use Rattle.poly.proofs.euclid.remainder.Tie as tie
+
+abbrev Inv-loop : tie.InvT-loop
+Inv-loop p m g r₀ k₀ r k = (k + m ≤ 8) × Eight p r × (remainder p m g k₀ r₀ ≡ remainder p m g k r)
+
+abbrev μ-loop : tie.MeasureT-loop
+μ-loop p m g r₀ k₀ r k = k
+
+sub-k : tie.Need-sub-k Inv-loop μ-loop
+sub-k c = search needs
+
+loop-holds : tie.Need-loop-holds Inv-loop μ-loop
+loop-holds c = (omega arith, c .pre .numbers, refl)
+
+sub-k-2 : tie.Need-sub-k-2 Inv-loop μ-loop
+sub-k-2 c = search needs
+
+add-c : tie.Need-add-c Inv-loop μ-loop
+add-c c = search needs
+
+mul-c : tie.Need-mul-c Inv-loop μ-loop
+mul-c c = search needs
+
+array-read-c : tie.Need-array-read-c Inv-loop μ-loop
+array-read-c c = search needs
+
+subtract-requires : tie.Need-subtract-requires Inv-loop μ-loop
+subtract-requires c κs =
+    let l = c .before .loop in
+    record { below = l .inv .1 .below (l .k - 1 + c .before .before .args .m); power = omega arith }
+
+loop-less : tie.Need-loop-less Inv-loop μ-loop
+loop-less c = search needs
+
+loop-again : tie.Need-loop-again Inv-loop μ-loop
+loop-again c =
+    let l = c .before .before .loop in
+    let s = c .before .before .before in
+    let a = s .args in
+    let v = getD (l .r) (l .k - 1 + a .m) 0 in
+    let pos : 0 < a .p = omega (arith, l .inv .1 .below 0) in (
+      omega arith,
+      subst (λ (u : List ℕ). Eight (a .p) u) (sym (c .subtract .ensures)) (subtract-eight (a .p) pos v (l .k - 1) (l .r) (a .g) (l .inv .1)),
+      l .inv .2 ∙ remainder-next (a .p) (a .m) (a .g) (l .k) (l .r) (omega arith)
+          ∙ ap (λ (u : List ℕ). remainder (a .p) (a .m) (a .g) (l .k - 1) u) (sym (c .subtract .ensures)),
+    )
+
+returns : tie.Need-returns Inv-loop μ-loop
+returns c =
+    let l = c .before .loop in
+    let a = c .before .before .args in
+    sym (l .inv .2 ∙ remainder-end (a .p) (a .m) (a .g) (l .k) (l .r) (omega arith))
+
+pub remainder-spec : {M : Type 1} → statement M
+remainder-spec =
+    tie.close
+    (tie.spec
+    Inv-loop
+    μ-loop
+    sub-k
+    loop-holds
+    sub-k-2
+    add-c
+    mul-c
+    array-read-c
+    subtract-requires
+    loop-less
+    loop-again
+    returns)

@@ -1,0 +1,68 @@
+-- `poly::euclid::scaled` meets its contract: the loop fills the array. Assumes nothing.
+use borrow.Author.Needs.{needs}
+use mathlib.Core.Path.{_≡_, refl}
+use Prim.Native.Nat.{_-_, _*_, _%_, _≤_}
+use native.Mathlib.Omega.{arith}
+use lib.ListN.{length, getD}
+use Rattle.poly.specs.Models.Cells.{Filled, filled-start, filled-next, filled-end}
+use Rattle.poly.specs.Models.Eight.{scaled}
+use Rattle.poly.proofs.euclid.scaled.Statement.{statement}
+use Rattle.poly.proofs.euclid.scaled.Tie as tie
+
+abbrev Inv-loop : tie.InvT-loop
+Inv-loop p c f r₀ i₀ r i = (i ≤ 8) × (length r₀ ≡ 8) × Filled (λ j. (c * getD f j 0) % p) r₀ i r
+
+abbrev μ-loop : tie.MeasureT-loop
+μ-loop p c f r₀ i₀ r i = 8 - i
+
+loop-holds : tie.Need-loop-holds Inv-loop μ-loop
+loop-holds c = (omega arith, refl, filled-start _ _ 0 (λ j l. absurd (omega arith)))
+
+mul-times : tie.Need-mul-times Inv-loop μ-loop
+mul-times c = search needs
+
+array-read-times : tie.Need-array-read-times Inv-loop μ-loop
+array-read-times c = search needs
+
+times-requires : tie.Need-times-requires Inv-loop μ-loop
+times-requires c κs = omega arith
+
+mul-r : tie.Need-mul-r Inv-loop μ-loop
+mul-r c = search needs
+
+array-write-r : tie.Need-array-write-r Inv-loop μ-loop
+array-write-r c = search needs
+
+add-i : tie.Need-add-i Inv-loop μ-loop
+add-i c = search needs
+
+loop-less : tie.Need-loop-less Inv-loop μ-loop
+loop-less c = search needs
+
+loop-again : tie.Need-loop-again Inv-loop μ-loop
+loop-again c =
+    let l = c .before .before .loop in
+    (omega arith, l .inv .1, filled-next _ _ (l .i) (l .r) _ (l .inv .2) (omega arith) (c .times .ensures))
+
+returns : tie.Need-returns Inv-loop μ-loop
+unfolding scaled
+returns c =
+    let l = c .before .loop in
+    filled-end _ _ 8 (l .i) (l .r) (l .inv .2) (l .inv .1) (omega arith)
+
+pub scaled-spec : {M : Type 1} → statement M
+scaled-spec =
+    tie.close
+    (tie.spec
+    Inv-loop
+    μ-loop
+    loop-holds
+    mul-times
+    array-read-times
+    times-requires
+    mul-r
+    array-write-r
+    add-i
+    loop-less
+    loop-again
+    returns)

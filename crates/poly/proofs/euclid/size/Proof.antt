@@ -1,0 +1,67 @@
+-- `poly::euclid::size` meets its contract: the loop keeps the model's answer. Assumes nothing.
+use borrow.Author.Needs.{needs}
+use mathlib.Core.Path.{_≡_, refl, sym, _∙_}
+use Prim.Native.Nat.{_-_, _≤_}
+use native.Mathlib.Omega.{arith}
+use Rattle.poly.specs.Models.Eight.{size-to, size}
+use Rattle.poly.specs.Laws.EightNumbers.{size-down, size-found, size-none}
+use Rattle.poly.proofs.euclid.size.Statement.{statement}
+use Rattle.poly.proofs.euclid.size.Tie as tie
+
+abbrev Inv-loop : tie.InvT-loop
+Inv-loop f n₀ n = (n ≤ 8) × (size f ≡ size-to n f)
+
+abbrev μ-loop : tie.MeasureT-loop
+μ-loop f n₀ n = n
+
+loop-holds : tie.Need-loop-holds Inv-loop μ-loop
+loop-holds c = (omega arith, refl)
+
+sub-if1 : tie.Need-sub-if1 Inv-loop μ-loop
+sub-if1 c = search needs
+
+mul-if1 : tie.Need-mul-if1 Inv-loop μ-loop
+mul-if1 c = search needs
+
+array-read-if1 : tie.Need-array-read-if1 Inv-loop μ-loop
+array-read-if1 c = search needs
+
+returns : tie.Need-returns Inv-loop μ-loop
+returns c =
+    let l = c .before .before .loop in
+    let f = c .before .before .before .args .t1 in
+    sym (l .inv .1 ∙ size-found (l .n) f (omega arith) (c .if1 .taken))
+
+sub-n : tie.Need-sub-n Inv-loop μ-loop
+sub-n c = search needs
+
+loop-less : tie.Need-loop-less Inv-loop μ-loop
+loop-less c = search needs
+
+loop-again : tie.Need-loop-again Inv-loop μ-loop
+loop-again c =
+    let l = c .before .before .loop in
+    let f = c .before .before .before .args .t1 in
+    (omega arith, l .inv .1 ∙ size-down (l .n) f (omega arith) (c .if1 .left))
+
+returns-2 : tie.Need-returns-2 Inv-loop μ-loop
+returns-2 c =
+    let l = c .before .loop in
+    let f = c .before .before .args .t1 in
+    sym (l .inv .1 ∙ size-none (l .n) f (omega arith))
+
+pub size-spec : {M : Type 1} → statement M
+size-spec =
+    tie.close
+    (tie.spec
+    Inv-loop
+    μ-loop
+    loop-holds
+    sub-if1
+    mul-if1
+    array-read-if1
+    returns
+    sub-n
+    loop-less
+    loop-again
+    returns-2)

@@ -1,0 +1,76 @@
+-- `poly::list::leading_length` meets its contract. The loop keeps that no term before i has a lower power of x; the measure is what is left
+-- of the list. Assumes nothing.
+use Prim.Native.Nat.{_-_}
+use native.Mathlib.Omega.{arith}
+use lib.ListN.{length}
+use Rattle.poly.specs.Models.Search.{Searching}
+use Rattle.poly.specs.Models.Lists.{Lower}
+use Rattle.poly.specs.Laws.Search.{search-begins, search-goes-on, search-stops, search-ends}
+use borrow.Author.Needs.{needs}
+use Rattle.poly.proofs.list.leading_length.Statement.{statement}
+use Rattle.poly.proofs.list.leading_length.Tie as tie
+
+abbrev Inv-loop : tie.InvT-loop
+Inv-loop terms top i₀ i = Searching (Lower terms) (length terms) i
+
+abbrev μ-loop : tie.MeasureT-loop
+μ-loop terms top i₀ i = length terms - i
+
+shared-slice-read-of : tie.Need-shared-slice-read-of Inv-loop μ-loop
+shared-slice-read-of c = search needs
+
+of-requires : tie.Need-of-requires Inv-loop μ-loop
+of-requires c κs = search needs
+
+x-requires : tie.Need-x-requires Inv-loop μ-loop
+x-requires c κs = search needs
+
+loop-holds : tie.Need-loop-holds Inv-loop μ-loop
+loop-holds c = search-begins
+
+mul-of : tie.Need-mul-of Inv-loop μ-loop
+mul-of c = search needs
+
+shared-slice-read-of-2 : tie.Need-shared-slice-read-of-2 Inv-loop μ-loop
+shared-slice-read-of-2 c = search needs
+
+of-requires-2 : tie.Need-of-requires-2 Inv-loop μ-loop
+of-requires-2 c κs = search needs
+
+x-requires-2 : tie.Need-x-requires-2 Inv-loop μ-loop
+x-requires-2 c κs = search needs
+
+returns : tie.Need-returns Inv-loop μ-loop
+returns c = search-stops (c .before .before .before .before .before .loop .inv) (omega arith)
+
+add-i : tie.Need-add-i Inv-loop μ-loop
+add-i c = search needs
+
+loop-less : tie.Need-loop-less Inv-loop μ-loop
+loop-less c = search needs
+
+loop-again : tie.Need-loop-again Inv-loop μ-loop
+loop-again c = search-goes-on (c .before .before .before .before .before .loop .inv) (c .before .before .before .before .loop-test .taken) (λ lower. omega arith)
+
+returns-2 : tie.Need-returns-2 Inv-loop μ-loop
+returns-2 c = search-ends (c .before .loop .inv) (c .loop-test .left)
+
+pub leading-length-spec : {M : Type 1} → statement M
+leading-length-spec =
+    tie.close
+    (tie.spec
+    Inv-loop
+    μ-loop
+    shared-slice-read-of
+    of-requires
+    x-requires
+    loop-holds
+    mul-of
+    shared-slice-read-of-2
+    of-requires-2
+    x-requires-2
+    returns
+    add-i
+    loop-less
+    loop-again
+    returns-2)

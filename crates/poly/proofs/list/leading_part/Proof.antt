@@ -1,0 +1,43 @@
+-- `poly::list::leading_part` meets its contract: the head that it hands back ends where the first lower power of x stands. Assumes nothing.
+use mathlib.Core.Path.{sym}
+use lib.Seq.{length-take-le}
+use Rattle.poly.specs.Laws.LeadingPart.{leading-refused, leading-some, leading-answered}
+use borrow.Author.Needs.{needs}
+use Rattle.poly.proofs.list.leading_part.Statement.{statement}
+use Rattle.poly.proofs.list.leading_part.Tie as tie
+
+check-list-requires : tie.Need-check-list-requires
+check-list-requires c κs = search needs
+
+slice-aggregate-result : tie.Need-slice-aggregate-result
+slice-aggregate-result c = search needs
+
+returns : tie.Need-returns
+returns c =
+    let tested = c .before .before .before in
+    leading-refused (tested .before .before .args .terms .now) _ (tested .check-list .ensures) (c .before .if1 .taken)
+
+leading-length-requires : tie.Need-leading-length-requires
+leading-length-requires c κs =
+    let tested = c .before .before in
+    leading-some (tested .before .before .args .terms .now) _ (tested .check-list .ensures) (c .if1 .left)
+
+slice-aggregate-result-2 : tie.Need-slice-aggregate-result-2
+slice-aggregate-result-2 c = sym (length-take-le _ _ (c .before .leading-length .ensures .within))
+
+returns-2 : tie.Need-returns-2
+returns-2 c =
+    let found = c .before in
+    let tested = found .before .before .before in
+    leading-answered (tested .before .before .args .terms .now) _ (tested .check-list .ensures) (found .before .if1 .left) _ (found .leading-length .ensures)
+
+pub leading-part-spec : {M : Type 1} → statement M
+leading-part-spec =
+    tie.close
+    (tie.spec
+    check-list-requires
+    slice-aggregate-result
+    returns
+    leading-length-requires
+    slice-aggregate-result-2
+    returns-2)

@@ -1,0 +1,87 @@
+-- `poly::value::powers` meets its contract: the loop fills the table from 1 on. Assumes nothing.
+use borrow.Author.Needs.{needs}
+use mathlib.Core.List.{List}
+use mathlib.Core.Path.{_≡_, refl, ap, _∙_}
+use Prim.Native.Nat.{ℕ, _-_, _*_, _%_, _≤_}
+use native.Mathlib.Omega.{arith}
+use lib.ListN.{length, replicate}
+use Rattle.poly.specs.Models.Cells.{Filled, filled-start, filled-next, filled-end}
+use Rattle.poly.specs.Models.Powers.{power, powers}
+use Rattle.poly.specs.Laws.Powers.{power-start, power-next}
+use Rattle.poly.proofs.value.powers.Statement.{statement}
+use Rattle.poly.proofs.value.powers.Tie as tie
+
+abbrev Inv-loop : tie.InvT-loop
+Inv-loop p y r₀ i₀ r i = (1 ≤ i) × (i ≤ 8) × (length r₀ ≡ 8) × Filled (power p y) r₀ i r
+
+abbrev μ-loop : tie.MeasureT-loop
+μ-loop p y r₀ i₀ r i = 8 - i
+
+ones : List ℕ
+ones = replicate 8 1
+
+loop-holds : tie.Need-loop-holds Inv-loop μ-loop
+unfolding ones
+loop-holds c =
+    let a = c .args in
+    (omega arith, omega arith, refl, filled-start (power (a .p) (a .y)) ones 1 (power-start (a .p) (a .y) ones refl))
+
+sub-times : tie.Need-sub-times Inv-loop μ-loop
+sub-times c = search needs
+
+mul-times : tie.Need-mul-times Inv-loop μ-loop
+mul-times c = search needs
+
+array-read-times : tie.Need-array-read-times Inv-loop μ-loop
+array-read-times c = search needs
+
+times-requires : tie.Need-times-requires Inv-loop μ-loop
+times-requires c κs = omega arith
+
+mul-r : tie.Need-mul-r Inv-loop μ-loop
+mul-r c = search needs
+
+array-write-r : tie.Need-array-write-r Inv-loop μ-loop
+array-write-r c = search needs
+
+add-i : tie.Need-add-i Inv-loop μ-loop
+add-i c = search needs
+
+loop-less : tie.Need-loop-less Inv-loop μ-loop
+loop-less c = search needs
+
+loop-again : tie.Need-loop-again Inv-loop μ-loop
+loop-again c =
+    let l = c .before .before .loop in
+    let a = c .before .before .before .args in (
+      omega arith,
+      omega arith,
+      l .inv .2,
+      filled-next (power (a .p) (a .y)) _ (l .i) (l .r) _ (l .inv .3) (omega arith)
+          (c .times .ensures ∙ ap (λ (x : ℕ). (x * a .y) % a .p) (l .inv .3 .done (l .i - 1) (omega arith)) ∙ power-next (a .p) (a .y) (l .i) (l .inv .0)),
+    )
+
+returns : tie.Need-returns Inv-loop μ-loop
+unfolding powers
+returns c =
+    let l = c .before .loop in
+    let a = c .before .before .args in
+    filled-end (power (a .p) (a .y)) _ 8 (l .i) (l .r) (l .inv .3) (l .inv .2) (omega arith)
+
+pub powers-spec : {M : Type 1} → statement M
+powers-spec =
+    tie.close
+    (tie.spec
+    Inv-loop
+    μ-loop
+    loop-holds
+    sub-times
+    mul-times
+    array-read-times
+    times-requires
+    mul-r
+    array-write-r
+    add-i
+    loop-less
+    loop-again
+    returns)

@@ -1,0 +1,41 @@
+-- The image of two polynomials at a point, over any field: it has the degree that it says, there is one at most, and where the second
+-- polynomial's value is 0 it is the first one's value made monic. Assumes nothing.
+use mathlib.Core.Path.{_≡_, sym, subst}
+use Prim.Native.Nat.{ℕ}
+use Rattle.algebra.specs.Series.{Seq, SeriesR}
+use Rattle.algebra.specs.Degree.{Top}
+use Rattle.algebra.specs.Field.{Field}
+use Rattle.algebra.specs.GreatestCommon.{GreatestCommon, greatest-zero, greatest-first}
+use Rattle.algebra.specs.Univariate.{Poly, PolyD, monic-top, over-lead, over-lead-monic, over-lead-associate, monic-greatest-unique}
+use Rattle.poly.specs.Terms.{Polynomial}
+use Rattle.poly.specs.Value.{Point, value, x-degree}
+use Rattle.poly.specs.Image.{Bad, Image}
+use Rattle.poly.specs.Laws.Value.{WithinX, value-ends}
+
+module _ (K : Field) (A B : Polynomial K) where
+  open Field K using (ring as R)
+
+  pub image-top : (at : Point R) (e : ℕ) (U : Seq R) → Image K A B at e U → Top R e U
+  image-top at e U i = monic-top K e U (i .monic)
+
+  -- a point has one image
+  pub image-unique : (at : Point R) (e f : ℕ) (U W : Seq R) → Image K A B at e U → Image K A B at f W → (e ≡ f) × (U ≡ W)
+  image-unique at e f U W i j = monic-greatest-unique K e f _ _ U W (i .monic) (j .monic) (i .greatest) (j .greatest)
+
+  -- at a good point A keeps its degree
+  pub good-top : (at : Point R) → WithinX K (x-degree R A) A → ¬ Bad K A B at → Top R (x-degree R A) (value R A at)
+  good-top at w g = record { nonzero = g; ends = value-ends K (x-degree R A) A at w }
+
+  -- if B is 0 there, the image is A's value made monic
+  pub image-of-zero : (at : Point R) (e : ℕ) (U : Seq R) → WithinX K (x-degree R A) A → Image K A B at e U → value R B at ≡ SeriesR R .𝟘
+      → (e ≡ x-degree R A) × (U ≡ over-lead K (x-degree R A) (value R A at))
+  image-of-zero at e U w i z =
+      let n = x-degree R A in
+      let a = value R A at in
+      let top = good-top at w (i .good) in
+      let alone : GreatestCommon (Poly K) (PolyD K) a (SeriesR R .𝟘) (over-lead K n a) =
+      greatest-first (Poly K) (PolyD K) (over-lead K n a) a (SeriesR R .𝟘) (over-lead K n a)
+      (record { to = over-lead-associate K n a top .from; from = over-lead-associate K n a top .to })
+      (greatest-zero (Poly K) (PolyD K) (over-lead K n a)) in
+      monic-greatest-unique K e n a (value R B at) U (over-lead K n a) (i .monic) (over-lead-monic K n a top) (i .greatest)
+      (subst (λ (b : Seq R). GreatestCommon (Poly K) (PolyD K) a b (over-lead K n a)) (sym z) alone)

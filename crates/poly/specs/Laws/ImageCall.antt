@@ -1,0 +1,76 @@
+-- The image service: what its inputs are where no line applies, its answers by the model, and that its promise settles the record. Assumes nothing.
+use mathlib.Core.Path.{_≡_, refl, sym, ap, _∙_, subst}
+use mathlib.Core.Bool.{Bool-discrete}
+use mathlib.Core.HLevel.{hedberg}
+use mathlib.Core.List.{List}
+use Prim.Native.Nat.{ℕ}
+use lib.Seq.{ext-getD}
+use Rattle.field.specs.Prime.{Prime}
+use Rattle.field.specs.Modulo.{Modulo}
+use Rattle.field.specs.Moduli.{Listed}
+use Rattle.field.specs.ModuliLaws.{listed-prime}
+use Rattle.field.specs.Refusal.{none, Passes, Tested}
+use Rattle.field.specs.RefusalLaws.{OnePlaceEach, whole-one-place, first-one-place, one-place-append, refuses-determined, not-passes-and-refuses, passes-front, passes-back, tested-passes, tested-refuses}
+use Rattle.field.specs.declared.Fault.{Fault}
+use Rattle.poly.specs.declared.ImageRecord.{ImageRecord}
+use Rattle.poly.specs.Terms.{Polynomial, terms-of}
+use Rattle.poly.specs.Value.{Point}
+use Rattle.poly.specs.Lists.{of-lists}
+use Rattle.poly.specs.ImageCall.{ImageCall, of-point, image-table, point-of, refusal, PointAnswer, bad, good, ImageAnswer, refused, answered}
+use Rattle.poly.specs.Models.Image.{image-call, Fine, image-of}
+use Rattle.poly.specs.Laws.EightMeaning.{series-injective}
+use Rattle.poly.specs.Laws.Image.{image-unique}
+use Rattle.poly.specs.Laws.ImageModel.{image-of-answers}
+use Rattle.poly.specs.Laws.ListCheck.{lists-one-place}
+use Rattle.poly.specs.Laws.PointCheck.{point-three, point-below}
+use Rattle.poly.specs.Laws.RightLists.{lists-are-right}
+
+module _ (p : ℕ) (A B point : List ℕ) where
+  pub image-fine : Passes (image-table (image-call p A B point)) → Fine p A B point
+  image-fine h =
+      let back = passes-back (of-lists p A B) (of-point p point) h in
+      record { lists = passes-front (of-lists p A B) (of-point p point) h; three = point-three p point back; below = point-below p point back }
+
+  -- a service that tested its lines and answers by the fault's number
+  module _ (f : Fault) (t : Tested (image-table (image-call p A B point)) f) where
+    pub image-refused : ¬ (f .number ≡ 0) → {r : ImageRecord} → r ≡ refusal f → ImageAnswer (image-call p A B point) r
+    image-refused n e = rw e (refused f (tested-refuses (image-table (image-call p A B point)) f t n))
+
+    pub image-passes : f .number ≡ 0 → Passes (image-table (image-call p A B point))
+    image-passes z = tested-passes (image-table (image-call p A B point)) tt f t z .0
+
+    pub image-answered : f .number ≡ 0 → {r : ImageRecord} → r ≡ image-of p A B point → ImageAnswer (image-call p A B point) r
+    image-answered z e =
+        let pass = image-passes z in
+        let right = lists-are-right p A B (image-fine pass .lists) in
+        rw e (answered pass (right .is-listed) (image-of p A B point) (image-of-answers (listed-prime (right .is-listed)) point A B (right .first) (right .second)))
+
+-- a point settles its answer
+pub point-determined : (p : ℕ) (P : Prime p) (A B : Polynomial (Modulo p P)) (at : Point (Modulo p P .ring)) (r q : ImageRecord)
+    → PointAnswer p P A B at r → PointAnswer p P A B at q → r ≡ q
+point-determined p P A B at r q (bad x) (bad y) = refl
+point-determined p P A B at r q (bad x) (good d u h i) = absurd (i .good x)
+point-determined p P A B at r q (good d u h i) (bad y) = absurd (i .good y)
+point-determined p P A B at r q (good d u h i) (good e v k j) =
+    let w = image-unique (Modulo p P) A B at d e _ _ i j in
+    let c : u ≡ v = ext-getD 0 u v (h .eight ∙ sym (k .eight)) (λ n l. series-injective p u v h k (w .1) n) in
+    λ i. record { fault = none; coefficients = c i; degree = w .0 i }
+
+pub image-table-one-place : (c : ImageCall) → OnePlaceEach (image-table c)
+image-table-one-place c =
+    one-place-append (of-lists (c .modulus) (c .first-list) (c .second-list)) (of-point (c .modulus) (c .point))
+    (lists-one-place (c .modulus) (c .first-list) (c .second-list))
+    (whole-one-place _, (first-one-place _, tt))
+
+-- the promise of the image service settles the record
+pub image-determined : (c : ImageCall) (r q : ImageRecord) → ImageAnswer c r → ImageAnswer c q → r ≡ q
+image-determined c r q (refused f h) (refused g k) = ap refusal (refuses-determined (image-table c) (image-table-one-place c) f g h k)
+image-determined c r q (refused f h) (answered pass listed s x) = absurd (not-passes-and-refuses (image-table c) f pass h)
+image-determined c r q (answered pass listed s x) (refused g k) = absurd (not-passes-and-refuses (image-table c) g pass k)
+image-determined c r q (answered pass listed s x) (answered pass′ listed′ s′ y) =
+    point-determined (c .modulus) (listed-prime listed) _ _ _ r q x
+    (subst
+    (λ (l : Listed (c .modulus)).
+    PointAnswer (c .modulus) (listed-prime l) (terms-of (c .modulus) (listed-prime l) (c .first-list)) (terms-of (c .modulus) (listed-prime l) (c .second-list))
+    (point-of (c .modulus) (listed-prime l) (c .point)) q)
+    (hedberg Bool-discrete _ _ listed′ listed) y)

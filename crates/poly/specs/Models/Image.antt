@@ -1,0 +1,49 @@
+-- The model of the image at a point, as the code works it: the two values by tables of powers, then Euclid's algorithm; and what that asks for.
+use mathlib.Core.Path.{_≡_}
+use mathlib.Core.Bool.{true, false}
+use mathlib.Core.List.{List}
+use Prim.Native.Nat.{ℕ, _-_, _<_}
+use lib.Dec.{eqb}
+use lib.ListN.{length, getD}
+use Rattle.field.specs.Moduli.{Listed}
+use Rattle.field.specs.Numbers.{NO_GOOD_POINT}
+use Rattle.field.specs.Refusal.{fault, none, Passes}
+use Rattle.poly.specs.declared.ImageRecord.{ImageRecord}
+use Rattle.poly.specs.Lists.{of-lists}
+use Rattle.poly.specs.Coefficients.{Eight}
+use Rattle.poly.specs.LeadingPart.{x-of}
+use Rattle.poly.specs.ImageCall.{ImageCall, refusal}
+use Rattle.poly.specs.Models.Powers.{powers}
+use Rattle.poly.specs.Models.Value.{value-of}
+use Rattle.poly.specs.Models.Eight.{size, gcd}
+
+-- what the service is lent
+abbrev pub image-call : ℕ → List ℕ → List ℕ → List ℕ → ImageCall
+image-call p A B point = record { modulus = p; first-list = A; second-list = B; point = point }
+
+-- inputs of which nothing is refused: the lines of the modulus and the lists pass, and the point is three numbers below p
+pub record Fine (p : ℕ) (A B point : List ℕ) : Type 0 where
+  pub lists : Passes (of-lists p A B)
+  pub three : length point ≡ 3
+  pub below : (i : ℕ) → i < 3 → getD point i 0 < p
+
+-- the two values a and b, and a power of x
+pub record Values (p x : ℕ) (a b : List ℕ) : Type 0 where
+  pub is-listed : Listed p
+  pub first : Eight p a
+  pub second : Eight p b
+  pub power : x < 8
+
+-- the value at a point of three numbers
+unfoldable pub value-at : ℕ → List ℕ → List ℕ → List ℕ
+value-at p point ts = value-of p (powers p (getD point 0 0)) (powers p (getD point 1 0)) (powers p (getD point 2 0)) ts
+
+abbrev pub found : List ℕ → ImageRecord
+found u = record { fault = none; coefficients = u; degree = size u - 1 }
+
+-- where the values are a and b, and the highest power of x in A is x
+unfoldable pub image-of-values : ℕ → ℕ → List ℕ → List ℕ → ImageRecord
+image-of-values p x a b = elim (eqb (getD a x 0) 0) [ true ↦ refusal (fault NO_GOOD_POINT 0) | false ↦ found (gcd p a b) ]
+
+unfoldable pub image-of : ℕ → List ℕ → List ℕ → List ℕ → ImageRecord
+image-of p A B point = image-of-values p (x-of (getD A 0 0)) (value-at p point A) (value-at p point B)

@@ -1,0 +1,95 @@
+// The greatest common divisor of two polynomials in x, each as eight numbers modulo p, the coefficient of x^0 first.
+ghost use mathlib.Core.Path.{_≡_};
+ghost use Prim.Native.Nat.{_-_, _<_};
+ghost use Rattle.poly.specs.Models.Eight.{size as size-of, scaled as scaled-of, monic as monic-of, subtract as subtract-of, remainder as remainder-of, gcd as gcd-of};
+ghost use Rattle.poly.specs.Models.Steps.{Divisible, Step, Reducible, Pair};
+use crate::Eight;
+use field::Element;
+
+// The place after the highest number that is not 0.
+pub fn size(f: Eight) -> usize
+    ensures { λ r. ⌜ r ≡ size-of f ⌝ }
+{
+    let mut n: usize = 8;
+    while n > 0 {
+        if f[n - 1] != 0 {
+            return n;
+        }
+        n -= 1;
+    }
+    0
+}
+
+// Each number times c.
+fn scaled(p: u16, c: u16, f: Eight) -> Eight
+    requires { ⌜ 0 < p ⌝ }
+    ensures { λ r. ⌜ r ≡ scaled-of p c f ⌝ }
+{
+    let mut r = [0u16; 8];
+    let mut i: usize = 0;
+    while i < 8 {
+        r[i] = field::times(p, c, f[i]);
+        i += 1;
+    }
+    r
+}
+
+// All divided by the number at n.
+fn monic(p: u16, n: usize, f: Eight) -> Eight
+    requires { ⌜ Divisible p n f ⌝ }
+    ensures { λ r. ⌜ r ≡ monic-of p n f ⌝ }
+{
+    let lead = Element {
+        modulus: p,
+        value: f[n],
+    };
+    let v = lead.inverse();
+    scaled(p, v.value, f)
+}
+
+// f - c x^k g.
+fn subtract(p: u16, c: u16, k: usize, f: Eight, g: Eight) -> Eight
+    requires { ⌜ Step p c k ⌝ }
+    ensures { λ r. ⌜ r ≡ subtract-of p c k f g ⌝ }
+{
+    let n = p - c;
+    let mut r = f;
+    let mut i = k;
+    while i < 8 {
+        r[i] = field::plus_times(p, f[i], n, g[i - k]);
+        i += 1;
+    }
+    r
+}
+
+// The remainder of f by g, which is monic of degree m.
+fn remainder(p: u16, m: usize, g: Eight, f: Eight) -> Eight
+    requires { ⌜ Reducible p m f ⌝ }
+    ensures { λ r. ⌜ r ≡ remainder-of p m g (8 - m) f ⌝ }
+{
+    let mut r = f;
+    let mut k = 8 - m;
+    while k > 0 {
+        k -= 1;
+        let c = r[k + m];
+        r = subtract(p, c, k, r, g);
+    }
+    r
+}
+
+// The monic greatest common divisor of a, which is not 0, and b.
+pub fn gcd(p: u16, a: Eight, b: Eight) -> Eight
+    requires { ⌜ Pair p a b ⌝ }
+    ensures { λ r. ⌜ r ≡ gcd-of p a b ⌝ }
+{
+    let mut f = monic(p, size(a) - 1, a);
+    let mut g = b;
+    let mut n = size(b);
+    while n > 0 {
+        let h = monic(p, n - 1, g);
+        g = remainder(p, n - 1, h, f);
+        f = h;
+        n = size(g);
+    }
+    f
+}

@@ -1,0 +1,109 @@
+// The image of two polynomials at a point: the monic greatest common divisor of their values, as polynomials in x.
+ghost use mathlib.Core.Path.{_≡_};
+ghost use lib.ListN.{length};
+ghost use Rattle.field.specs.Refusal.{Tested};
+ghost use Rattle.poly.specs.Lists.{WrongNumber};
+ghost use Rattle.poly.specs.ImageCall.{refusal, of-point, image-table, ImageAnswer};
+ghost use Rattle.poly.specs.Models.Search.{Searched};
+ghost use Rattle.poly.specs.Models.Image.{image-call, Values, Fine, image-of-values, image-of};
+use crate::Eight;
+use crate::ImageRecord;
+use crate::Term;
+use crate::euclid;
+use crate::key::Key;
+use crate::list;
+use crate::value;
+use field::Fault;
+use field::Number;
+
+// On refusal the coefficients and the degree are 0.
+fn refused(fault: Fault) -> ImageRecord
+    ensures { λ r. ⌜ r ≡ refusal fault ⌝ }
+{
+    ImageRecord {
+        fault,
+        coefficients: [0u16; 8],
+        degree: 0,
+    }
+}
+
+// The answer where the values are a and b; the point is bad if a has 0 at A's highest power of x.
+fn image_of_values(p: Number, x: usize, a: Eight, b: Eight) -> ImageRecord
+    requires { ⌜ Values p x a b ⌝ }
+    ensures { λ r. ⌜ r ≡ image-of-values p x a b ⌝ }
+{
+    if a[x] == 0 {
+        return refused(Fault::at(Fault::NO_GOOD_POINT, 0));
+    }
+    let u = euclid::gcd(p, a, b);
+    let d = euclid::size(u) - 1;
+    ImageRecord {
+        fault: Fault::none(),
+        coefficients: u,
+        degree: d,
+    }
+}
+
+// The image at a point, of inputs that are in order: for the service below, and for the layer above.
+pub fn image_at(p: Number, first: &[Term], second: &[Term], point: &[Number]) -> ImageRecord
+    requires { ⌜ Fine p (now first) (now second) (now point) ⌝ }
+    ensures { λ r. ⌜ r ≡ image-of p (now (first .entry)) (now (second .entry)) (now (point .entry)) ⌝ }
+{
+    let ys = value::powers(p, point[0]);
+    let zs = value::powers(p, point[1]);
+    let ws = value::powers(p, point[2]);
+    let a = value::value(p, ys, zs, ws, first);
+    let b = value::value(p, ys, zs, ws, second);
+    let x = Key::of(first[0]).x() as usize;
+    image_of_values(p, x, a, b)
+}
+
+// The place of the first point number that is at least p, or the length.
+pub fn first_large(p: Number, numbers: &[Number]) -> usize
+    ensures { λ r. ⌜ Searched (WrongNumber p (now (numbers .entry))) (length (now (numbers .entry))) r ⌝ }
+{
+    let mut i: usize = 0;
+    while i < numbers.len() {
+        if numbers[i] >= p {
+            return i;
+        }
+        i += 1;
+    }
+    i
+}
+
+// The refusals 8 and 9, of one point.
+fn point_fault(p: Number, point: &[Number]) -> Fault
+    ensures { λ r. ⌜ Tested (of-point p (now (point .entry))) r ⌝ }
+{
+    if point.len() != 3 {
+        return Fault::at(Fault::POINTS_COUNT, 0);
+    }
+    let place = first_large(p, point);
+    if place < point.len() {
+        return Fault::at(Fault::POINT_NUMBER, place);
+    }
+    Fault::none()
+}
+
+// The refusals of the image's inputs.
+fn image_fault(p: Number, first: &[Term], second: &[Term], point: &[Number]) -> Fault
+    ensures { λ r. ⌜ Tested (image-table (image-call p (now (first .entry)) (now (second .entry)) (now (point .entry)))) r ⌝ }
+{
+    let fault = list::lists_fault(p, first, second);
+    if fault.number != 0 {
+        return fault;
+    }
+    point_fault(p, point)
+}
+
+// The image service.
+pub fn image(p: Number, first: &[Term], second: &[Term], point: &[Number]) -> ImageRecord
+    ensures { λ r. ⌜ ImageAnswer (image-call p (now (first .entry)) (now (second .entry)) (now (point .entry))) r ⌝ }
+{
+    let fault = image_fault(p, first, second, point);
+    if fault.number != 0 {
+        return refused(fault);
+    }
+    image_at(p, first, second, point)
+}

@@ -1,0 +1,41 @@
+// The value of a list of terms at a point: the powers of y, z and w are worked once, into three tables.
+ghost use mathlib.Core.Path.{_≡_};
+ghost use Prim.Native.Nat.{_<_};
+ghost use Rattle.poly.specs.Models.Powers.{powers as powers-of};
+ghost use Rattle.poly.specs.Models.Value.{Ready, value-of};
+use crate::Eight;
+use crate::Term;
+use crate::key::Key;
+
+// The powers 0 to 7 of a number.
+pub fn powers(p: u16, y: u16) -> Eight
+    requires { ⌜ 1 < p ⌝ }
+    ensures { λ r. ⌜ r ≡ powers-of p y ⌝ }
+{
+    let mut r = [1u16; 8];
+    let mut i: usize = 1;
+    while i < 8 {
+        r[i] = field::times(p, r[i - 1], y);
+        i += 1;
+    }
+    r
+}
+
+// The value of a list where the powers of y, z and w are given: eight coefficients in x.
+pub fn value(p: u16, ys: Eight, zs: Eight, ws: Eight, terms: &[Term]) -> Eight
+    requires { ⌜ Ready p ys zs ws (now terms) ⌝ }
+    ensures { λ r. ⌜ r ≡ value-of p ys zs ws (now (terms .entry)) ⌝ }
+{
+    let mut r = [0u16; 8];
+    let mut i: usize = 0;
+    while i < terms.len() {
+        let t = terms[i];
+        let k = Key::of(t);
+        let x = k.x() as usize;
+        let a = field::times(p, crate::key::coefficient_of(t), ys[k.y() as usize]);
+        let b = field::times(p, a, zs[k.z() as usize]);
+        r[x] = field::plus_times(p, r[x], b, ws[k.w() as usize]);
+        i += 1;
+    }
+    r
+}
