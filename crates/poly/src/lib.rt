@@ -2,6 +2,7 @@
 use field::Fault;
 use field::Number;
 
+pub mod division;
 pub mod euclid;
 pub mod image;
 pub mod key;
