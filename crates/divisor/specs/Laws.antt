@@ -18,3 +18,5 @@ pub mod Assembled
 pub mod EquationTurns
 pub mod PointTurns
 pub mod LookTurns
+pub mod Stores
+pub mod Looking

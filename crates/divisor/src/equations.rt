@@ -1,6 +1,11 @@
 // The equations, one at a time into the table: at each kept point, for each power of x, the skeleton polynomial less the multiplier times
 // the image's coefficient is 0.
+ghost use mathlib.Core.Path.{_≡_};
+ghost use Prim.Native.Nat.{_+_, _-_, _/_};
+ghost use lib.ListN.{length};
 ghost use Rattle.divisor.specs.Models.Equation.{EquationReady, IsEquation, PointReady, Equations-to};
+ghost use Rattle.divisor.specs.Models.Looks.{next-column, ColumnReady, EquationsReady, Equations-before};
+use crate::sorting::Sizes;
 use crate::table::Row;
 use crate::table::Table;
 use field::Number;
@@ -59,4 +64,52 @@ fn point_equations(
         i += 1;
     }
     s
+}
+
+// The column of the next kept point's multiplier: the last for the first point, else behind the keys, in the order kept.
+fn column_of(keys: usize, kept: usize, columns: usize) -> usize
+    requires { ⌜ ColumnReady keys kept columns ⌝ }
+    ensures { λ r. ⌜ r ≡ keys + next-column (columns - keys - 1) kept ⌝ }
+{
+    if kept == 0 {
+        return columns - 1;
+    }
+    keys + kept - 1
+}
+
+// The equations of the kept points, those whose size is the least, one after the other into one table. The first one's multiplier is fixed
+// at 1, in the last column; the others' stand behind the skeleton, in the order lent.
+pub fn equations(
+    p: Number,
+    skeleton: &[Number],
+    points: &[Number],
+    sizes: Sizes,
+    least: Number,
+    columns: usize,
+    work: &[Number],
+) -> Table
+    requires { ⌜ EquationsReady p (now skeleton) (now points) sizes (now work) least columns ⌝ }
+    ensures { λ r. ⌜ Equations-before (length (now (points .entry)) / 3) p (now (skeleton .entry)) (now (points .entry)) sizes (now (work .entry)) least columns r ⌝ }
+{
+    let mut t = Table::empty(columns);
+    let mut kept: usize = 0;
+    let mut i: usize = 0;
+    while i < points.len() / 3 {
+        if sizes[i] == least {
+            let column = column_of(skeleton.len(), kept, columns);
+            let at = 3 * i;
+            let image = 8 * i;
+            t = point_equations(
+                t,
+                p,
+                skeleton,
+                &points[at..at + 3],
+                &work[image..image + 8],
+                column,
+            );
+            kept += 1;
+        }
+        i += 1;
+    }
+    t
 }

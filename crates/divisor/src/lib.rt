@@ -3,6 +3,7 @@ use field::Fault;
 
 mod equations;
 mod monic;
+mod points;
 mod sorting;
 mod table;
 

@@ -9,5 +9,6 @@ pub mod Coefficients
 pub mod LeadingPart
 pub mod ImageCall
 pub mod Quotient
+pub mod TrialDivision
 pub mod Models
 pub mod Laws

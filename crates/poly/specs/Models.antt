@@ -6,5 +6,8 @@ pub mod Lists
 pub mod Powers
 pub mod Value
 pub mod Eight
+pub mod Spread
+pub mod Division
+pub mod WorkRoom
 pub mod Steps
 pub mod Image

@@ -1,12 +1,11 @@
 -- The turns of the loop over the points that adds the equations of the kept ones. Assumes nothing.
 use mathlib.Core.Path.{_≡_, refl, sym, _∙_, ap, ap₂, subst}
-use mathlib.Core.Bool.{Bool, true, false}
 use mathlib.Core.List.{List, [], _∷_, _++_, map, append-assoc, append-nil}
 use Prim.Native.Nat.{ℕ, zero, suc, _+_, _-_, _*_, _/_, _≤_, _<_}
 use native.Mathlib.Numerals.{add-one}
 use native.Mathlib.Omega.{arith}
-use lib.Dec.{eqb}
-use lib.ListN.{length, getD, take, length-append}
+use lib.ListN.{length, getD, take, drop, length-append, length-drop}
+use lib.Seq.{length-take-le}
 use borrow.Author.Tests.{eq-eqb, ne-eqb}
 use Rattle.algebra.specs.Four.{Exponents}
 use Rattle.algebra.specs.Field.{Field}
@@ -22,17 +21,32 @@ use Rattle.divisor.specs.TableAnswer.{added-append, added-ready, added-c
 use Rattle.divisor.specs.Models.Rows.{rows-at, rows-from}
 use Rattle.divisor.specs.Models.Sorting.{alike}
 use Rattle.divisor.specs.Models.Equation.{kept-numbers, Equations-to}
-use Rattle.divisor.specs.Models.Looks.{point-at, image-at, kept-before, rows-so, Equations-before}
+use Rattle.divisor.specs.Models.Looks.{next-column, point-at, image-at, kept-before, rows-so, Equations-before}
 
 module _ (K : Field) (es : List Exponents) (n : ℕ) where
   rows-from-more : (m : ℕ) (ks : List (Kept K)) (k : Kept K) (a : ℕ) → a ≡ m + length ks → rows-from K es n m (ks ++ (k ∷ [])) ≡ rows-from K es n m ks ++ rows-at K es n a k 0 8
   rows-from-more m [] k a e = let q : m ≡ a = omega arith in append-nil (rows-at K es n m k 0 8) ∙ ap (λ (b : ℕ). rows-at K es n b k 0 8) q
   rows-from-more m (x ∷ ks) k a e = ap (rows-at K es n m x 0 8 ++_) (rows-from-more (suc m) ks k a (omega arith)) ∙ sym (append-assoc (rows-at K es n m x 0 8) (rows-from K es n (suc m) ks) (rows-at K es n a k 0 8))
 
--- the column of the next point's multiplier, behind the monomials: the last for the first point
-abbrev pub next-column : ℕ → ℕ → ℕ
-next-column n zero = n
-next-column n (suc kept) = kept
+pub next-fits : (n kept : ℕ) → kept < suc n → next-column n kept < suc n
+next-fits n zero l = omega arith
+next-fits n (suc kept) l = omega arith
+
+-- a part of a list, of a times i, as the code takes it
+pub part-is : (a i : ℕ) (list : List ℕ) → take (a * i + a - a * i) (drop (a * i) list) ≡ take a (drop (a * i) list)
+part-is a i list = let e : a * i + a - a * i ≡ a = omega arith in ap (λ (n : ℕ). take n (drop (a * i) list)) e
+
+pub part-length : (a i : ℕ) (list : List ℕ) → a * i + a ≤ length list → length (take a (drop (a * i) list)) ≡ a
+part-length a i list l = length-take-le a (drop (a * i) list) (let e = length-drop (a * i) list in omega arith)
+
+-- at most 32 points have their sizes
+pub enough : (points : ℕ) (sizes : List ℕ) → points ≤ 96 → length sizes ≡ 32 → points / 3 ≤ length sizes
+enough points sizes l e = omega arith
+
+pub equations-to-at : {j p : ℕ} {t : Table} {ks point point′ image image′ : List ℕ} {column : ℕ} {r : Table} → point ≡ point′ → image ≡ image′
+    → Equations-to j p t ks point image column r → Equations-to j p t ks point′ image′ column r
+equations-to-at {j} {p} {t} {ks} {column = column} {r} a b h =
+    subst (λ (x : List ℕ × List ℕ). Equations-to j p t ks (x .0) (x .1) column r) (λ i. (a i, b i)) h
 
 pub rows-so-more : (K : Field) (es : List Exponents) (n : ℕ) (ks : List (Kept K)) (k : Kept K) → rows-so K es n (ks ++ (k ∷ [])) ≡ rows-so K es n ks ++ rows-at K es (suc n) (next-column n (length ks)) k 0 8
 rows-so-more K es n [] k = append-nil (rows-at K es (suc n) n k 0 8)
@@ -56,6 +70,18 @@ module _ {p : ℕ} (P : Prime p) (m : ℕ) (points sizes work : List ℕ) (i : �
   pub kept-other : ¬ (getD sizes i 0 ≡ m) → kept-before P m points sizes work (i + 1) ≡ kept-before P m points sizes work i
   unfolding kept-before
   kept-other n = ap (kept-before P m points sizes work) (add-one i) ∙ rw (ne-eqb (getD sizes i 0) m n, kept-before) (append-nil (kept-before P m points sizes work i))
+
+  -- how many are kept
+  pub length-same : (n : ℕ) → length (kept-before P m points sizes work i) ≡ n → getD sizes i 0 ≡ m → length (kept-before P m points sizes work (i + 1)) ≡ n + 1
+  length-same n l e =
+      ap length (kept-same e) ∙ length-append (kept-before P m points sizes work i) (kept-numbers p P (point-at points i) (image-at work i) ∷ []) ∙ ap (_+ 1) l
+
+  pub length-other : (n : ℕ) → length (kept-before P m points sizes work i) ≡ n → ¬ (getD sizes i 0 ≡ m) → length (kept-before P m points sizes work (i + 1)) ≡ n
+  length-other n l e = ap length (kept-other e) ∙ l
+
+pub length-none : {p : ℕ} (P : Prime p) (m : ℕ) (points sizes work : List ℕ) → length (kept-before P m points sizes work 0) ≡ 0
+unfolding kept-before
+length-none P m points sizes work = refl
 
 module _ (p : ℕ) (ks points sizes work : List ℕ) (m columns : ℕ) where
   pub equations-start : Equations-before 0 p ks points sizes work m columns (empty-table columns)

@@ -1,5 +1,6 @@
 -- The images of all points, in the work room, and those that are kept: in plain numbers, point after point.
 use mathlib.Core.Path.{_≡_}
+use mathlib.Core.Logic.{_⊎_}
 use mathlib.Core.Bool.{true, false}
 use mathlib.Core.List.{List, [], _∷_, _++_, map}
 use Prim.Native.Nat.{ℕ, zero, suc, _+_, _-_, _*_, _/_, _≤_, _<_}
@@ -65,6 +66,17 @@ abbrev pub rows-so : (K : Field) → List Exponents → ℕ → List (Kept K) �
 rows-so K es n [] = []
 rows-so K es n (k ∷ ks) = rows-at K es (suc n) n k 0 8 ++ rows-from K es (suc n) 0 ks
 
+-- the column of the next point's multiplier, behind the monomials: the last for the first point
+abbrev pub next-column : ℕ → ℕ → ℕ
+next-column n zero = n
+next-column n (suc kept) = kept
+
+-- some column behind the keys, and not all multipliers placed
+pub record ColumnReady (keys kept columns : ℕ) : Type 0 where
+  pub behind : keys < columns
+  pub most : columns ≤ COLUMNS
+  pub left : keys + kept < columns
+
 -- what all equations ask for
 pub record EquationsReady (p : ℕ) (ks points sizes work : List ℕ) (m columns : ℕ) : Type 0 where
   pub listed : Listed p
@@ -85,3 +97,14 @@ pub record Equations-before (i p : ℕ) (ks points sizes work : List ℕ) (m col
   pub adds : t ≡ added p (empty-table columns) rows
   pub means : (P : Prime p) → rows-of p (columns - 1) rows
       ≡ rows-so (Modulo p P) (map exponents ks) (alike m (take (length points / 3) sizes) - 1) (kept-before P m points sizes work i)
+
+-- room for eight numbers from a place on, in the part that the points' images take
+pub record StoreReady (at : ℕ) (work : List ℕ) : Type 0 where
+  pub within : at + 8 ≤ 256
+  pub room : work-room ≤ length work
+
+-- the first n of the numbers are stored from the place on, and nothing else has changed
+pub record Stored (n : ℕ) (numbers : List ℕ) (at : ℕ) (before after : List ℕ) : Type 0 where
+  pub same-length : length after ≡ length before
+  pub stored : (j : ℕ) → j < n → getD after (at + j) 0 ≡ getD numbers j 0
+  pub others : (k : ℕ) → (k < at) ⊎ (at + n ≤ k) → getD after k 0 ≡ getD before k 0

@@ -9,7 +9,7 @@ use borrow.Author.Tests.{eq-eqb, ne-eqb, lt-ltb, le-ltb}
 use lib.ListN.{getD}
 use Rattle.poly.specs.Coefficients.{Eight}
 use Rattle.poly.specs.Models.Cells.{cells, cells-length, cells-at, cells-past, past-end}
-use Rattle.poly.specs.Models.Eight.{size-to, size, scaled, less-at, subtract, remainder}
+use Rattle.poly.specs.Models.Eight.{size-to, scaled, less-at, subtract, remainder}
 
 -- zeros from n on
 abbrev pub Clear : ℕ → List ℕ → Type 0

@@ -2,7 +2,6 @@
 -- polynomial's value is 0 it is the first one's value made monic. Assumes nothing.
 use mathlib.Core.Path.{_≡_, sym, subst}
 use Prim.Native.Nat.{ℕ}
-use Rattle.algebra.specs.Ring.{CommRing}
 use Rattle.algebra.specs.Series.{Seq, SeriesR}
 use Rattle.algebra.specs.Degree.{Top}
 use Rattle.algebra.specs.Field.{Field}

@@ -4,7 +4,6 @@ use mathlib.Core.Bool.{Bool-discrete}
 use mathlib.Core.HLevel.{hedberg}
 use mathlib.Core.List.{List}
 use Prim.Native.Nat.{ℕ}
-use lib.ListN.{getD}
 use lib.Seq.{ext-getD}
 use Rattle.field.specs.Prime.{Prime}
 use Rattle.field.specs.Modulo.{Modulo}
@@ -17,7 +16,6 @@ use Rattle.poly.specs.declared.ImageRecord.{ImageRecord}
 use Rattle.poly.specs.Terms.{Polynomial, terms-of}
 use Rattle.poly.specs.Value.{Point}
 use Rattle.poly.specs.Lists.{of-lists}
-use Rattle.poly.specs.Coefficients.{Eight}
 use Rattle.poly.specs.ImageCall.{ImageCall, of-point, image-table, point-of, refusal, PointAnswer, bad, good, ImageAnswer, refused, answered}
 use Rattle.poly.specs.Models.Image.{image-call, Fine, image-of}
 use Rattle.poly.specs.Laws.EightMeaning.{series-injective}

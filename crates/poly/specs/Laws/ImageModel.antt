@@ -2,7 +2,7 @@
 -- Assumes nothing.
 use mathlib.Core.Path.{_≡_, refl, sym, ap, _∙_, subst}
 use mathlib.Core.List.{List, [], _∷_}
-use Prim.Native.Nat.{ℕ, suc, _-_, _≤_, _<_}
+use Prim.Native.Nat.{ℕ, suc, _-_, _<_}
 use native.Mathlib.Decide.{ℕ-discrete}
 use native.Mathlib.Omega.{arith}
 use borrow.Author.Tests.{eq-eqb, ne-eqb}
@@ -17,7 +17,7 @@ use Rattle.field.specs.Refusal.{fault}
 use Rattle.poly.specs.Keys.{keys}
 use Rattle.poly.specs.Terms.{key-of, terms-of}
 use Rattle.poly.specs.Value.{value, x-degree}
-use Rattle.poly.specs.Image.{Bad, Image}
+use Rattle.poly.specs.Image.{Image}
 use Rattle.poly.specs.LeadingPart.{x-of}
 use Rattle.poly.specs.Coefficients.{Eight, series}
 use Rattle.poly.specs.ImageCall.{point-of, refusal, PointAnswer, bad, good}

@@ -1,16 +1,13 @@
 -- The check of one list: what a term's test says, and what the search of the first wrong term settles; without a modulus the bound is one
 -- that no coefficient reaches. Assumes nothing.
-use mathlib.Core.Path.{_≡_, refl, sym, ap, _∙_, subst}
-use mathlib.Core.Logic.{_⊎_, inl, inr}
-use mathlib.Core.Bool.{Bool, true, false, _&&_}
+use mathlib.Core.Path.{_≡_, refl, ap}
+use mathlib.Core.Logic.{inl, inr}
 use mathlib.Core.List.{List, map}
-use Prim.Native.Nat.{ℕ, zero, suc, _+_, _%_, _≤_, _<_}
+use Prim.Native.Nat.{ℕ, zero, suc, _+_, _≤_, _<_}
 use native.Mathlib.Omega.{arith}
-use lib.Dec.{ltb}
-use borrow.Author.Tests.{ltb-true, ltb-false}
 use lib.ListN.{length, getD, length-map, List·getD-map}
 use Rattle.field.specs.Numbers.{FIRST_COUNT, FIRST_TERM}
-use Rattle.field.specs.Refusal.{first, fault, none, Tested, refused, passed}
+use Rattle.field.specs.Refusal.{fault, none, Tested, refused, passed}
 use Rattle.field.specs.RefusalLaws.{OnePlaceEach, whole-one-place, first-one-place, placed-never, tested-line, tested-past, tested-end, tested-determined}
 use Rattle.field.specs.declared.Fault.{Fault}
 use Rattle.poly.specs.Keys.{keys}

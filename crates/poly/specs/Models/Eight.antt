@@ -4,8 +4,7 @@ use mathlib.Core.List.{List}
 use Prim.Native.Nat.{ℕ, zero, suc, _+_, _-_, _*_, _%_}
 use lib.Dec.{eqb, ltb}
 use lib.ListN.{getD}
-use Rattle.field.specs.Fp.{el}
-use Rattle.field.specs.Fp.{inv}
+use Rattle.field.specs.Fp.{el, inv}
 use Rattle.poly.specs.Models.Cells.{cells}
 
 -- the place after the highest number that is not 0, among the first n; 0 where all are 0

@@ -1,9 +1,8 @@
 -- `poly::euclid::gcd` meets its contract: the loop keeps the model's answer, with fuel that is at least the size of g. Assumes nothing.
 use borrow.Author.Needs.{needs}
 use mathlib.Core.Path.{_≡_, refl, sym, ap, ap₂, _∙_, subst}
-use Prim.Native.Nat.{ℕ, suc, _+_, _-_, _*_, _/_, _%_, _≤_, _<_}
+use Prim.Native.Nat.{ℕ, _-_, _≤_, _<_}
 use native.Mathlib.Omega.{arith}
-use lib.ListN.{length, getD}
 use mathlib.Core.List.{List}
 use Rattle.field.specs.ModuliLaws.{listed-prime}
 use Rattle.poly.specs.Coefficients.{Eight}

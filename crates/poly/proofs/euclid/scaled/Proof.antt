@@ -1,9 +1,9 @@
 -- `poly::euclid::scaled` meets its contract: the loop fills the array. Assumes nothing.
 use borrow.Author.Needs.{needs}
-use mathlib.Core.Path.{_≡_, refl, sym, ap, _∙_, subst}
-use Prim.Native.Nat.{ℕ, suc, _+_, _-_, _*_, _/_, _%_, _≤_, _<_}
+use mathlib.Core.Path.{_≡_, refl}
+use Prim.Native.Nat.{_-_, _*_, _%_, _≤_}
 use native.Mathlib.Omega.{arith}
-use lib.ListN.{length, getD, set, drop, replicate}
+use lib.ListN.{length, getD}
 use Rattle.poly.specs.Models.Cells.{Filled, filled-start, filled-next, filled-end}
 use Rattle.poly.specs.Models.Eight.{scaled}
 use Rattle.poly.proofs.euclid.scaled.Statement.{statement}

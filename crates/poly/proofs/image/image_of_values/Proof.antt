@@ -1,6 +1,6 @@
 -- `poly::image::image_of_values` meets its contract: the test is the model's, and so is each answer. Assumes nothing.
 use mathlib.Core.Path.{_≡_, sym, ap, _∙_}
-use Prim.Native.Nat.{ℕ, _-_, _<_}
+use Prim.Native.Nat.{ℕ, _-_}
 use native.Mathlib.Omega.{arith}
 use mathlib.Core.List.{List}
 use Rattle.field.specs.ModuliLaws.{listed-prime}

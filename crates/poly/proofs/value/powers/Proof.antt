@@ -1,10 +1,10 @@
 -- `poly::value::powers` meets its contract: the loop fills the table from 1 on. Assumes nothing.
 use borrow.Author.Needs.{needs}
 use mathlib.Core.List.{List}
-use mathlib.Core.Path.{_≡_, refl, sym, ap, _∙_, subst}
-use Prim.Native.Nat.{ℕ, suc, _+_, _-_, _*_, _/_, _%_, _≤_, _<_}
+use mathlib.Core.Path.{_≡_, refl, ap, _∙_}
+use Prim.Native.Nat.{ℕ, _-_, _*_, _%_, _≤_}
 use native.Mathlib.Omega.{arith}
-use lib.ListN.{length, getD, set, drop, replicate}
+use lib.ListN.{length, replicate}
 use Rattle.poly.specs.Models.Cells.{Filled, filled-start, filled-next, filled-end}
 use Rattle.poly.specs.Models.Powers.{power, powers}
 use Rattle.poly.specs.Laws.Powers.{power-start, power-next}

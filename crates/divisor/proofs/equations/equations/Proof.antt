@@ -1,0 +1,194 @@
+-- `divisor::equations::equations` meets its contract. The invariant: the table has the equations of the kept points passed, and as many are kept as
+-- were met and are left. Assumes nothing.
+use borrow.Author.Needs.{needs}
+use mathlib.Core.Path.{_≡_, sym, _∙_, ap, subst}
+use mathlib.Core.Logic.{⊎-elim}
+use Prim.Native.Nat.{ℕ, _+_, _-_, _/_, _≤_, _<_}
+use native.Mathlib.Omega.{arith}
+use lib.ListN.{length, take, drop}
+use Rattle.field.specs.Prime.{Prime}
+use Rattle.poly.specs.Coefficients.{Eight}
+use Rattle.divisor.specs.TableKept.{empty-ready}
+use Rattle.divisor.specs.Models.Sorting.{alike}
+use Rattle.divisor.specs.Models.Looks.{kept-before, Equations-before}
+use Rattle.divisor.specs.Laws.Turns.{alike-same, alike-other}
+use Rattle.divisor.specs.Laws.LookTurns.{equations-start, equations-ready, equations-columns, equations-other, equations-same, enough, next-fits, part-is, part-length, equations-to-at, length-none, length-same, length-other}
+use Rattle.divisor.proofs.equations.equations.Statement.{statement}
+use Rattle.divisor.proofs.equations.equations.Tie as tie
+
+abbrev Inv-loop : tie.InvT-loop
+Inv-loop p skeleton points least columns work sizes t₀ kept₀ i₀ t kept i =
+    (i ≤ length points / 3)
+    × (kept + alike least (drop i (take (length points / 3) sizes)) ≡ alike least (take (length points / 3) sizes))
+    × Equations-before i p skeleton points sizes work least columns t
+    × ((P : Prime p) → length (kept-before P least points sizes work i) ≡ kept)
+
+abbrev μ-loop : tie.MeasureT-loop
+μ-loop p skeleton points least columns work sizes t₀ kept₀ i₀ t kept i = length points / 3 - i
+
+empty-requires : tie.Need-empty-requires Inv-loop μ-loop
+empty-requires c κs = search needs
+
+loop-holds : tie.Need-loop-holds Inv-loop μ-loop
+loop-holds c =
+    let a = c .before .before .before .before .args in (
+      omega arith,
+      omega arith,
+      subst (Equations-before 0 (a .p) (a .skeleton .now) (a .points .now) (a .t4) (a .work .now) (a .least) (a .columns)) (sym (c .empty .ensures))
+          (equations-start (a .p) (a .skeleton .now) (a .points .now) (a .t4) (a .work .now) (a .least) (a .columns)),
+      λ P. length-none P (a .least) (a .points .now) (a .t4) (a .work .now),
+    )
+
+mul-if1 : tie.Need-mul-if1 Inv-loop μ-loop
+mul-if1 c = search needs
+
+array-read-if1 : tie.Need-array-read-if1 Inv-loop μ-loop
+array-read-if1 c = search needs
+
+column-of-requires : tie.Need-column-of-requires Inv-loop μ-loop
+column-of-requires c κs =
+    let s = c .before .before .before .before .before .before .before in
+    let a = s .args in
+    let l = c .before .before .loop in
+    let left = alike-same (a .t4) (length (a .points .now) / 3) (l .i) (a .least) (enough (length (a .points .now)) (a .t4) (s .pre .few) (s .pre .count)) (c .before .loop-test .taken) (c .if1 .taken) in
+    record {
+      behind = omega (arith, s .pre .columns-are, s .pre .some);
+      most = s .pre .most;
+      left = omega (arith, s .pre .columns-are, l .inv .1, left);
+    }
+
+mul-at : tie.Need-mul-at Inv-loop μ-loop
+mul-at c = search needs
+
+mul-image : tie.Need-mul-image Inv-loop μ-loop
+mul-image c = search needs
+
+add-point-equations : tie.Need-add-point-equations Inv-loop μ-loop
+add-point-equations c = search needs
+
+mul-point-equations : tie.Need-mul-point-equations Inv-loop μ-loop
+mul-point-equations c = search needs
+
+sub-point-equations : tie.Need-sub-point-equations Inv-loop μ-loop
+sub-point-equations c = search needs
+
+part-point-equations-start : tie.Need-part-point-equations-start Inv-loop μ-loop
+part-point-equations-start c = search needs
+
+part-point-equations-end : tie.Need-part-point-equations-end Inv-loop μ-loop
+part-point-equations-end c = search needs
+
+add-point-equations-2 : tie.Need-add-point-equations-2 Inv-loop μ-loop
+add-point-equations-2 c = search needs
+
+mul-point-equations-2 : tie.Need-mul-point-equations-2 Inv-loop μ-loop
+mul-point-equations-2 c = search needs
+
+sub-point-equations-2 : tie.Need-sub-point-equations-2 Inv-loop μ-loop
+sub-point-equations-2 c = search needs
+
+part-point-equations-start-2 : tie.Need-part-point-equations-start-2 Inv-loop μ-loop
+part-point-equations-start-2 c = search needs
+
+part-point-equations-end-2 : tie.Need-part-point-equations-end-2 Inv-loop μ-loop
+part-point-equations-end-2 c = search needs
+
+point-equations-requires : tie.Need-point-equations-requires Inv-loop μ-loop
+point-equations-requires c κs =
+    let s = c .before .before .before .before .before .before .before .before .before .before in
+    let a = s .args in
+    let l = c .before .before .before .before .before .loop in
+    let e = c .before .before .column-of .ensures in
+    let left = alike-same (a .t4) (length (a .points .now) / 3) (l .i) (a .least) (enough (length (a .points .now)) (a .t4) (s .pre .few) (s .pre .count)) (c .before .before .before .before .loop-test .taken) (c .before .before .before .if1 .taken) in
+    let i : l .i < length (a .points .now) / 3 = c .before .before .before .before .loop-test .taken in
+    let fits = next-fits (a .columns - length (a .skeleton .now) - 1) (l .kept) (omega (arith, s .pre .columns-are, l .inv .1, left)) in
+    let columns = equations-columns (a .p) (a .skeleton .now) (a .points .now) (a .t4) (a .work .now) (a .least) (a .columns) (l .i) (l .t) (l .inv .2) in
+    record {
+      table = equations-ready (a .p) (a .skeleton .now) (a .points .now) (a .t4) (a .work .now) (a .least) (a .columns) (l .i) (l .t) (l .inv .2)
+          (empty-ready (a .p) (a .columns) (s .pre .listed) (record { some = omega (arith, s .pre .columns-are, s .pre .some); most = s .pre .most }));
+      small = s .pre .small;
+      three = ap length (part-is 3 (l .i) (a .points .now)) ∙ part-length 3 (l .i) (a .points .now) (omega (arith, s .pre .threes));
+      eight = subst (Eight (a .p)) (sym (part-is 8 (l .i) (a .work .now))) (s .pre .images (l .i) i);
+      behind = omega (arith, e);
+      within = omega (arith, e, fits, columns, s .pre .columns-are, s .pre .some);
+    }
+
+add-kept : tie.Need-add-kept Inv-loop μ-loop
+add-kept c = search needs
+
+add-i : tie.Need-add-i Inv-loop μ-loop
+add-i c = search needs
+
+loop-less : tie.Need-loop-less Inv-loop μ-loop
+loop-less c = search needs
+
+loop-again : tie.Need-loop-again Inv-loop μ-loop
+loop-again c =
+    let s = c .before .before .before .before .before .before .before in
+    let a = s .args in
+    let l = c .before .before .loop in
+    let n = length (a .points .now) / 3 in
+    let i : l .i < length (a .points .now) / 3 = c .before .loop-test .taken in
+    let within = enough (length (a .points .now)) (a .t4) (s .pre .few) (s .pre .count) in
+    ⊎-elim
+    (λ w.
+    let left = alike-same (a .t4) n (l .i) (a .least) within i (w .0 .taken) in
+    let k : c .if1 .kept ≡ l .kept + 1 = w .6 in (
+      omega arith,
+      omega (arith, k, l .inv .1, left),
+      subst (Equations-before (l .i + 1) (a .p) (a .skeleton .now) (a .points .now) (a .t4) (a .work .now) (a .least) (a .columns)) (sym (w .5))
+          (equations-same (a .p) (a .skeleton .now) (a .points .now) (a .t4) (a .work .now) (a .least) (a .columns) (l .i) (l .t) (l .inv .2) (w .0 .taken)
+          (w .1 .result) (l .kept) (a .columns - length (a .skeleton .now) - 1) (w .4 .result) (l .inv .3)
+          (omega (arith, s .pre .columns-are, s .pre .some)) (omega (arith, s .pre .columns-are, s .pre .some)) (w .1 .ensures)
+          (next-fits (a .columns - length (a .skeleton .now) - 1) (l .kept) (omega (arith, s .pre .columns-are, l .inv .1, left)))
+          (equations-to-at (part-is 3 (l .i) (a .points .now)) (part-is 8 (l .i) (a .work .now)) (w .4 .ensures))),
+      λ P. length-same P (a .least) (a .points .now) (a .t4) (a .work .now) (l .i) (l .kept) (l .inv .3 P) (w .0 .taken) ∙ sym k,
+    ))
+    (λ w.
+    let left = alike-other (a .t4) n (l .i) (a .least) within i (w .0 .left) in
+    let k : c .if1 .kept ≡ l .kept = w .2 in (
+      omega arith,
+      omega (arith, k, l .inv .1, left),
+      subst (Equations-before (l .i + 1) (a .p) (a .skeleton .now) (a .points .now) (a .t4) (a .work .now) (a .least) (a .columns)) (sym (w .1))
+          (equations-other (a .p) (a .skeleton .now) (a .points .now) (a .t4) (a .work .now) (a .least) (a .columns) (l .i) (l .t) (l .inv .2) (w .0 .left)),
+      λ P. length-other P (a .least) (a .points .now) (a .t4) (a .work .now) (l .i) (l .kept) (l .inv .3 P) (w .0 .left) ∙ sym k,
+    ))
+    (c .if1 .came)
+
+returns : tie.Need-returns Inv-loop μ-loop
+returns c =
+    let s = c .before .before .before .before .before .before in
+    let a = s .args in
+    let l = c .before .loop in
+    let e : l .i ≡ length (a .points .now) / 3 = omega arith in
+    subst (λ (j : ℕ). Equations-before j (a .p) (a .skeleton .now) (a .points .now) (a .t4) (a .work .now) (a .least) (a .columns) (l .t)) e (l .inv .2)
+
+pub equations-spec : {M : Type 1} → statement M
+equations-spec =
+    tie.close
+    (tie.spec
+    Inv-loop
+    μ-loop
+    empty-requires
+    loop-holds
+    mul-if1
+    array-read-if1
+    column-of-requires
+    mul-at
+    mul-image
+    add-point-equations
+    mul-point-equations
+    sub-point-equations
+    part-point-equations-start
+    part-point-equations-end
+    add-point-equations-2
+    mul-point-equations-2
+    sub-point-equations-2
+    part-point-equations-start-2
+    part-point-equations-end-2
+    point-equations-requires
+    add-kept
+    add-i
+    loop-less
+    loop-again
+    returns)

@@ -1,0 +1,126 @@
+-- `divisor::points::look` meets its contract. The invariant: the sizes and the images of the points passed stand. Assumes nothing.
+use borrow.Author.Needs.{needs}
+use mathlib.Core.Path.{_≡_, sym, _∙_, ap, subst}
+use Prim.Native.Nat.{ℕ, _-_, _/_, _≤_, _<_}
+use native.Mathlib.Omega.{arith}
+use lib.ListN.{length}
+use Rattle.poly.specs.declared.ImageRecord.{ImageRecord}
+use Rattle.poly.specs.Models.Image.{Fine, image-of}
+use Rattle.divisor.specs.Models.Looks.{look-at, Looks}
+use Rattle.divisor.specs.Laws.LookTurns.{part-is}
+use Rattle.divisor.specs.Laws.Stores.{looks-start, looks-next}
+use Rattle.divisor.specs.Laws.Looking.{point-fine, look-small, look-eight}
+use Rattle.divisor.proofs.points.look.Statement.{statement}
+use Rattle.divisor.proofs.points.look.Tie as tie
+
+abbrev Inv-loop : tie.InvT-loop
+Inv-loop p first second points work₀ sizes₀ i₀ work sizes i = (i ≤ length points / 3) × Looks i p first second points work₀ work sizes
+
+abbrev μ-loop : tie.MeasureT-loop
+μ-loop p first second points work₀ sizes₀ i₀ work sizes i = length points / 3 - i
+
+loop-holds : tie.Need-loop-holds Inv-loop μ-loop
+loop-holds c = (omega arith, looks-start _ _ _ _ _)
+
+mul-at : tie.Need-mul-at Inv-loop μ-loop
+mul-at c = search needs
+
+add-image-at : tie.Need-add-image-at Inv-loop μ-loop
+add-image-at c = search needs
+
+mul-image-at : tie.Need-mul-image-at Inv-loop μ-loop
+mul-image-at c = search needs
+
+sub-image-at : tie.Need-sub-image-at Inv-loop μ-loop
+sub-image-at c = search needs
+
+part-image-at-start : tie.Need-part-image-at-start Inv-loop μ-loop
+part-image-at-start c = search needs
+
+part-image-at-end : tie.Need-part-image-at-end Inv-loop μ-loop
+part-image-at-end c = search needs
+
+image-at-requires : tie.Need-image-at-requires Inv-loop μ-loop
+image-at-requires c κs =
+    let s = c .before .before .before .before .before .before .before in
+    let a = s .args in
+    let i = c .before .before .loop .i in
+    subst (Fine (a .p) (a .first .now) (a .second .now)) (sym (part-is 3 i (a .points .now)))
+    (point-fine (a .p) (a .first .now) (a .second .now) (a .points .now) (a .work .now) (s .pre) i (c .before .loop-test .taken))
+
+size-requires : tie.Need-size-requires Inv-loop μ-loop
+size-requires c κs =
+    let s = c .before .before .before .before .before .before .before .before in
+    let a = s .args in
+    let i = c .before .before .before .loop .i in
+    let e : c .image-at .result ≡ look-at (a .p) (a .first .now) (a .second .now) (a .points .now) i = c .image-at .ensures ∙ ap (image-of (a .p) (a .first .now) (a .second .now)) (part-is 3 i (a .points .now)) in
+    subst (λ (r : ImageRecord). r .degree < 8) (sym e) (look-small (a .p) (a .first .now) (a .second .now) (a .points .now) (a .work .now) (s .pre) i)
+
+mul-sizes : tie.Need-mul-sizes Inv-loop μ-loop
+mul-sizes c = search needs
+
+array-write-sizes : tie.Need-array-write-sizes Inv-loop μ-loop
+array-write-sizes c = search needs
+
+mul-store : tie.Need-mul-store Inv-loop μ-loop
+mul-store c = search needs
+
+store-requires : tie.Need-store-requires Inv-loop μ-loop
+store-requires c κs =
+    let s = c .before .before .before .before .before .before .before .before .before .before .before in
+    let l = c .before .before .before .before .before .before .loop in
+    record { within = omega (arith, s .pre .few); room = omega (arith, l .inv .1 .same-length, s .pre .room) }
+
+add-i : tie.Need-add-i Inv-loop μ-loop
+add-i c = search needs
+
+loop-less : tie.Need-loop-less Inv-loop μ-loop
+loop-less c = search needs
+
+loop-again : tie.Need-loop-again Inv-loop μ-loop
+loop-again c =
+    let s = c .before .before .before .before .before .before .before .before .before .before .before .before .before .before in
+    let a = s .args in
+    let l = c .before .before .before .before .before .before .before .before .before .loop in
+    let seen = c .before .before .before .before .before .before .image-at in
+    let e : seen .result ≡ look-at (a .p) (a .first .now) (a .second .now) (a .points .now) (l .i) = seen .ensures ∙ ap (image-of (a .p) (a .first .now) (a .second .now)) (part-is 3 (l .i) (a .points .now)) in (
+      omega arith,
+      looks-next (a .p) (a .first .now) (a .second .now) (a .points .now) (a .work .now) (l .i) (l .work) _ (l .sizes) (seen .result) (c .before .before .before .before .before .size .result) (omega (arith, s .pre .few)) (s .pre .room) (l .inv .1)
+          e (ap (λ (r : ImageRecord). length (r .coefficients)) e ∙ look-eight (a .p) (a .first .now) (a .second .now) (a .points .now) (a .work .now) (s .pre) (l .i) .eight)
+          (c .before .before .before .before .before .size .ensures) (c .before .before .store .ensures),
+    )
+
+same-length : tie.Need-same-length Inv-loop μ-loop
+same-length c = search needs
+
+returns : tie.Need-returns Inv-loop μ-loop
+returns c =
+    let a = c .before .before .before .before .before .before .args in
+    let l = c .before .loop in
+    let e : l .i ≡ length (a .points .now) / 3 = omega arith in
+    subst (λ (n : ℕ). Looks n (a .p) (a .first .now) (a .second .now) (a .points .now) (a .work .now) (l .work) (l .sizes)) e (l .inv .1)
+
+pub look-spec : {M : Type 1} → statement M
+look-spec =
+    tie.close
+    (tie.spec
+    Inv-loop
+    μ-loop
+    loop-holds
+    mul-at
+    add-image-at
+    mul-image-at
+    sub-image-at
+    part-image-at-start
+    part-image-at-end
+    image-at-requires
+    size-requires
+    mul-sizes
+    array-write-sizes
+    mul-store
+    store-requires
+    add-i
+    loop-less
+    loop-again
+    same-length
+    returns)

@@ -1,0 +1,59 @@
+// The images of the points in the work room: eight numbers for each, the first point's first.
+ghost use Rattle.divisor.specs.Models.Looks.{LookReady, Looks, StoreReady, Stored};
+ghost use Rattle.divisor.specs.Models.Sorting.{size-of};
+ghost use mathlib.Core.Path.{_≡_};
+ghost use Prim.Native.Nat.{_/_, _<_};
+ghost use lib.ListN.{length};
+use crate::sorting::Sizes;
+use field::Number;
+use poly::Eight;
+use poly::ImageRecord;
+use poly::Term;
+
+// Eight numbers into the work room, from a place on.
+fn store(coefficients: Eight, at: usize, work: &mut [Number])
+    requires { ⌜ StoreReady at (now work) ⌝ }
+    ensures { λ _. ⌜ Stored 8 coefficients at (now (work .entry)) (now (work .exit)) ⌝ }
+{
+    let mut j: usize = 0;
+    while j < 8 {
+        work[at + j] = coefficients[j];
+        j += 1;
+    }
+}
+
+// 0 for a bad point, else one more than the image's degree.
+fn size(seen: ImageRecord) -> Number
+    requires { ⌜ seen .degree < 8 ⌝ }
+    ensures { λ r. ⌜ r ≡ size-of seen ⌝ }
+{
+    let fault = seen.fault;
+    if fault.number != 0 {
+        return 0;
+    }
+    seen.degree as Number + 1
+}
+
+// The image at each point into the work room, and the sizes.
+pub fn look(
+    p: Number,
+    first: &[Term],
+    second: &[Term],
+    points: &[Number],
+    work: &mut [Number],
+) -> Sizes
+    requires { ⌜ LookReady p (now first) (now second) (now points) (now work) ⌝ }
+    ensures { λ r. ⌜ Looks (length (now (points .entry)) / 3) p (now (first .entry)) (now (second .entry)) (now (points .entry)) (now (work .entry)) (now (work .exit)) r ⌝ }
+{
+    let mut sizes: Sizes = [0; 32];
+    let mut i: usize = 0;
+    while i < points.len() / 3 {
+        let at = 3 * i;
+        let seen = poly::image::image_at(p, first, second, &points[at..at + 3]);
+        sizes[i] = size(seen);
+        let coefficients = seen.coefficients;
+        store(coefficients, 8 * i, work);
+        i += 1;
+    }
+    sizes
+}

@@ -1,0 +1,162 @@
+-- `most` meets its contract. The invariant: in each variable, the greatest so far with the others' is the greatest of all. Assumes nothing.
+use mathlib.Core.Path.{_≡_}
+use mathlib.Core.List.{List}
+use Prim.Native.Nat.{ℕ, _-_, _≤_, max}
+use native.Mathlib.Omega.{arith}
+use lib.ListN.{length, drop}
+use Rattle.algebra.specs.GreatestExponent.{Variable, in-x, in-y, in-z, in-w}
+use Rattle.poly.specs.Models.Division.{most}
+use Rattle.poly.specs.Laws.GreatestExponents.{most-small}
+use Rattle.poly.specs.Laws.DivisionTurns.{most-turn, most-end}
+use borrow.Author.Needs.{needs}
+use Rattle.poly.proofs.division.most.Statement.{statement}
+use Rattle.poly.proofs.division.most.Tie as tie
+use Rattle.poly.proofs.division.most.Reads as reads
+use Rattle.poly.proofs.division.most.Lts as lts
+use Rattle.poly.proofs.division.larger.Reads as larger-reads
+use Rattle.poly.proofs.key.Key.of.Reads as of-reads
+use Rattle.poly.proofs.key.Key.pack.Reads as pack-reads
+use Rattle.poly.proofs.key.Key.w.Reads as w-reads
+use Rattle.poly.proofs.key.Key.x.Reads as x-reads
+use Rattle.poly.proofs.key.Key.y.Reads as y-reads
+use Rattle.poly.proofs.key.Key.z.Reads as z-reads
+
+-- m is the greatest of the first i, so that with the others' it is the greatest of all
+abbrev SoFar : Variable → List ℕ → ℕ → ℕ → Type 0
+SoFar v ts i m = max m (most v (drop i ts)) ≡ most v ts
+
+abbrev Inv-loop : tie.InvT-loop
+Inv-loop terms x₀ y₀ z₀ w₀ i₀ x y z w i = (i ≤ length terms) × SoFar in-x terms i x × SoFar in-y terms i y × SoFar in-z terms i z × SoFar in-w terms i w
+
+abbrev μ-loop : tie.MeasureT-loop
+μ-loop terms x₀ y₀ z₀ w₀ i₀ x y z w i = length terms - i
+
+-- src/division.rt:38:5
+loop-holds : tie.Need-loop-holds Inv-loop μ-loop
+loop-holds c = (omega arith, omega arith, omega arith, omega arith, omega arith)
+
+-- src/division.rt:39:27
+mul-of : tie.Need-mul-of Inv-loop μ-loop
+mul-of c = search needs
+
+-- src/division.rt:39:27
+shared-slice-read-of : tie.Need-shared-slice-read-of Inv-loop μ-loop
+shared-slice-read-of c = search needs
+
+-- src/division.rt:39:13
+of-requires : tie.Need-of-requires Inv-loop μ-loop
+of-requires c κs = search needs
+
+-- src/division.rt:40:23
+x-requires : tie.Need-x-requires Inv-loop μ-loop
+x-requires c κs = search needs
+
+-- src/division.rt:40:9
+larger-requires : tie.Need-larger-requires Inv-loop μ-loop
+larger-requires c κs = search needs
+
+-- src/division.rt:41:23
+y-requires : tie.Need-y-requires Inv-loop μ-loop
+y-requires c κs = search needs
+
+-- src/division.rt:41:9
+larger-requires-2 : tie.Need-larger-requires-2 Inv-loop μ-loop
+larger-requires-2 c κs = search needs
+
+-- src/division.rt:42:23
+z-requires : tie.Need-z-requires Inv-loop μ-loop
+z-requires c κs = search needs
+
+-- src/division.rt:42:9
+larger-requires-3 : tie.Need-larger-requires-3 Inv-loop μ-loop
+larger-requires-3 c κs = search needs
+
+-- src/division.rt:43:23
+w-requires : tie.Need-w-requires Inv-loop μ-loop
+w-requires c κs = search needs
+
+-- src/division.rt:43:9
+larger-requires-4 : tie.Need-larger-requires-4 Inv-loop μ-loop
+larger-requires-4 c κs = search needs
+
+-- src/division.rt:44:9
+add-i : tie.Need-add-i Inv-loop μ-loop
+add-i c = search needs
+
+-- src/division.rt:38:5
+loop-less : tie.Need-loop-less Inv-loop μ-loop
+loop-less c = search needs
+
+-- src/division.rt:38:5
+loop-again : tie.Need-loop-again Inv-loop μ-loop
+loop-again c =
+    let lz = c .before .before in
+    let ly = lz .before .before in
+    let lx = ly .before .before in
+    let o = lx .before .before in
+    let a = o .before .before .before in
+    let ts = a .before .before .args .terms .now in
+    let h = o .before .before .loop-test .taken in (
+      omega arith,
+      most-turn in-x ts (a .loop .i) (a .loop .x) (a .loop .inv .1) h (o .of .ensures) (lx .before .x .ensures) (lx .larger .ensures),
+      most-turn in-y ts (a .loop .i) (a .loop .y) (a .loop .inv .2) h (o .of .ensures) (ly .before .y .ensures) (ly .larger2 .ensures),
+      most-turn in-z ts (a .loop .i) (a .loop .z) (a .loop .inv .3) h (o .of .ensures) (lz .before .z .ensures) (lz .larger3 .ensures),
+      most-turn in-w ts (a .loop .i) (a .loop .w) (a .loop .inv .4) h (o .of .ensures) (c .before .w .ensures) (c .larger4 .ensures),
+    )
+
+-- at the end
+module _ (c : tie.After-loop Inv-loop μ-loop) where
+  abbrev ts : List ℕ
+  ts = c .before .before .before .args .terms .now
+
+  x-is : c .before .loop .x ≡ most in-x ts
+  x-is = most-end in-x ts (c .before .loop .i) (c .before .loop .x) (c .before .loop .inv .1) (c .loop-test .left)
+
+  y-is : c .before .loop .y ≡ most in-y ts
+  y-is = most-end in-y ts (c .before .loop .i) (c .before .loop .y) (c .before .loop .inv .2) (c .loop-test .left)
+
+  z-is : c .before .loop .z ≡ most in-z ts
+  z-is = most-end in-z ts (c .before .loop .i) (c .before .loop .z) (c .before .loop .inv .3) (c .loop-test .left)
+
+  w-is : c .before .loop .w ≡ most in-w ts
+  w-is = most-end in-w ts (c .before .loop .i) (c .before .loop .w) (c .before .loop .inv .4) (c .loop-test .left)
+
+-- src/division.rt:46:5
+pack-requires : tie.Need-pack-requires Inv-loop μ-loop
+pack-requires c κs =
+    let ts = c .before .before .before .args .terms .now in
+    let h = c .before .before .before .pre in
+    record {
+      x-small = omega (arith, x-is c, most-small in-x ts h);
+      y-small = omega (arith, y-is c, most-small in-y ts h);
+      z-small = omega (arith, z-is c, most-small in-z ts h);
+      w-small = omega (arith, w-is c, most-small in-w ts h);
+    }
+
+-- src/division.rt:29:1
+returns : tie.Need-returns Inv-loop μ-loop
+returns c = omega (arith, c .pack .ensures, x-is (c .before), y-is (c .before), z-is (c .before), w-is (c .before))
+
+pub most-spec : {M : Type 1} → statement M
+most-spec =
+    tie.close
+    (tie.spec
+    Inv-loop
+    μ-loop
+    loop-holds
+    mul-of
+    shared-slice-read-of
+    of-requires
+    x-requires
+    larger-requires
+    y-requires
+    larger-requires-2
+    z-requires
+    larger-requires-3
+    w-requires
+    larger-requires-4
+    add-i
+    loop-less
+    loop-again
+    pack-requires
+    returns)

@@ -1,0 +1,105 @@
+-- `spread` meets its contract. The invariant: what is left of the list, spread over the cells as they are, gives what the whole list gave. Assumes nothing.
+use mathlib.Core.Path.{_≡_, refl, sym, _∙_}
+use Prim.Native.Nat.{_-_, _≤_, _<_}
+use native.Mathlib.Omega.{arith}
+use lib.ListN.{length, drop, length-set}
+use Rattle.poly.specs.Models.Spread.{spread}
+use Rattle.poly.specs.Laws.DivisionTurns.{spread-turn, spread-end}
+use borrow.Author.Needs.{needs}
+use Rattle.poly.proofs.division.spread.Statement.{statement}
+use Rattle.poly.proofs.division.spread.Tie as tie
+use Rattle.poly.proofs.division.spread.Reads as reads
+use Rattle.poly.proofs.division.spread.Lts as lts
+use Rattle.poly.proofs.key.Key.of.Reads as of-reads
+use Rattle.poly.proofs.key.coefficient_of.Reads as coefficient-of-reads
+
+abbrev Inv-loop : tie.InvT-loop
+Inv-loop terms cells₀ i₀ cells i = (i ≤ length terms) × (length cells ≡ length cells₀) × (spread terms cells₀ ≡ spread (drop i terms) cells)
+
+abbrev μ-loop : tie.MeasureT-loop
+μ-loop terms cells₀ i₀ cells i = length terms - i
+
+-- the key of the term at i is a cell's
+below : (c : tie.After-coefficient-of Inv-loop μ-loop) → c .before .before .of .result .bits < length (c .before .before .before .before .before .loop .cells)
+below c =
+    let a = c .before .before .before .before .before in
+    omega (arith, a .before .before .before .pre (a .loop .i) (c .before .before .before .before .loop-test .taken), c .before .before .of .ensures, a .loop .inv .1)
+
+-- src/division.rt:84:5
+loop-holds : tie.Need-loop-holds Inv-loop μ-loop
+loop-holds c = search needs
+
+-- src/division.rt:85:17
+mul-t : tie.Need-mul-t Inv-loop μ-loop
+mul-t c = search needs
+
+-- src/division.rt:85:17
+shared-slice-read-t : tie.Need-shared-slice-read-t Inv-loop μ-loop
+shared-slice-read-t c = search needs
+
+-- src/division.rt:86:13
+of-requires : tie.Need-of-requires Inv-loop μ-loop
+of-requires c κs = search needs
+
+-- src/division.rt:87:18
+cast-at : tie.Need-cast-at Inv-loop μ-loop
+cast-at c = search needs
+
+-- src/division.rt:88:21
+coefficient-of-requires : tie.Need-coefficient-of-requires Inv-loop μ-loop
+coefficient-of-requires c κs = search needs
+
+-- src/division.rt:88:9
+mul-cells : tie.Need-mul-cells Inv-loop μ-loop
+mul-cells c = omega (arith, below c, c .before .before .before .before .before .before .before .before .good .1 .0 .0, c .before .before .before .before .before .loop .inv .1)
+
+-- src/division.rt:88:9
+slice-write-cells : tie.Need-slice-write-cells Inv-loop μ-loop
+slice-write-cells c = below c
+
+-- src/division.rt:89:9
+add-i : tie.Need-add-i Inv-loop μ-loop
+add-i c = search needs
+
+-- src/division.rt:84:5
+loop-less : tie.Need-loop-less Inv-loop μ-loop
+loop-less c = search needs
+
+-- src/division.rt:84:5
+loop-again : tie.Need-loop-again Inv-loop μ-loop
+loop-again c =
+    let a = c .before .before .before .before .before in
+    let g = a .before .before .before .args in (
+      omega arith,
+      simp length-set (a .loop .inv .1),
+      a .loop .inv .2
+          ∙ spread-turn (g .terms .now) (a .loop .cells) (a .loop .i) (c .before .before .before .before .loop-test .taken) (c .before .before .of .ensures) (c .coefficient-of .ensures),
+    )
+
+-- src/division.rt:79:1
+same-length : tie.Need-same-length Inv-loop μ-loop
+same-length c = search needs
+
+-- src/division.rt:79:1
+returns : tie.Need-returns Inv-loop μ-loop
+returns c = sym (c .before .loop .inv .2 ∙ spread-end _ _ _ (c .loop-test .left))
+
+pub spread-spec : {M : Type 1} → statement M
+spread-spec =
+    tie.close
+    (tie.spec
+    Inv-loop
+    μ-loop
+    loop-holds
+    mul-t
+    shared-slice-read-t
+    of-requires
+    cast-at
+    coefficient-of-requires
+    mul-cells
+    slice-write-cells
+    add-i
+    loop-less
+    loop-again
+    same-length
+    returns)

@@ -1,0 +1,227 @@
+-- `steps` meets its contract. The invariant of the steps: what is left of the division, from the cell k down, ends as the whole does;
+-- of the search: the cells passed are 0. Both measures are k. Assumes nothing.
+use mathlib.Core.Path.{_≡_, refl, sym, _∙_, ap}
+use mathlib.Core.Bool.{true, false}
+use mathlib.Core.List.{List}
+use Prim.Native.Nat.{ℕ, _+_, _-_, _*_, _%_, _≤_, _<_}
+use native.Mathlib.Nat.{mod-lt}
+use native.Mathlib.Omega.{arith}
+use borrow.Author.Tests.{not-true, not-false}
+use lib.ListN.{length, getD, set, length-set}
+use Rattle.poly.specs.Keys.{keys}
+use Rattle.poly.specs.Laws.DivisionGoing.{left-of, Going, going-start, going-passed, going-on, going-done, going-stopped, lead-below, product-below, going-taken}
+use Rattle.poly.specs.Models.Division.{KeysBelow, Setting, less-product, fits}
+use borrow.Author.Needs.{needs}
+use Rattle.poly.proofs.division.steps.Statement.{statement}
+use Rattle.poly.proofs.division.steps.Tie as tie
+use Rattle.poly.proofs.division.steps.Reads as reads
+use Rattle.poly.proofs.division.steps.Lts as lts
+use Rattle.field.proofs.times.Reads as times-reads
+use Rattle.poly.proofs.division.fits.Reads as fits-reads
+use Rattle.poly.proofs.division.subtract.Reads as subtract-reads
+
+abbrev setting : ℕ → List ℕ → ℕ → ℕ → ℕ → Setting
+setting p divisor lead inverse bound = record { modulus = p; terms = divisor; lead = lead; inverse = inverse; bound = bound }
+
+abbrev Inv-loop : tie.InvT-loop
+Inv-loop p divisor lead inverse bound work low k₀ whole k =
+    (k ≤ k₀) × (left-of (setting p divisor lead inverse (bound .bits)) work k₀ ≡ left-of (setting p divisor lead inverse (bound .bits)) work k)
+
+abbrev μ-loop : tie.MeasureT-loop
+μ-loop p divisor lead inverse bound work low k₀ whole k = k
+
+abbrev Inv-steps : tie.InvT-steps
+Inv-steps p divisor lead inverse bound work₀ low k₀ whole₀ work k whole =
+    (whole ≡ true) × Going (setting p divisor lead inverse (bound .bits)) work₀ work k
+
+abbrev μ-steps : tie.MeasureT-steps
+μ-steps p divisor lead inverse bound work₀ low k₀ whole₀ work k whole = k
+
+-- the division of this call, the room before it, and how far it is at the search's test
+module _ (l : tie.At-loop Inv-loop μ-loop Inv-steps μ-steps) where
+  abbrev d : Setting
+  d =
+      let a = l .before .before .before .before .args in
+      setting (a .p) (a .divisor .now) (a .lead) (a .inverse) (a .bound .bits)
+
+  abbrev before : List ℕ
+  before = l .before .before .before .before .args .work .now
+
+  abbrev work : List ℕ
+  work = l .before .steps .work
+
+  going : Going d before work (l .loop .k)
+  going = going-on d before work (l .before .steps .k) (l .loop .k) (l .before .steps .inv .1) (l .loop .inv .0) (l .loop .inv .1)
+
+-- a leading term that can be divided
+module _ (c : tie.Else2 Inv-loop μ-loop Inv-steps μ-steps) where
+  abbrev at : tie.At-loop Inv-loop μ-loop Inv-steps μ-steps
+  at = c .before .before .before .before .before
+
+  yes : fits (d at) (at .loop .k - 1) ≡ true
+  yes = sym (c .before .fits2 .ensures) ∙ not-false _ (c .if2 .left)
+
+  below : d at .lead ≤ at .loop .k - 1
+  below =
+      lead-below (d at) (before at) (work at) (at .loop .k) (going at) (c .before .before .before .before .loop-test .left) (c .before .before .if1 .taken)
+      (at .before .before .before .before .pre) yes
+
+  within : KeysBelow (at .loop .k - 1 - d at .lead) keys (d at .terms)
+  within =
+      product-below (d at) (before at) (work at) (at .loop .k) (going at) (c .before .before .before .before .loop-test .left) (c .before .before .if1 .taken)
+      (at .before .before .before .before .pre) yes
+
+  taken : (q : ℕ) (after : List ℕ) → q ≡ (getD (work at) (at .loop .k - 1) 0 * d at .inverse) % d at .modulus
+      → after ≡ less-product (d at .modulus) (at .loop .k - 1 - d at .lead) q (d at .terms) (set (work at) (keys + (at .loop .k - 1 - d at .lead)) q)
+      → Going (d at) (before at) after (at .loop .k - 1)
+  taken =
+      going-taken (d at) (before at) (work at) (at .loop .k) (going at) (c .before .before .before .before .loop-test .left) (c .before .before .if1 .taken)
+      (at .before .before .before .before .pre) yes
+
+-- src/division.rt:118:5
+steps-holds : tie.Need-steps-holds Inv-loop μ-loop Inv-steps μ-steps
+steps-holds c = search needs
+
+-- src/division.rt:119:9
+loop-holds : tie.Need-loop-holds Inv-loop μ-loop Inv-steps μ-steps
+loop-holds c = search needs
+
+-- src/division.rt:123:13
+sub-k : tie.Need-sub-k Inv-loop μ-loop Inv-steps μ-steps
+sub-k c = search needs
+
+-- src/division.rt:124:16
+mul-if1 : tie.Need-mul-if1 Inv-loop μ-loop Inv-steps μ-steps
+mul-if1 c = search needs
+
+-- src/division.rt:124:16
+slice-read-if1 : tie.Need-slice-read-if1 Inv-loop μ-loop Inv-steps μ-steps
+slice-read-if1 c = search needs
+
+-- src/division.rt:119:9
+loop-less : tie.Need-loop-less Inv-loop μ-loop Inv-steps μ-steps
+loop-less c = search needs
+
+-- src/division.rt:119:9
+loop-again : tie.Need-loop-again Inv-loop μ-loop Inv-steps μ-steps
+loop-again c =
+    let l = c .before .before .before in
+    (omega arith, l .loop .inv .1 ∙ going-passed (d l) (work l) (l .loop .k) (going l .cells) (c .before .before .loop-test .left) (c .if1 .left))
+
+-- src/division.rt:128:18
+cast-fits : tie.Need-cast-fits Inv-loop μ-loop Inv-steps μ-steps
+cast-fits c = search needs
+
+-- src/division.rt:128:13
+fits-requires : tie.Need-fits-requires Inv-loop μ-loop Inv-steps μ-steps
+fits-requires c κs = search needs
+
+-- src/division.rt:132:33
+mul-times : tie.Need-mul-times Inv-loop μ-loop Inv-steps μ-steps
+mul-times c = search needs
+
+-- src/division.rt:132:33
+slice-read-times : tie.Need-slice-read-times Inv-loop μ-loop Inv-steps μ-steps
+slice-read-times c = search needs
+
+-- src/division.rt:132:13
+times-requires : tie.Need-times-requires Inv-loop μ-loop Inv-steps μ-steps
+times-requires c κs = search needs
+
+-- src/division.rt:133:22
+sub-work : tie.Need-sub-work Inv-loop μ-loop Inv-steps μ-steps
+sub-work c = below (c .before .before)
+
+-- src/division.rt:133:14
+add-work : tie.Need-add-work Inv-loop μ-loop Inv-steps μ-steps
+add-work c = search needs
+
+-- src/division.rt:133:9
+mul-work : tie.Need-mul-work Inv-loop μ-loop Inv-steps μ-steps
+mul-work c = search needs
+
+-- src/division.rt:133:9
+slice-write-work : tie.Need-slice-write-work Inv-loop μ-loop Inv-steps μ-steps
+slice-write-work c = search needs
+
+-- src/division.rt:134:24
+sub-subtract : tie.Need-sub-subtract Inv-loop μ-loop Inv-steps μ-steps
+sub-subtract c = below (c .before .before)
+
+-- src/division.rt:134:9
+subtract-requires : tie.Need-subtract-requires Inv-loop μ-loop Inv-steps μ-steps
+subtract-requires c κs =
+    let e = c .before .before .before in
+    let l = e .before .before .before .before .before in
+    let z = l .before .before .before .before in
+    let long = length-set (work l) (keys + (l .loop .k - 1 - d l .lead)) (c .before .times .result) in
+    record {
+      positive = z .pre .positive;
+      reduced = omega (arith, c .before .times .ensures, mod-lt (getD (work l) (l .loop .k - 1) 0 * d l .inverse) (z .pre .positive));
+      within = λ i h. omega (arith, within e i h, z .pre .room, going l .same-length, long);
+    }
+
+-- src/division.rt:118:5
+steps-less : tie.Need-steps-less Inv-loop μ-loop Inv-steps μ-steps
+steps-less c = search needs
+
+-- src/division.rt:118:5
+steps-again : tie.Need-steps-again Inv-loop μ-loop Inv-steps μ-steps
+steps-again c =
+    let u = c .before .before in
+    let m = u .before .before in
+    let e = m .before .before in
+    (e .before .before .before .before .before .before .steps .inv .0, taken e (m .times .result) _ (m .times .ensures) (u .subtract .ensures))
+
+-- src/division.rt:111:1
+same-length : tie.Need-same-length Inv-loop μ-loop Inv-steps μ-steps
+same-length c = search needs
+
+-- src/division.rt:111:1
+returns : tie.Need-returns Inv-loop μ-loop Inv-steps μ-steps
+returns c = rw (c .before .before .steps .inv .0) (going-done (d (c .before)) (before (c .before)) (work (c .before)) (c .before .loop .k) (going (c .before)) (c .loop-test .taken))
+
+-- src/division.rt:111:1
+same-length-2 : tie.Need-same-length-2 Inv-loop μ-loop Inv-steps μ-steps
+same-length-2 c = search needs
+
+-- src/division.rt:111:1
+returns-2 : tie.Need-returns-2 Inv-loop μ-loop Inv-steps μ-steps
+returns-2 c =
+    let t = c .before .before in
+    let l = t .before .before .before in
+    going-stopped (d l) (before l) (work l) (l .loop .k) (going l) (t .before .before .loop-test .left) (t .if1 .taken)
+    (sym (c .before .fits2 .ensures) ∙ not-true _ (c .if2 .taken))
+
+pub steps-spec : {M : Type 1} → statement M
+steps-spec =
+    tie.close
+    (tie.spec
+    Inv-loop
+    μ-loop
+    Inv-steps
+    μ-steps
+    steps-holds
+    loop-holds
+    sub-k
+    mul-if1
+    slice-read-if1
+    loop-less
+    loop-again
+    cast-fits
+    fits-requires
+    mul-times
+    slice-read-times
+    times-requires
+    sub-work
+    add-work
+    mul-work
+    slice-write-work
+    sub-subtract
+    subtract-requires
+    steps-less
+    steps-again
+    same-length
+    returns
+    same-length-2
+    returns-2)

@@ -1,0 +1,176 @@
+-- The rule of division ends on any two lists that fall, within as many steps as there are keys, and the division on cells gives its answer and its terms.
+-- So it is decided whether one list divides another. Assumes nothing.
+use mathlib.Core.Path.{_≡_, refl, sym, _∙_, ap, ap₂, subst}
+use mathlib.Core.Logic.{_↔_}
+use mathlib.Core.Bool.{Bool, true, false}
+use mathlib.Core.List.{List, [], _∷_}
+use Prim.Native.Nat.{ℕ, _-_, _≤_, _<_}
+use native.Mathlib.Omega.{arith}
+use lib.ListN.{length, getD, replicate, length-map, length-replicate, getD-replicate}
+use native.Mathlib.Decide.{decLt}
+use Rattle.algebra.specs.Ring.{zero-add}
+use Rattle.algebra.specs.Series.{S4}
+use Rattle.algebra.specs.Four.{Exponents, _⊞_, _≼_, D4}
+use Rattle.algebra.specs.Field.{domain}
+use Rattle.algebra.specs.Monomial.{Term, polynomial-fin}
+use Rattle.algebra.specs.Division.{stop, Division}
+use Rattle.algebra.specs.DivisionLaws.{division-says}
+use Rattle.field.specs.Fp.{Fp, el, inv, mul}
+use Rattle.field.specs.FpLaws.{el-val, el-nonzero, Fp-mul-comm}
+use Rattle.field.specs.InverseLaws.{mul-inv}
+use Rattle.field.specs.Prime.{Prime}
+use Rattle.field.specs.PrimeLaws.{prime-positive}
+use Rattle.field.specs.Modulo.{Modulo}
+use Rattle.poly.specs.Keys.{exponents, keys}
+use Rattle.poly.specs.Terms.{key-of, coefficient-of, term-of, terms-of, poly}
+use Rattle.poly.specs.Image.{Divides}
+use Rattle.poly.specs.Laws.KeyDifference.{at-most-says, at-most-of, exponents-difference}
+use Rattle.poly.specs.Laws.Lists.{Falling}
+use Rattle.poly.specs.Laws.Falling.{falling-keys}
+use Rattle.poly.specs.Laws.Terms.{poly-lead}
+use Rattle.poly.specs.Laws.GreatestExponents.{most-exponents, sizes}
+use Rattle.poly.specs.Laws.Dense.{Reduced, dense, dense-zero}
+use Rattle.poly.specs.Laws.Spread.{spread-length, spread-reduced, spread-dense}
+use Rattle.poly.specs.Laws.DivisionSteps.{found-few}
+use Rattle.poly.specs.Laws.DivisionModel.{model-division}
+use Rattle.poly.specs.Models.Cells.{past-end}
+use Rattle.poly.specs.Models.Spread.{spread}
+use Rattle.poly.specs.Models.Division.{most-of, most-key, at-most, setting, divide-from, found-from, divided, found}
+
+-- a list means a polynomial
+pub poly-finite : (p : ℕ) (P : Prime p) (ts : List ℕ) → D4 (Modulo p P .ring) (domain (Modulo p P)) .P (poly p P ts)
+poly-finite p P ts = polynomial-fin (Modulo p P .ring) (domain (Modulo p P)) (λ c. tt) (terms-of p P ts)
+
+-- cells, one for each key, that are 0
+pub record Empty (l : List ℕ) : Type 0 where
+  pub long : length l ≡ keys
+  pub zeros : (i : ℕ) → getD l i 0 ≡ 0
+
+pub empty-cells : (l : List ℕ) → length l ≡ keys → ((i : ℕ) → i < keys → getD l i 0 ≡ 0) → Empty l
+empty-cells l e z = record { long = e; zeros = λ i. go i (decLt i keys) }
+  where
+    go : (i : ℕ) → Dec (i < keys) → getD l i 0 ≡ 0
+    go i (yes h) = z i h
+    go i (no h) = past-end keys i l e (omega arith)
+
+-- a list spread over them
+module _ (p : ℕ) (P : Prime p) (f : List ℕ) (hf : Falling p keys f) (l : List ℕ) (empty : Empty l) where
+  pub begun-long : length (spread f l) ≡ keys
+  begun-long = spread-length f l ∙ empty .long
+
+  enough : keys ≤ length l
+  enough = subst (λ (n : ℕ). keys ≤ n) (sym (empty .long)) (omega arith)
+
+  pub begun-reduced : Reduced p (spread f l)
+  begun-reduced = spread-reduced p P f l keys hf enough (λ i. subst (λ (n : ℕ). n < p) (sym (empty .zeros i)) (prime-positive P))
+
+  pub begun-means : dense p P (spread f l) ≡ poly p P f
+  begun-means =
+      spread-dense p P f l keys hf enough (λ i h. empty .zeros i)
+      ∙ ap (λ (d : S4 (Modulo p P .ring) .Car). S4 (Modulo p P .ring) .add d (poly p P f)) (dense-zero p P l (empty .zeros))
+      ∙ zero-add (S4 (Modulo p P .ring)) _
+
+-- where the divisor's greatest exponents are at most the dividend's
+module _ (p : ℕ) (P : Prime p) (t : ℕ) (ts : List ℕ) (u : ℕ) (us : List ℕ) (hf : Falling p keys (t ∷ ts)) (hg : Falling p keys (u ∷ us)) where
+  pub lead-inverse : mul (el p (setting p (t ∷ ts) (u ∷ us) .inverse)) (el p (coefficient-of u)) ≡ el p 1
+  lead-inverse =
+      ap (λ (x : Fp p). mul x (el p (coefficient-of u))) (el-val (inv (el p (coefficient-of u))))
+      ∙ Fp-mul-comm (inv (el p (coefficient-of u))) (el p (coefficient-of u))
+      ∙ mul-inv P (el p (coefficient-of u)) (el-nonzero p (coefficient-of u) (hg .2) (let l = hg .1 in omega arith))
+
+  pub spare : at-most (most-key (u ∷ us)) (most-key (t ∷ ts)) ≡ true → exponents (setting p (t ∷ ts) (u ∷ us) .bound) ⊞ most-of (u ∷ us) ≡ most-of (t ∷ ts)
+  spare h =
+      let b = most-key (t ∷ ts) - most-key (u ∷ us) in
+      ap (λ (e : Exponents). exponents b ⊞ e) (sym (most-exponents (u ∷ us) (falling-keys p keys (u ∷ us) hg)))
+      ∙ sym (exponents-difference (most-key (u ∷ us)) (most-key (t ∷ ts)) (at-most-says (most-key (u ∷ us)) (most-key (t ∷ ts)) h))
+      ∙ most-exponents (t ∷ ts) (falling-keys p keys (t ∷ ts) hf)
+
+  -- where one is not, the rule stops at once
+  too-wide : at-most (most-key (u ∷ us)) (most-key (t ∷ ts)) ≡ false → Division (Modulo p P .ring) (poly p P (t ∷ ts)) (poly p P (u ∷ us)) [] false
+  too-wide h =
+      record {
+        sizes = sizes p P t ts u us hf hg;
+        goes = stop (exponents (key-of t)) (poly-lead p P t ts keys hf) (λ e o. never (wide e (o .bounded)));
+      }
+    where
+      wide : (e : Exponents) → e ⊞ most-of (u ∷ us) ≼ most-of (t ∷ ts) → most-of (u ∷ us) ≼ most-of (t ∷ ts)
+      wide e l =
+          record { x = let m = l .x in omega arith; y = let m = l .y in omega arith; z = let m = l .z in omega arith; w = let m = l .w in omega arith }
+
+      never : most-of (u ∷ us) ≼ most-of (t ∷ ts) → ⊥
+      never l =
+          let m : exponents (most-key (u ∷ us)) ≼ exponents (most-key (t ∷ ts)) =
+          rw (most-exponents (u ∷ us) (falling-keys p keys (u ∷ us) hg), most-exponents (t ∷ ts) (falling-keys p keys (t ∷ ts) hf)) l in
+          let e = at-most-of (most-key (u ∷ us)) (most-key (t ∷ ts)) m in
+          let z : _≡_ {A = ℕ} 0 1 = cc in
+          omega arith
+
+  -- the division on cells goes by the rule, and finds its terms
+  lists-division : p ≤ 65536 → (l c : List ℕ) → Empty l → (a : Bool) → at-most (most-key (u ∷ us)) (most-key (t ∷ ts)) ≡ a
+      → Division (Modulo p P .ring) (poly p P (t ∷ ts)) (poly p P (u ∷ us)) (terms-of p P (found p (t ∷ ts) (u ∷ us) l)) (divided p (t ∷ ts) (u ∷ us) l c .whole)
+  unfolding found divided
+  lists-division word l c empty true e =
+      rw (e, found, divided)
+      (model-division p P word t ts u us hf hg (setting p (t ∷ ts) (u ∷ us) .inverse) lead-inverse (setting p (t ∷ ts) (u ∷ us) .bound) (spare e)
+      (spread (t ∷ ts) l) c (begun-long p P (t ∷ ts) hf l empty) (begun-reduced p P (t ∷ ts) hf l empty) (begun-means p P (t ∷ ts) hf l empty))
+  lists-division word l c empty false e = rw (e, found, divided) (too-wide e)
+
+-- two lists that are not empty and fall
+module _ (p : ℕ) (P : Prime p) (word : p ≤ 65536) where
+  pub divided-division : (f g : List ℕ) → 0 < length f → Falling p keys f → 0 < length g → Falling p keys g → (l c : List ℕ) → Empty l
+      → Division (Modulo p P .ring) (poly p P f) (poly p P g) (terms-of p P (found p f g l)) (divided p f g l c .whole)
+  divided-division [] [] sf hf sg hg l c empty = absurd (omega arith)
+  divided-division [] (u ∷ us) sf hf sg hg l c empty = absurd (omega arith)
+  divided-division (t ∷ ts) [] sf hf sg hg l c empty = absurd (omega arith)
+  divided-division (t ∷ ts) (u ∷ us) sf hf sg hg l c empty = lists-division p P t ts u us hf hg word l c empty _ refl
+
+  -- it says yes exactly if g divides f, as polynomials
+  pub divided-says : (f g : List ℕ) → 0 < length f → Falling p keys f → 0 < length g → Falling p keys g → (l c : List ℕ) → Empty l
+      → (divided p f g l c .whole ≡ true) ↔ Divides (Modulo p P) (poly p P g) (poly p P f)
+  divided-says f g sf hf sg hg l c empty =
+      division-says (Modulo p P .ring) (domain (Modulo p P)) (λ a. tt) (poly p P f) (poly p P g) (terms-of p P (found p f g l)) (divided p f g l c .whole)
+      (poly-finite p P g) (divided-division f g sf hf sg hg l c empty)
+
+  -- at most one term for each key
+  pub found-terms-few : (f g l : List ℕ) → length (found p f g l) ≤ keys
+  unfolding found
+  found-terms-few f g l = go (at-most (most-key g) (most-key f)) refl
+    where
+      go : (a : Bool) → at-most (most-key g) (most-key f) ≡ a → length (found p f g l) ≤ keys
+      go true e = rw (e, found) (found-few (setting p f g) keys (spread f l))
+      go false e = rw (e, found) (omega arith)
+
+  -- a division that ends, with its terms and its answer
+  pub record Ends (f g : List ℕ) : Type 0 where
+    pub terms : List (Term (Modulo p P .ring))
+    pub whole : Bool
+    pub division : Division (Modulo p P .ring) (poly p P f) (poly p P g) terms whole
+    pub few : length terms ≤ keys
+
+  no-cells : List ℕ
+  no-cells = replicate keys 0
+
+  no-cells-empty : Empty no-cells
+  unfolding no-cells
+  no-cells-empty = empty-cells no-cells (length-replicate {A = ℕ} keys 0) (λ i h. getD-replicate {A = ℕ} keys i 0 0 h)
+
+  module _ (f g : List ℕ) (sf : 0 < length f) (hf : Falling p keys f) (sg : 0 < length g) (hg : Falling p keys g) where
+    -- the rule ends within as many steps as there are keys
+    pub division-ends : Ends f g
+    division-ends =
+        record {
+          terms = terms-of p P (found p f g no-cells);
+          whole = divided p f g no-cells [] .whole;
+          division = divided-division f g sf hf sg hg no-cells [] no-cells-empty;
+          few = let e = length-map (found p f g no-cells) (term-of p P) in let m = found-terms-few f g no-cells in omega arith;
+        }
+
+    pub divides-decided : Dec (Divides (Modulo p P) (poly p P g) (poly p P f))
+    divides-decided = go (divided p f g no-cells [] .whole) refl
+      where
+        says : (divided p f g no-cells [] .whole ≡ true) ↔ Divides (Modulo p P) (poly p P g) (poly p P f)
+        says = divided-says f g sf hf sg hg no-cells [] no-cells-empty
+
+        go : (a : Bool) → divided p f g no-cells [] .whole ≡ a → Dec (Divides (Modulo p P) (poly p P g) (poly p P f))
+        go true e = yes (says .0 e)
+        go false e = no (λ d. let y = says .1 d in let z : _≡_ {A = ℕ} 0 1 = cc in omega arith)

@@ -1,0 +1,121 @@
+-- The terms that a division finds fall, and are those gathered from the quotient's cells; where it says yes they are the quotient. Assumes nothing.
+use mathlib.Core.Path.{_≡_, refl, sym, _∙_, ap, subst}
+use mathlib.Core.Bool.{Bool, true, false}
+use mathlib.Core.List.{List, [], _∷_}
+use Prim.Native.Nat.{ℕ, zero, suc, _-_, _*_, _≤_, _<_}
+use native.Mathlib.Nat.{mod-lt}
+use native.Mathlib.Decide.{ℕ-discrete}
+use native.Mathlib.Omega.{arith}
+use lib.ListN.{length, getD}
+use Rattle.algebra.specs.Ring.{CommRing}
+use Rattle.algebra.specs.Series.{S4}
+use Rattle.algebra.specs.Field.{domain}
+use Rattle.algebra.specs.Monomial.{FallsBelow, Falls}
+use Rattle.algebra.specs.Division.{Division}
+use Rattle.algebra.specs.DivisionLaws.{division-falls, division-quotient}
+use Rattle.field.specs.Fp.{el}
+use Rattle.field.specs.Prime.{Prime}
+use Rattle.field.specs.PrimeLaws.{prime-positive}
+use Rattle.field.specs.Modulo.{Modulo}
+use Rattle.poly.specs.Keys.{exponents, keys}
+use Rattle.poly.specs.Terms.{key-of, coefficient-of, terms-of, poly}
+use Rattle.poly.specs.Quotient.{IsQuotient}
+use Rattle.poly.specs.Laws.Keys.{key-order-of}
+use Rattle.poly.specs.Laws.Lists.{Falling}
+use Rattle.poly.specs.Laws.Falling.{falling-right}
+use Rattle.poly.specs.Laws.Terms.{poly-determines}
+use Rattle.poly.specs.Laws.Spread.{gather-falling, gather-dense}
+use Rattle.poly.specs.Laws.DivisionSteps.{found-passed, found-taken, found-stopped}
+use Rattle.poly.specs.Laws.DivisionModel.{key-of-term, coefficient-of-term}
+use Rattle.poly.specs.Laws.QuotientCells.{Stored, nothing-stored, zeros-reduced, quotient-stored, stored-means}
+use Rattle.poly.specs.Laws.DivisionEnds.{Empty, divided-division}
+use Rattle.poly.specs.Models.Cells.{past-end}
+use Rattle.poly.specs.Models.Spread.{spread, gathered}
+use Rattle.poly.specs.Models.Division.{most-key, at-most, Setting, setting, fits, factor, less, divide-from, found-from, divided, found}
+
+-- keys and coefficients in range
+abbrev InRange : ℕ → List ℕ → Type 0
+InRange p [] = Unit {0}
+InRange p (q ∷ qs) = (key-of q < keys) × (coefficient-of q < p) × InRange p qs
+
+module _ (p : ℕ) (P : Prime p) where
+  abbrev R : CommRing
+  R = Modulo p P .ring
+
+  falls-below-list : (qs : List ℕ) (b : ℕ) → InRange p qs → FallsBelow R (exponents b) (terms-of p P qs) → Falling p b qs
+  falls-below-list [] b r h = tt
+  falls-below-list (q ∷ qs) b r h =
+      (key-order-of (key-of q) b (h .0), positive (ℕ-discrete (coefficient-of q) 0), r .1, falls-below-list qs (key-of q) (r .2) (h .2))
+    where
+      positive : Dec (coefficient-of q ≡ 0) → 0 < coefficient-of q
+      positive (yes e) = absurd (h .1 (ap (el p) e))
+      positive (no n) = omega arith
+
+  -- terms that fall, in range, are a list that falls
+  pub falls-list : (qs : List ℕ) → InRange p qs → Falls R (terms-of p P qs) → Falling p keys qs
+  falls-list [] r h = tt
+  falls-list (q ∷ qs) r h = (r .0, positive (ℕ-discrete (coefficient-of q) 0), r .1, falls-below-list qs (key-of q) (r .2) (h .1))
+    where
+      positive : Dec (coefficient-of q ≡ 0) → 0 < coefficient-of q
+      positive (yes e) = absurd (h .0 (ap (el p) e))
+      positive (no n) = omega arith
+
+found-from-in : (d : Setting) → 0 < d .modulus → d .modulus ≤ 65536 → (k : ℕ) (l : List ℕ) → k ≤ keys → InRange (d .modulus) (found-from d k l)
+unfolding found-from
+found-from-in d pos word zero l m = tt
+found-from-in d pos word (suc k) l m = cell (ℕ-discrete (getD l k 0) 0) (fits d k) refl (λ l′. found-from-in d pos word k l′ (omega arith))
+  where
+    cell : Dec (getD l k 0 ≡ 0) → (a : Bool) → fits d k ≡ a → ((l′ : List ℕ) → InRange (d .modulus) (found-from d k l′)) → InRange (d .modulus) (found-from d (suc k) l)
+    cell (yes e) a q again = subst (InRange (d .modulus)) (sym (found-passed d k l e)) (again l)
+    cell (no n) true q again =
+        let b : factor d k l < d .modulus = mod-lt _ pos in
+        let ek = key-of-term (k - d .lead) (factor d k l) (omega arith) in
+        let ec = coefficient-of-term (k - d .lead) (factor d k l) (omega arith) in
+        subst (InRange (d .modulus)) (sym (found-taken d k l n q)) (omega arith, omega arith, again (less d k l))
+    cell (no n) false q again = subst (InRange (d .modulus)) (sym (found-stopped d k l n q)) tt
+
+module _ (p : ℕ) (P : Prime p) (word : p ≤ 65536) (f g : List ℕ) (sf : 0 < length f) (hf : Falling p keys f) (sg : 0 < length g) (hg : Falling p keys g)
+    (l c : List ℕ) (empty : Empty l) (free : Empty c) where
+  found-in : InRange p (found p f g l)
+  unfolding found
+  found-in = go (at-most (most-key g) (most-key f)) refl
+    where
+      go : (a : Bool) → at-most (most-key g) (most-key f) ≡ a → InRange p (found p f g l)
+      go true e = rw (e, found) (found-from-in (setting p f g) (prime-positive P) word keys (spread f l) (omega arith))
+      go false e = rw (e, found) tt
+
+  rule : Division (Modulo p P .ring) (poly p P f) (poly p P g) (terms-of p P (found p f g l)) (divided p f g l c .whole)
+  rule = divided-division p P word f g sf hf sg hg l c empty
+
+  pub found-falling : Falling p keys (found p f g l)
+  found-falling =
+      falls-list p P (found p f g l) found-in
+      (division-falls (Modulo p P .ring) (domain (Modulo p P)) (λ a. tt) (poly p P f) (poly p P g) (terms-of p P (found p f g l)) (divided p f g l c .whole) rule)
+
+  -- the quotient's cells afterwards
+  cells-stored : Stored p P keys c (divided p f g l c .quotient) (found p f g l)
+  unfolding found divided
+  cells-stored = go (at-most (most-key g) (most-key f)) refl
+    where
+      go : (a : Bool) → at-most (most-key g) (most-key f) ≡ a → Stored p P keys c (divided p f g l c .quotient) (found p f g l)
+      go true e = rw (e, found, divided) (quotient-stored (setting p f g) P word keys (spread f l) c (free .long) (free .zeros))
+      go false e = rw (e, found, divided) (nothing-stored p P keys c (free .long) (zeros-reduced p P keys c (free .zeros)))
+
+  -- hold the terms found, and no other
+  pub gathered-found : gathered keys (divided p f g l c .quotient) ≡ found p f g l
+  gathered-found =
+      let r = cells-stored in
+      poly-determines p P (gathered keys (divided p f g l c .quotient)) (found p f g l) keys keys
+      (gather-falling p P word keys (divided p f g l c .quotient) keys (omega arith) (r .reduced)) found-falling
+      (gather-dense p P word keys (divided p f g l c .quotient) (subst (λ (n : ℕ). keys ≤ n) (sym (r .long)) (omega arith)) (r .reduced)
+      (λ i h. past-end keys i (divided p f g l c .quotient) (r .long) h)
+      ∙ stored-means p P keys c (divided p f g l c .quotient) (found p f g l) (free .zeros) r)
+
+  -- where the division says yes, they are the quotient
+  pub quotient-found : divided p f g l c .whole ≡ true → IsQuotient p P f g (found p f g l)
+  quotient-found e =
+      record {
+        right = falling-right p (found p f g l) found-falling;
+        product =
+            division-quotient (Modulo p P .ring) (domain (Modulo p P)) (λ a. tt) (poly p P f) (poly p P g) (terms-of p P (found p f g l)) (rw e at rule);
+      }

@@ -1,0 +1,120 @@
+-- Spreading a falling list over cells that are 0, and gathering cells again, keep the polynomial. Assumes nothing.
+use mathlib.Core.Path.{_≡_, refl, sym, _∙_, ap, ap₂, subst}
+use mathlib.Core.List.{List, [], _∷_}
+use Prim.Native.Nat.{ℕ, zero, suc, _+_, _*_, _≤_, _<_}
+use native.Mathlib.Decide.{ℕ-discrete}
+use native.Mathlib.Omega.{arith}
+use borrow.Author.Tests.{eq-eqb, ne-eqb}
+use lib.ListN.{length, getD, set, length-set}
+use lib.Seq.{getD-set-same, getD-set-other}
+use Rattle.algebra.specs.Ring.{CommRing}
+use Rattle.algebra.specs.Solver.{_⊕_, _⊖_, ⊝, _≗_, k0, ring1, ring2}
+use Rattle.algebra.specs.Series.{S4}
+use Rattle.algebra.specs.Monomial.{monomial, monomial-neg, polynomial}
+use Rattle.field.specs.Fp.{Fp, el}
+use Rattle.field.specs.Prime.{Prime}
+use Rattle.field.specs.PrimeLaws.{prime-positive}
+use Rattle.field.specs.Modulo.{Modulo}
+use Rattle.poly.specs.Keys.{exponents}
+use Rattle.poly.specs.Terms.{key-of, coefficient-of, poly}
+use Rattle.poly.specs.Laws.Lists.{Falling}
+use Rattle.poly.specs.Laws.Dense.{Reduced, dense, dense-set, dense-zero, set-reduced}
+use Rattle.poly.specs.Models.Spread.{spread, gathered}
+
+pub spread-length : (ts l : List ℕ) → length (spread ts l) ≡ length l
+unfolding spread
+spread-length [] l = refl
+spread-length (t ∷ ts) l = spread-length ts (set l (key-of t) (coefficient-of t)) ∙ length-set l _ _
+
+pub gather-passed : (k : ℕ) (l : List ℕ) → getD l k 0 ≡ 0 → gathered (suc k) l ≡ gathered k l
+unfolding gathered
+gather-passed k l e = rw (eq-eqb _ _ e, gathered)
+
+pub gather-taken : (k : ℕ) (l : List ℕ) → (getD l k 0 ≡ 0 → ⊥) → gathered (suc k) l ≡ (k * 65536 + getD l k 0) ∷ gathered k l
+unfolding gathered
+gather-taken k l e = rw (ne-eqb _ _ e, gathered)
+
+gather-step : (k : ℕ) (l m : List ℕ) → getD l k 0 ≡ getD m k 0 → gathered k l ≡ gathered k m → Dec (getD l k 0 ≡ 0) → gathered (suc k) l ≡ gathered (suc k) m
+gather-step k l m e h (yes z) = gather-passed k l z ∙ h ∙ sym (gather-passed k m (sym e ∙ z))
+gather-step k l m e h (no n) = gather-taken k l n ∙ ap₂ (λ (c : ℕ) (r : List ℕ). (k * 65536 + c) ∷ r) e h ∙ sym (gather-taken k m (λ z. n (e ∙ z)))
+
+-- only the cells below k count
+gather-set : (k j v : ℕ) (l : List ℕ) → k ≤ j → gathered k (set l j v) ≡ gathered k l
+unfolding gathered
+gather-set zero j v l h = refl
+gather-set (suc k) j v l h = gather-step k (set l j v) l (getD-set-other l j k v 0 (λ e. omega arith)) (gather-set k j v l (omega arith)) (ℕ-discrete (getD (set l j v) k 0) 0)
+
+module _ (p : ℕ) (P : Prime p) where
+  abbrev R : CommRing
+  R = Modulo p P .ring
+
+  pub spread-reduced : (ts l : List ℕ) (b : ℕ) → Falling p b ts → b ≤ length l → Reduced p l → Reduced p (spread ts l)
+  unfolding spread
+  spread-reduced [] l b h m red = red
+  spread-reduced (t ∷ ts) l b h m red =
+      let lt : key-of t < length l = let a = h .0 in omega arith in
+      spread-reduced ts (set l (key-of t) (coefficient-of t)) (key-of t) (h .3) (subst (λ (n : ℕ). key-of t ≤ n) (sym (length-set l _ _)) (omega arith)) (set-reduced p P l (key-of t) (coefficient-of t) lt (h .2) red)
+
+  pub spread-dense : (ts l : List ℕ) (b : ℕ) → Falling p b ts → b ≤ length l → ((i : ℕ) → i < b → getD l i 0 ≡ 0) → dense p P (spread ts l) ≡ S4 R .add (dense p P l) (poly p P ts)
+  unfolding spread polynomial
+  spread-dense [] l b h m z = sym (S4 R .add-zero (dense p P l))
+  spread-dense (t ∷ ts) l b h m z =
+      let lt : key-of t < length l = let a = h .0 in omega arith in
+      spread-dense ts (set l (key-of t) (coefficient-of t)) (key-of t) (h .3) (subst (λ (n : ℕ). key-of t ≤ n) (sym (length-set l _ _)) (omega arith))
+      (λ i q. getD-set-other l (key-of t) i (coefficient-of t) 0 (λ r. omega arith) ∙ z i (let a = h .0 in omega arith))
+      ∙ ap (λ (d : S4 R .Car). S4 R .add d (poly p P ts))
+      (dense-set p P l (key-of t) (coefficient-of t) lt
+      ∙ ap (λ (x : Fp p). S4 R .add (dense p P l) (monomial R (exponents (key-of t)) x))
+      (ap (λ (n : ℕ). R .add (el p (coefficient-of t)) (R .neg (el p n))) (z (key-of t) (h .0)) ∙ ring1 R (λ a. a ⊖ k0 ≗ a) tt (el p (coefficient-of t))))
+      ∙ S4 R .add-assoc _ _ _
+
+  term-key : (n q : ℕ) → q < 65536 → key-of (n * 65536 + q) ≡ n
+  term-key n q h = omega arith
+
+  term-coeff : (n q : ℕ) → q < 65536 → coefficient-of (n * 65536 + q) ≡ q
+  term-coeff n q h = omega arith
+
+  pub gather-falling : p ≤ 65536 → (k : ℕ) (l : List ℕ) (b : ℕ) → k ≤ b → Reduced p l → Falling p b (gathered k l)
+  unfolding gathered
+  gather-falling w zero l b m red = tt
+  gather-falling w (suc k) l b m red = go (ℕ-discrete (getD l k 0) 0) (λ c n. gather-falling w k l c n red)
+    where
+      go : Dec (getD l k 0 ≡ 0) → ((c : ℕ) → k ≤ c → Falling p c (gathered k l)) → Falling p b (gathered (suc k) l)
+      go (yes z) again = subst (Falling p b) (sym (gather-passed k l z)) (again b (omega arith))
+      go (no n) again =
+          let r = red k in
+          let ek : key-of (k * 65536 + getD l k 0) ≡ k = term-key k (getD l k 0) (omega arith) in
+          let ec : coefficient-of (k * 65536 + getD l k 0) ≡ getD l k 0 = term-coeff k (getD l k 0) (omega arith) in
+          subst (Falling p b) (sym (gather-taken k l n)) (omega arith, omega arith, omega arith, again (key-of (k * 65536 + getD l k 0)) (omega arith))
+
+  -- the cells' terms mean what the cells mean
+  pub gather-dense : p ≤ 65536 → (k : ℕ) (l : List ℕ) → k ≤ length l → Reduced p l → ((i : ℕ) → k ≤ i → getD l i 0 ≡ 0) → poly p P (gathered k l) ≡ dense p P l
+  unfolding gathered polynomial
+  gather-dense w zero l m red z = sym (dense-zero p P l (λ i. z i (omega arith)))
+  gather-dense w (suc k) l m red z = go (ℕ-discrete (getD l k 0) 0) (λ l′. gather-dense w k l′)
+    where
+      lt : k < length l
+      lt = omega arith
+
+      here : (l′ : List ℕ) → l′ ≡ l → (i : ℕ) → k ≤ i → getD l k 0 ≡ 0 → Dec (i ≡ k) → getD l i 0 ≡ 0
+      here l′ q i h e (yes r) = ap (λ (n : ℕ). getD l n 0) r ∙ e
+      here l′ q i h e (no r) = z i (omega arith)
+
+      cleared : (i : ℕ) → k ≤ i → Dec (i ≡ k) → getD (set l k 0) i 0 ≡ 0
+      cleared i h (yes r) = ap (λ (n : ℕ). getD (set l k 0) n 0) r ∙ getD-set-same l k 0 0 lt
+      cleared i h (no r) = getD-set-other l k i 0 0 r ∙ z i (omega arith)
+
+      go : Dec (getD l k 0 ≡ 0) → ((l′ : List ℕ) → k ≤ length l′ → Reduced p l′ → ((i : ℕ) → k ≤ i → getD l′ i 0 ≡ 0) → poly p P (gathered k l′) ≡ dense p P l′)
+          → poly p P (gathered (suc k) l) ≡ dense p P l
+      go (yes e) again = ap (poly p P) (gather-passed k l e) ∙ again l (omega arith) red (λ i h. here l refl i h e (ℕ-discrete i k))
+      go (no n) again =
+          let v = getD l k 0 in
+          let lv : v < 65536 = let r = red k in omega arith in
+          let M : Fp p → S4 R .Car = monomial R (exponents k) in
+          ap (poly p P) (gather-taken k l n)
+          ∙ ap₂ (S4 R .add) (ap₂ (λ (i j : ℕ). monomial R (exponents i) (el p j)) (term-key k v lv) (term-coeff k v lv))
+          (ap (poly p P) (sym (gather-set k k 0 l (omega arith)))
+          ∙ again (set l k 0) (subst (λ (n : ℕ). k ≤ n) (sym (length-set l k 0)) (omega arith)) (set-reduced p P l k 0 lt (prime-positive P) red) (λ i h. cleared i h (ℕ-discrete i k))
+          ∙ dense-set p P l k 0 lt
+          ∙ ap (S4 R .add (dense p P l)) (ap M (ring1 R (λ a. k0 ⊖ a ≗ ⊝ a) tt (el p v)) ∙ monomial-neg R (exponents k) (el p v)))
+          ∙ ring2 (S4 R) (λ a d. a ⊕ (d ⊖ a) ≗ d) tt (M (el p v)) (dense p P l)

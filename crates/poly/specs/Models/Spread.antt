@@ -1,0 +1,17 @@
+-- A list of terms spread over cells, one for each key, and gathered from them.
+use mathlib.Core.List.{List, [], _∷_}
+use mathlib.Core.Bool.{true, false}
+use Prim.Native.Nat.{ℕ, zero, suc, _+_, _*_}
+use lib.Dec.{eqb}
+use lib.ListN.{getD, set}
+use Rattle.poly.specs.Terms.{key-of, coefficient-of}
+
+-- each term's coefficient stored at its key
+unfoldable pub spread : List ℕ → List ℕ → List ℕ
+spread [] l = l
+spread (t ∷ ts) l = spread ts (set l (key-of t) (coefficient-of t))
+
+-- the terms of the cells below k that are not 0, the highest key first
+unfoldable pub gathered : ℕ → List ℕ → List ℕ
+gathered zero l = []
+gathered (suc k) l = elim (eqb (getD l k 0) 0) [ true ↦ gathered k l | false ↦ (k * 65536 + getD l k 0) ∷ gathered k l ]

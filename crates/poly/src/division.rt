@@ -1,0 +1,179 @@
+// Division by leading terms in a lent work room: one number for each key holds the remainder, the next as many hold the quotient's coefficients.
+ghost use mathlib.Core.Path.{_≡_};
+ghost use Prim.Native.Nat.{ℕ, _≤_, _<_, max};
+ghost use lib.ListN.{length, getD};
+ghost use Rattle.poly.specs.Keys.{keys};
+ghost use Rattle.poly.specs.Room.{zeroed};
+ghost use Rattle.poly.specs.TrialDivision.{CanDivide, TrialDivision};
+ghost use Rattle.poly.specs.Models.Spread.{spread as spread-over};
+ghost use Rattle.poly.specs.Models.Division.{KeysBelow, most-key, at-most, fits-in, less-product};
+ghost use Rattle.poly.specs.Models.WorkRoom.{CanSubtract, CanStep, Stepped, CanBegin, Divided};
+use crate::Term;
+use crate::key::Key;
+use field::Element;
+use field::Number;
+
+// A number for each key.
+pub const KEYS: usize = 4096;
+
+// The numbers of the work room that a division uses.
+pub const WORK_ROOM: usize = 2 * KEYS;
+
+fn larger(a: u16, b: u16) -> u16
+    ensures { λ r. ⌜ r ≡ max a b ⌝ }
+{
+    if a < b { b } else { a }
+}
+
+// The key of the greatest exponents of a list.
+fn most(terms: &[Term]) -> Key
+    requires { ⌜ KeysBelow 0 keys (now terms) ⌝ }
+    ensures { λ r. ⌜ r .bits ≡ most-key (now (terms .entry)) ⌝ }
+{
+    let mut x: u16 = 0;
+    let mut y: u16 = 0;
+    let mut z: u16 = 0;
+    let mut w: u16 = 0;
+    let mut i: usize = 0;
+    while i < terms.len() {
+        let key = Key::of(terms[i]);
+        x = larger(x, key.x());
+        y = larger(y, key.y());
+        z = larger(z, key.z());
+        w = larger(w, key.w());
+        i += 1;
+    }
+    Key::pack(x, y, z, w)
+}
+
+// Each exponent of `a` is at most that of `b`.
+fn at_most(a: Key, b: Key) -> bool
+    ensures { λ r. ⌜ r ≡ at-most (a .bits) (b .bits) ⌝ }
+{
+    (a.x() <= b.x()) & (a.y() <= b.y()) & (a.z() <= b.z()) & (a.w() <= b.w())
+}
+
+// Whether the term at the key `k` can be divided by the one at `lead`: no exponent of the quotient is negative, none above the bound.
+fn fits(k: u16, lead: u16, bound: Key) -> bool
+    ensures { λ r. ⌜ r ≡ fits-in lead (bound .bits) k ⌝ }
+{
+    if !at_most(Key { bits: lead }, Key { bits: k }) {
+        return false;
+    }
+    at_most(Key { bits: k - lead }, bound)
+}
+
+// The first `n` numbers set to 0.
+pub fn clear(n: usize, numbers: &mut [Number])
+    requires { ⌜ n ≤ length (now numbers) ⌝ }
+    ensures { λ _. ⌜ now (numbers .exit) ≡ zeroed n (now (numbers .entry)) ⌝ }
+{
+    let mut i: usize = 0;
+    while i < n {
+        numbers[i] = 0;
+        i += 1;
+    }
+}
+
+// Each term's coefficient stored at its key.
+fn spread(terms: &[Term], cells: &mut [Number])
+    requires { ⌜ KeysBelow 0 (length (now cells)) (now terms) ⌝ }
+    ensures { λ _. ⌜ now (cells .exit) ≡ spread-over (now (terms .entry)) (now (cells .entry)) ⌝ }
+{
+    let mut i: usize = 0;
+    while i < terms.len() {
+        let t = terms[i];
+        let key = Key::of(t);
+        let at = key.bits as usize;
+        cells[at] = crate::key::coefficient_of(t);
+        i += 1;
+    }
+}
+
+// The cells less a term of the quotient, `q` at the key `shift`, times the divisor.
+fn subtract(p: Number, q: Number, shift: usize, divisor: &[Term], cells: &mut [Number])
+    requires { ⌜ CanSubtract p q shift (now divisor) (now cells) ⌝ }
+    ensures { λ _. ⌜ now (cells .exit) ≡ less-product p shift q (now (divisor .entry)) (now (cells .entry)) ⌝ }
+{
+    let opposite = p - q;
+    let mut i: usize = 0;
+    while i < divisor.len() {
+        let t = divisor[i];
+        let key = Key::of(t);
+        let at = key.bits as usize + shift;
+        cells[at] = field::plus_times(p, cells[at], opposite, crate::key::coefficient_of(t));
+        i += 1;
+    }
+}
+
+// The steps of a division. Each leading term that can be divided gives a term of the quotient, stored at its key;
+// the search for the next one is left at the first that cannot.
+fn steps(
+    p: Number,
+    divisor: &[Term],
+    lead: u16,
+    inverse: Number,
+    bound: Key,
+    work: &mut [Number],
+) -> bool
+    requires { ⌜ CanStep (record { modulus = p; terms = now divisor; lead = lead; inverse = inverse; bound = bound .bits }) (now work) ⌝ }
+    ensures { λ r. ⌜ Stepped (record { modulus = p; terms = now (divisor .entry); lead = lead; inverse = inverse; bound = bound .bits }) (now (work .entry)) (now (work .exit)) r ⌝ }
+{
+    let low = lead as usize;
+    let mut k = KEYS;
+    let mut whole = true;
+    'steps: loop {
+        loop {
+            if k == 0 {
+                break 'steps;
+            }
+            k -= 1;
+            if work[k] != 0 {
+                break;
+            }
+        }
+        if !fits(k as u16, lead, bound) {
+            whole = false;
+            break 'steps;
+        }
+        let q = field::times(p, work[k], inverse);
+        work[KEYS + (k - low)] = q;
+        subtract(p, q, k - low, divisor, work);
+    }
+    whole
+}
+
+// Whether the divisor divides the dividend, in a room whose cells of the remainder are 0; the quotient's coefficients are stored in its other cells.
+pub fn divide(p: Number, dividend: &[Term], divisor: &[Term], work: &mut [Number]) -> bool
+    requires { ⌜ CanBegin p (now dividend) (now divisor) (now work) ⌝ }
+    ensures { λ r. ⌜ Divided p (now (dividend .entry)) (now (divisor .entry)) (now (work .entry)) (now (work .exit)) r ⌝ }
+{
+    let above = most(dividend);
+    let below = most(divisor);
+    if !at_most(below, above) {
+        return false;
+    }
+    let bound = Key {
+        bits: above.bits - below.bits,
+    };
+    let first = divisor[0];
+    let coefficient = Element {
+        modulus: p,
+        value: crate::key::coefficient_of(first),
+    };
+    let inverse = coefficient.inverse();
+    let lead = Key::of(first);
+    spread(dividend, work);
+    steps(p, divisor, lead.bits, inverse.value, bound, work)
+}
+
+// Trial division: whether the divisor divides the dividend, as polynomials. The work room is left cleared.
+pub fn divides(p: Number, dividend: &[Term], divisor: &[Term], work: &mut [Number]) -> bool
+    requires { ⌜ CanDivide p (now dividend) (now divisor) (now work) ⌝ }
+    ensures { λ r. ⌜ TrialDivision p (now (dividend .entry)) (now (divisor .entry)) (now (work .entry)) (now (work .exit)) r ⌝ }
+{
+    clear(KEYS, work);
+    let whole = divide(p, dividend, divisor, work);
+    clear(WORK_ROOM, work);
+    whole
+}
