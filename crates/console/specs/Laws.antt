@@ -1,24 +1,38 @@
--- What is found of a file is settled by what the service settles; what is written stands first. Assumes nothing.
+-- What is found of a file: a refusal and an answer meet the promise, what both have is had, and the service settles it. What is written stands first.
+-- Assumes nothing.
 use Prim.Native.Nat.{ℕ, _≤_, zero-le}
 use native.Mathlib.Omega.{arith}
-use mathlib.Core.Path.{_≡_, refl}
+use mathlib.Core.Path.{_≡_, refl, sym, _∙_, ap}
 use mathlib.Core.List.{List}
-use lib.ListN.{length, take, drop, length-append, length-take}
+use lib.ListN.{length, length-append, length-take}
 use Rattle.io.specs.Counts.{Counts}
 use Rattle.field.specs.declared.Fault.{Fault}
-use Rattle.case_file.specs.Reading.{Reading}
+use Rattle.case_file.specs.Reading.{Reading, read}
+use Rattle.case_file.specs.Handed.{fault}
 use Rattle.poly.specs.Room.{written}
 use Rattle.console.specs.OfFile.{OfFile, refused, asked}
 
-pub of-file-determined : {Found : Type 0} (unread : Fault → Found) (Answer : Reading → Found → Type 0)
-    → ((o : Reading) (r q : Found) → Answer o r → Answer o q → r ≡ q)
-    → (bytes : List ℕ) (r q : Found) → OfFile unread Answer bytes r → OfFile unread Answer bytes q → r ≡ q
-of-file-determined unread Answer one bytes r q (refused n) (refused m) = refl
-of-file-determined unread Answer one bytes r q (refused n) (asked z f a) = absurd (n z)
-of-file-determined unread Answer one bytes r q (asked z f a) (refused n) = absurd (n z)
-of-file-determined unread Answer one bytes r q (asked z f a) (asked y g b) = one _ f g a b
+module _ {Found : Type 0} (unread : Fault → Found) (Answer : Reading → Found → Type 0) (bytes : List ℕ) where
+  -- where f is what the reader gives
+  module _ (f : Fault) (e : f ≡ fault (read bytes)) where
+    pub of-file-refused : ¬ (f .number ≡ 0) → OfFile unread Answer bytes (unread f)
+    of-file-refused n = rw e (refused (rw e at n))
 
--- a count that a list's length bounds
+    pub of-file-asked : f .number ≡ 0 → (found : Found) → Answer (read bytes) found → OfFile unread Answer bytes found
+    of-file-asked z found a = asked (ap (λ (g : Fault). g .number) (sym e) ∙ z) found a
+
+  pub of-file-has : (Has : Found → Type 0) → ((f : Fault) → Has (unread f)) → ((o : Reading) (r : Found) → Answer o r → Has r)
+      → (found : Found) → OfFile unread Answer bytes found → Has found
+  of-file-has Has none some found (refused n) = none (fault (read bytes))
+  of-file-has Has none some found (asked z r a) = some (read bytes) r a
+
+  pub of-file-determined : ((o : Reading) (r q : Found) → Answer o r → Answer o q → r ≡ q)
+      → (r q : Found) → OfFile unread Answer bytes r → OfFile unread Answer bytes q → r ≡ q
+  of-file-determined one r q (refused n) (refused m) = refl
+  of-file-determined one r q (refused n) (asked z f a) = absurd (n z)
+  of-file-determined one r q (asked z f a) (refused n) = absurd (n z)
+  of-file-determined one r q (asked z f a) (asked y g b) = one (read bytes) f g a b
+
 pub counts-within : (n : ℕ) (list : List ℕ) → n ≤ length list → Counts n list
 counts-within n list h = (h, simp length-take (omega arith))
 
