@@ -20,3 +20,4 @@ pub mod PointTurns
 pub mod LookTurns
 pub mod Stores
 pub mod Looking
+pub mod Checks

@@ -4,3 +4,4 @@ pub mod Sorting
 pub mod Monic
 pub mod Equation
 pub mod Looks
+pub mod Checks

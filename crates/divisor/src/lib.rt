@@ -1,6 +1,7 @@
 // Layer 3, the candidate: the common divisor that images and equations fix, or a refusal.
 use field::Fault;
 
+mod checks;
 mod equations;
 mod monic;
 mod points;
