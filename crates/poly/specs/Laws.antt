@@ -30,6 +30,7 @@ pub mod WorkRoom
 pub mod DivisionTurns
 pub mod DivisionGoing
 pub mod DivisionBegins
+pub mod QuotientExact
 pub mod Image
 pub mod ImageModel
 pub mod ImageCall

@@ -7,6 +7,7 @@ pub mod euclid;
 pub mod image;
 pub mod key;
 pub mod list;
+pub mod quotient;
 pub mod value;
 
 // A term: its key times 65536, plus its coefficient.

@@ -18,7 +18,8 @@ use Rattle.poly.specs.Terms.{coefficient-of, poly}
 use Rattle.poly.specs.Image.{Divides}
 use Rattle.poly.specs.Room.{work-room, zeroed, cleared}
 use Rattle.poly.specs.TrialDivision.{CanDivide}
-use Rattle.poly.specs.Laws.Falling.{falling-keys, falling-first, falling-coefficient}
+use Rattle.poly.specs.Laws.RightLists.{falling-coefficient}
+use Rattle.poly.specs.Laws.Falling.{falling-keys, falling-first, falling-positive}
 use Rattle.poly.specs.Laws.Room.{zeroed-length, zeroed-at, zeroed-beyond, zeroed-same}
 use Rattle.poly.specs.Laws.Spread.{spread-length}
 use Rattle.poly.specs.Laws.WorkRoom.{take-spread, drop-spread, same-quotient-cells, same-beyond, remainder-empty}
@@ -44,8 +45,8 @@ module _ (p : ℕ) (f g work : List ℕ) (can : CanDivide p f g work) where
   module _ (a : Element) (em : a .modulus ≡ p) (ev : a .value ≡ coefficient-of (getD g 0 0)) where
     pub lead-invertible : Invertible a
     lead-invertible =
-        let c = falling-coefficient p keys g (can .divisor-falls) 0 (can .some-divisor) in
-        let c0 = c .0 in let c1 = c .1 in
+        let small = falling-coefficient p keys g (can .divisor-falls) 0 (can .some-divisor) in
+        let positive = falling-positive p keys g (can .divisor-falls) 0 (can .some-divisor) in
         record { is-listed = rw em (can .is-listed); below = omega arith; nonzero = omega arith }
 
     pub lead-inverse-is : (r : Element) → Inverse a r → r .value ≡ inv (el p (coefficient-of (getD g 0 0))) .val

@@ -1,14 +1,15 @@
 -- How the models of a division go on by one term of a list or by one cell, as the loops do. Assumes nothing.
-use mathlib.Core.Path.{_≡_, refl, sym, _∙_, ap}
+use mathlib.Core.Path.{_≡_, refl, sym, _∙_, ap, ap₂}
 use mathlib.Core.List.{List, [], _∷_, _++_, append-nil, append-assoc}
 use Prim.Native.Nat.{ℕ, zero, suc, _+_, _-_, _*_, _%_, _≤_, _<_, max}
 use native.Mathlib.Numerals.{add-one}
 use native.Mathlib.Omega.{arith}
-use lib.ListN.{length, getD, set, take, drop, drop-of-length-le}
-use lib.Seq.{drop-cons, take-suc-set}
+use lib.ListN.{length, getD, set, take, drop, drop-of-length-le, take-append-drop}
+use lib.Seq.{drop-cons, take-suc-set, drop-set-lt, drop-drop, length-take-le}
 use Rattle.algebra.specs.GreatestExponent.{Variable, exponent}
 use Rattle.poly.specs.Keys.{exponents}
 use Rattle.poly.specs.Terms.{key-of, coefficient-of}
+use Rattle.poly.specs.Room.{written}
 use Rattle.poly.specs.Laws.Spread.{gather-passed, gather-taken}
 use Rattle.poly.specs.Models.Spread.{spread, gathered}
 use Rattle.poly.specs.Models.Division.{most, less-product}
@@ -70,8 +71,21 @@ module _ (l out : List ℕ) (k n : ℕ) (G : List ℕ) (e : G ≡ take n out ++ 
       → G ≡ take (n + 1) (set out n v) ++ gathered (k - 1) l
   gather-turn h z b ev = rw (add-one, take-suc-set out n _ b, append-assoc, ev) (next h z)
 
-  pub gather-end : k ≤ 0 → take n out ≡ G
+  none-gathered : gathered 0 l ≡ []
   unfolding gathered
+  none-gathered = refl
+
+  pub gather-end : k ≤ 0 → take n out ≡ G
   gather-end h =
       let z : k ≡ 0 = omega arith in
-      sym (e ∙ ap (λ (m : ℕ). take n out ++ gathered m l) z ∙ append-nil (take n out))
+      sym (e ∙ ap (λ (m : ℕ). take n out ++ gathered m l) z ∙ ap (λ (r : List ℕ). take n out ++ r) none-gathered ∙ append-nil (take n out))
+
+-- the terms written first, and the rest left
+pub gather-written : (G before out : List ℕ) (n : ℕ) → n ≤ length out → take n out ≡ G → drop n out ≡ drop n before → (n ≡ length G) × (out ≡ written G before)
+gather-written G before out n h e d =
+    let c : n ≡ length G = sym (length-take-le n out h) ∙ ap length e in
+    (c, sym (take-append-drop n out) ∙ ap₂ _++_ e (d ∙ ap (λ (m : ℕ). drop m before) c))
+
+-- past the place that is written nothing changes
+pub drop-written : (out before : List ℕ) (n v : ℕ) → drop n out ≡ drop n before → drop (n + 1) (set out n v) ≡ drop (n + 1) before
+drop-written out before n v e = drop-set-lt (n + 1) out n v (omega arith) ∙ sym (drop-drop 1 n out) ∙ ap (drop 1) e ∙ drop-drop 1 n before

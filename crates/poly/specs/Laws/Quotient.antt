@@ -1,6 +1,5 @@
 -- A list over another has one quotient at most, so the promise of the quotient service settles record, output and work room. Assumes nothing.
 use mathlib.Core.Path.{_≡_, refl, sym, _∙_, ap, subst}
-use mathlib.Core.Logic.{inl}
 use mathlib.Core.Bool.{Bool-discrete}
 use mathlib.Core.HLevel.{hedberg}
 use mathlib.Core.List.{List, [], _∷_}
@@ -14,18 +13,21 @@ use Rattle.algebra.specs.Divides.{cancel}
 use Rattle.algebra.specs.Lead.{lead-nonzero}
 use Rattle.field.specs.Prime.{Prime}
 use Rattle.field.specs.Moduli.{Listed}
-use Rattle.field.specs.ModuliLaws.{listed-stable, listed-prime}
+use Rattle.field.specs.ModuliLaws.{listed-prime}
 use Rattle.field.specs.Modulo.{Modulo}
 use Rattle.field.specs.Refusal.{none, Passes}
-use Rattle.field.specs.RefusalLaws.{OnePlaceEach, placed-one-place, first-one-place, never-placed, refuses-determined, not-passes-and-refuses}
+use Rattle.field.specs.RefusalLaws.{OnePlaceEach, placed-one-place, first-one-place, never-placed, refuses-determined, not-passes-and-refuses, passes-front}
 use Rattle.field.specs.declared.Fault.{Fault}
 use Rattle.poly.specs.Keys.{exponents, keys}
 use Rattle.poly.specs.Terms.{key-of, poly}
 use Rattle.poly.specs.Image.{Divides}
+use Rattle.poly.specs.Lists.{of-lists}
 use Rattle.poly.specs.Room.{written, cleared}
 use Rattle.poly.specs.Quotient.{QuotientCall, quotient-table, IsQuotient, QuotientResult, Quotient, refused, no-quotient, quotient}
 use Rattle.poly.specs.TrialDivision.{CanDivide}
-use Rattle.poly.specs.Laws.Lists.{Falling, terms-fall}
+use Rattle.poly.specs.Laws.Lists.{Falling}
+use Rattle.poly.specs.Laws.RightLists.{lists-are-right}
+use Rattle.poly.specs.Models.WorkRoom.{of-rooms}
 use Rattle.poly.specs.Laws.Terms.{poly-lead, right-lists-equal}
 use Rattle.poly.specs.Laws.DivisionEnds.{poly-finite}
 
@@ -43,6 +45,10 @@ module _ (p : ℕ) (P : Prime p) where
       (lead-nonzero (Modulo p P .ring) (domain (Modulo p P)) (exponents (key-of u)) (poly p P (u ∷ us)) (poly-lead p P u us keys h))
       (a .product ∙ sym (b .product)))
 
+-- a call by its parts
+abbrev pub call : ℕ → List ℕ → List ℕ → List ℕ → List ℕ → QuotientCall
+call p first second output work = record { modulus = p; first-list = first; second-list = second; output = output; work = work }
+
 module _ (c : QuotientCall) where
   pub quotient-one-place : OnePlaceEach (quotient-table c)
   quotient-one-place =
@@ -52,14 +58,14 @@ module _ (c : QuotientCall) where
   module _ (h : Passes (quotient-table c)) where
     pub passed-lists : CanDivide (c .modulus) (c .first-list) (c .second-list) (c .work)
     passed-lists =
-        let first-some = never-placed (h .1 .0) in
-        let second-some = never-placed (h .1 .1 .1 .0) in
+        let lists = of-lists (c .modulus) (c .first-list) (c .second-list) in
+        let right = lists-are-right (c .modulus) (c .first-list) (c .second-list) (passes-front lists (of-rooms (length (c .output)) (length (c .work))) h) in
         record {
-          is-listed = listed-stable (c .modulus) (never-placed (h .0));
-          some-dividend = let n : ¬ (length (c .first-list) ≡ 0) = λ e. first-some (inl e) in omega arith;
-          dividend-falls = terms-fall (c .modulus) (c .first-list) (h .1 .1 .0);
-          some-divisor = let n : ¬ (length (c .second-list) ≡ 0) = λ e. second-some (inl e) in omega arith;
-          divisor-falls = terms-fall (c .modulus) (c .second-list) (h .1 .1 .1 .1 .0);
+          is-listed = right .is-listed;
+          some-dividend = right .first .some;
+          dividend-falls = right .first .falls;
+          some-divisor = right .second .some;
+          divisor-falls = right .second .falls;
           room = let n = never-placed (h .1 .1 .1 .1 .1 .1 .0) in omega arith;
         }
 

@@ -9,8 +9,6 @@ use Rattle.poly.specs.Laws.Room.{zeroed-none, zeroed-more}
 use borrow.Author.Needs.{needs}
 use Rattle.poly.proofs.division.clear.Statement.{statement}
 use Rattle.poly.proofs.division.clear.Tie as tie
-use Rattle.poly.proofs.division.clear.Reads as reads
-use Rattle.poly.proofs.division.clear.Lts as lts
 
 abbrev Inv-loop : tie.InvT-loop
 Inv-loop n numbers₀ i₀ numbers i = (i ≤ n) × (length numbers ≡ length numbers₀) × (numbers ≡ zeroed i numbers₀)
@@ -18,27 +16,21 @@ Inv-loop n numbers₀ i₀ numbers i = (i ≤ n) × (length numbers ≡ length n
 abbrev μ-loop : tie.MeasureT-loop
 μ-loop n numbers₀ i₀ numbers i = n - i
 
--- src/division.rt:72:5
 loop-holds : tie.Need-loop-holds Inv-loop μ-loop
 loop-holds c = (omega arith, refl, zeroed-none (c .args .numbers .now))
 
--- src/division.rt:73:9
 mul-numbers : tie.Need-mul-numbers Inv-loop μ-loop
 mul-numbers c = search needs
 
--- src/division.rt:73:9
 slice-write-numbers : tie.Need-slice-write-numbers Inv-loop μ-loop
 slice-write-numbers c = search needs
 
--- src/division.rt:74:9
 add-i : tie.Need-add-i Inv-loop μ-loop
 add-i c = search needs
 
--- src/division.rt:72:5
 loop-less : tie.Need-loop-less Inv-loop μ-loop
 loop-less c = search needs
 
--- src/division.rt:72:5
 loop-again : tie.Need-loop-again Inv-loop μ-loop
 loop-again c =
     let a = c .before in
@@ -46,11 +38,9 @@ loop-again c =
     let h : a .loop .i < length old = omega (arith, a .before .pre, c .loop-test .taken) in
     (omega arith, simp length-set (a .loop .inv .1), ap (λ (l : List ℕ). set l (a .loop .i) 0) (a .loop .inv .2) ∙ zeroed-more (a .loop .i) old h)
 
--- src/division.rt:67:1
 same-length : tie.Need-same-length Inv-loop μ-loop
 same-length c = search needs
 
--- src/division.rt:67:1
 returns : tie.Need-returns Inv-loop μ-loop
 returns c =
     let a = c .before in

@@ -11,18 +11,8 @@ use Rattle.poly.specs.Laws.KeyDifference.{at-most-key}
 use Rattle.poly.specs.Laws.DivisionBegins.{begun-wide, lead-invertible, lead-inverse-is, begun-can-step, begun-ends}
 use Rattle.poly.specs.Models.Division.{most-key, at-most, Setting, setting}
 use borrow.Author.Needs.{needs}
-use borrow.Author.Needs.{needs}
 use Rattle.poly.proofs.division.divide.Statement.{statement}
 use Rattle.poly.proofs.division.divide.Tie as tie
-use Rattle.poly.proofs.division.divide.Reads as reads
-use Rattle.poly.proofs.division.divide.Lts as lts
-use Rattle.field.proofs.Element.inverse.Reads as inverse-reads
-use Rattle.poly.proofs.division.at_most.Reads as at-most-reads
-use Rattle.poly.proofs.division.most.Reads as most-reads
-use Rattle.poly.proofs.division.spread.Reads as spread-reads
-use Rattle.poly.proofs.division.steps.Reads as steps-reads
-use Rattle.poly.proofs.key.Key.of.Reads as of-reads
-use Rattle.poly.proofs.key.coefficient_of.Reads as coefficient-of-reads
 
 -- the test is that of the lists' greatest exponents
 tests : (c : tie.After-at-most)
@@ -59,58 +49,47 @@ module _ (c : tie.After-of) where
       sym (tests (c .before .before .before .before .before .before .before))
       ∙ not-false _ (c .before .before .before .before .before .before .if1 .left)
 
--- src/division.rt:151:9
 most-requires : tie.Need-most-requires
 most-requires c κs =
     let z = c .before .before .before in
     falling-keys (z .args .p) keys (z .args .dividend .now) (z .pre .lists .dividend-falls)
 
--- src/division.rt:152:9
 most-requires-2 : tie.Need-most-requires-2
 most-requires-2 c κs =
     let z = c .before .before .before .before in
     falling-keys (z .args .p) keys (z .args .divisor .now) (z .pre .lists .divisor-falls)
 
--- src/division.rt:153:9
 at-most-requires : tie.Need-at-most-requires
 at-most-requires c κs = search needs
 
--- src/division.rt:154:9
 returns : tie.Need-returns
 returns c =
     let z = c .before .before .before .before .before .before .before in
     begun-wide (z .args .p) (z .args .dividend .now) (z .args .divisor .now) (z .args .work .now) (z .pre .lists)
     (sym (tests (c .before)) ∙ not-true _ (c .if1 .taken))
 
--- src/division.rt:157:15
 sub-t14 : tie.Need-sub-t14
 sub-t14 c = at-most-key _ _ (sym (c .before .before .before .at-most .ensures) ∙ not-false _ (c .before .before .if1 .left))
 
--- src/division.rt:159:17
 shared-slice-read-first : tie.Need-shared-slice-read-first
 shared-slice-read-first c = search needs
 
--- src/division.rt:162:16
 coefficient-of-requires : tie.Need-coefficient-of-requires
 coefficient-of-requires c κs = search needs
 
--- src/division.rt:164:9
 inverse-requires : tie.Need-inverse-requires
 inverse-requires c κs =
     let z = c .before .before .before .before .before .before .before .before .before .before .before in
     lead-invertible (z .args .p) (z .args .dividend .now) (z .args .divisor .now) (z .args .work .now) (z .pre .lists) _ refl (c .coefficient-of .ensures)
 
--- src/division.rt:165:9
 of-requires : tie.Need-of-requires
 of-requires c κs = search needs
 
--- src/division.rt:166:5
 spread-requires : tie.Need-spread-requires
 spread-requires c κs =
     let z = start (c .before) in
     λ i h. omega (arith, falling-keys (z .args .p) keys (z .args .dividend .now) (z .pre .lists .dividend-falls) i h, z .pre .lists .room)
 
--- src/division.rt:167:5
 steps-requires : tie.Need-steps-requires
 steps-requires c κs =
     let o = c .before .before .before .before .before in
@@ -118,11 +97,9 @@ steps-requires c κs =
     begun-can-step (z .args .p) (z .args .dividend .now) (z .args .divisor .now) (z .args .work .now) (z .pre .lists) (kept o) (kept-is o) _
     (c .before .before .before .spread .ensures)
 
--- src/division.rt:147:1
 same-length : tie.Need-same-length
 same-length c = search needs
 
--- src/division.rt:147:1
 returns-2 : tie.Need-returns-2
 returns-2 c =
     let s = c .before .before in

@@ -5,27 +5,19 @@ use Rattle.poly.specs.Laws.KeyDifference.{at-most-key, fits-not, fits-re
 use borrow.Author.Needs.{needs}
 use Rattle.poly.proofs.division.fits.Statement.{statement}
 use Rattle.poly.proofs.division.fits.Tie as tie
-use Rattle.poly.proofs.division.fits.Reads as reads
-use Rattle.poly.proofs.division.fits.Lts as lts
-use Rattle.poly.proofs.division.at_most.Reads as at-most-reads
 
--- src/division.rt:60:9
 at-most-requires : tie.Need-at-most-requires
 at-most-requires c κs = search needs
 
--- src/division.rt:61:9
 returns : tie.Need-returns
 returns c = fits-not (c .before .before .args .lead) (c .before .before .args .bound .bits) (c .before .before .args .k) (sym (c .before .at-most .ensures) ∙ not-true _ (c .if1 .taken))
 
--- src/division.rt:63:25
 sub-t8 : tie.Need-sub-t8
 sub-t8 c = at-most-key _ _ (sym (c .before .at-most .ensures) ∙ not-false _ (c .if1 .left))
 
--- src/division.rt:63:5
 at-most-requires-2 : tie.Need-at-most-requires-2
 at-most-requires-2 c κs = search needs
 
--- src/division.rt:57:1
 returns-2 : tie.Need-returns-2
 returns-2 c = fits-rest (c .before .before .before .args .lead) (c .before .before .before .args .bound .bits) (c .before .before .before .args .k) (sym (c .before .before .at-most .ensures) ∙ not-false _ (c .before .if1 .left)) (c .at-most2 .ensures)
 

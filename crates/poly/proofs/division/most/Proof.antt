@@ -11,15 +11,6 @@ use Rattle.poly.specs.Laws.DivisionTurns.{most-turn, most-end}
 use borrow.Author.Needs.{needs}
 use Rattle.poly.proofs.division.most.Statement.{statement}
 use Rattle.poly.proofs.division.most.Tie as tie
-use Rattle.poly.proofs.division.most.Reads as reads
-use Rattle.poly.proofs.division.most.Lts as lts
-use Rattle.poly.proofs.division.larger.Reads as larger-reads
-use Rattle.poly.proofs.key.Key.of.Reads as of-reads
-use Rattle.poly.proofs.key.Key.pack.Reads as pack-reads
-use Rattle.poly.proofs.key.Key.w.Reads as w-reads
-use Rattle.poly.proofs.key.Key.x.Reads as x-reads
-use Rattle.poly.proofs.key.Key.y.Reads as y-reads
-use Rattle.poly.proofs.key.Key.z.Reads as z-reads
 
 -- m is the greatest of the first i, so that with the others' it is the greatest of all
 abbrev SoFar : Variable → List ℕ → ℕ → ℕ → Type 0
@@ -31,63 +22,48 @@ Inv-loop terms x₀ y₀ z₀ w₀ i₀ x y z w i = (i ≤ length terms) × SoFa
 abbrev μ-loop : tie.MeasureT-loop
 μ-loop terms x₀ y₀ z₀ w₀ i₀ x y z w i = length terms - i
 
--- src/division.rt:38:5
 loop-holds : tie.Need-loop-holds Inv-loop μ-loop
 loop-holds c = (omega arith, omega arith, omega arith, omega arith, omega arith)
 
--- src/division.rt:39:27
 mul-of : tie.Need-mul-of Inv-loop μ-loop
 mul-of c = search needs
 
--- src/division.rt:39:27
 shared-slice-read-of : tie.Need-shared-slice-read-of Inv-loop μ-loop
 shared-slice-read-of c = search needs
 
--- src/division.rt:39:13
 of-requires : tie.Need-of-requires Inv-loop μ-loop
 of-requires c κs = search needs
 
--- src/division.rt:40:23
 x-requires : tie.Need-x-requires Inv-loop μ-loop
 x-requires c κs = search needs
 
--- src/division.rt:40:9
 larger-requires : tie.Need-larger-requires Inv-loop μ-loop
 larger-requires c κs = search needs
 
--- src/division.rt:41:23
 y-requires : tie.Need-y-requires Inv-loop μ-loop
 y-requires c κs = search needs
 
--- src/division.rt:41:9
 larger-requires-2 : tie.Need-larger-requires-2 Inv-loop μ-loop
 larger-requires-2 c κs = search needs
 
--- src/division.rt:42:23
 z-requires : tie.Need-z-requires Inv-loop μ-loop
 z-requires c κs = search needs
 
--- src/division.rt:42:9
 larger-requires-3 : tie.Need-larger-requires-3 Inv-loop μ-loop
 larger-requires-3 c κs = search needs
 
--- src/division.rt:43:23
 w-requires : tie.Need-w-requires Inv-loop μ-loop
 w-requires c κs = search needs
 
--- src/division.rt:43:9
 larger-requires-4 : tie.Need-larger-requires-4 Inv-loop μ-loop
 larger-requires-4 c κs = search needs
 
--- src/division.rt:44:9
 add-i : tie.Need-add-i Inv-loop μ-loop
 add-i c = search needs
 
--- src/division.rt:38:5
 loop-less : tie.Need-loop-less Inv-loop μ-loop
 loop-less c = search needs
 
--- src/division.rt:38:5
 loop-again : tie.Need-loop-again Inv-loop μ-loop
 loop-again c =
     let lz = c .before .before in
@@ -121,7 +97,6 @@ module _ (c : tie.After-loop Inv-loop μ-loop) where
   w-is : c .before .loop .w ≡ most in-w ts
   w-is = most-end in-w ts (c .before .loop .i) (c .before .loop .w) (c .before .loop .inv .4) (c .loop-test .left)
 
--- src/division.rt:46:5
 pack-requires : tie.Need-pack-requires Inv-loop μ-loop
 pack-requires c κs =
     let ts = c .before .before .before .args .terms .now in
@@ -133,7 +108,6 @@ pack-requires c κs =
       w-small = omega (arith, w-is c, most-small in-w ts h);
     }
 
--- src/division.rt:29:1
 returns : tie.Need-returns Inv-loop μ-loop
 returns c = omega (arith, c .pack .ensures, x-is (c .before), y-is (c .before), z-is (c .before), w-is (c .before))
 

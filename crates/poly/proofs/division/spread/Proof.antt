@@ -8,10 +8,6 @@ use Rattle.poly.specs.Laws.DivisionTurns.{spread-turn, spread-end}
 use borrow.Author.Needs.{needs}
 use Rattle.poly.proofs.division.spread.Statement.{statement}
 use Rattle.poly.proofs.division.spread.Tie as tie
-use Rattle.poly.proofs.division.spread.Reads as reads
-use Rattle.poly.proofs.division.spread.Lts as lts
-use Rattle.poly.proofs.key.Key.of.Reads as of-reads
-use Rattle.poly.proofs.key.coefficient_of.Reads as coefficient-of-reads
 
 abbrev Inv-loop : tie.InvT-loop
 Inv-loop terms cells₀ i₀ cells i = (i ≤ length terms) × (length cells ≡ length cells₀) × (spread terms cells₀ ≡ spread (drop i terms) cells)
@@ -25,47 +21,36 @@ below c =
     let a = c .before .before .before .before .before in
     omega (arith, a .before .before .before .pre (a .loop .i) (c .before .before .before .before .loop-test .taken), c .before .before .of .ensures, a .loop .inv .1)
 
--- src/division.rt:84:5
 loop-holds : tie.Need-loop-holds Inv-loop μ-loop
 loop-holds c = search needs
 
--- src/division.rt:85:17
 mul-t : tie.Need-mul-t Inv-loop μ-loop
 mul-t c = search needs
 
--- src/division.rt:85:17
 shared-slice-read-t : tie.Need-shared-slice-read-t Inv-loop μ-loop
 shared-slice-read-t c = search needs
 
--- src/division.rt:86:13
 of-requires : tie.Need-of-requires Inv-loop μ-loop
 of-requires c κs = search needs
 
--- src/division.rt:87:18
 cast-at : tie.Need-cast-at Inv-loop μ-loop
 cast-at c = search needs
 
--- src/division.rt:88:21
 coefficient-of-requires : tie.Need-coefficient-of-requires Inv-loop μ-loop
 coefficient-of-requires c κs = search needs
 
--- src/division.rt:88:9
 mul-cells : tie.Need-mul-cells Inv-loop μ-loop
 mul-cells c = omega (arith, below c, c .before .before .before .before .before .before .before .before .good .1 .0 .0, c .before .before .before .before .before .loop .inv .1)
 
--- src/division.rt:88:9
 slice-write-cells : tie.Need-slice-write-cells Inv-loop μ-loop
 slice-write-cells c = below c
 
--- src/division.rt:89:9
 add-i : tie.Need-add-i Inv-loop μ-loop
 add-i c = search needs
 
--- src/division.rt:84:5
 loop-less : tie.Need-loop-less Inv-loop μ-loop
 loop-less c = search needs
 
--- src/division.rt:84:5
 loop-again : tie.Need-loop-again Inv-loop μ-loop
 loop-again c =
     let a = c .before .before .before .before .before in
@@ -76,11 +61,9 @@ loop-again c =
           ∙ spread-turn (g .terms .now) (a .loop .cells) (a .loop .i) (c .before .before .before .before .loop-test .taken) (c .before .before .of .ensures) (c .coefficient-of .ensures),
     )
 
--- src/division.rt:79:1
 same-length : tie.Need-same-length Inv-loop μ-loop
 same-length c = search needs
 
--- src/division.rt:79:1
 returns : tie.Need-returns Inv-loop μ-loop
 returns c = sym (c .before .loop .inv .2 ∙ spread-end _ _ _ (c .loop-test .left))
 

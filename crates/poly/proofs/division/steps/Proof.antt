@@ -14,11 +14,6 @@ use Rattle.poly.specs.Models.Division.{KeysBelow, Setting, less-product,
 use borrow.Author.Needs.{needs}
 use Rattle.poly.proofs.division.steps.Statement.{statement}
 use Rattle.poly.proofs.division.steps.Tie as tie
-use Rattle.poly.proofs.division.steps.Reads as reads
-use Rattle.poly.proofs.division.steps.Lts as lts
-use Rattle.field.proofs.times.Reads as times-reads
-use Rattle.poly.proofs.division.fits.Reads as fits-reads
-use Rattle.poly.proofs.division.subtract.Reads as subtract-reads
 
 abbrev setting : ℕ → List ℕ → ℕ → ℕ → ℕ → Setting
 setting p divisor lead inverse bound = record { modulus = p; terms = divisor; lead = lead; inverse = inverse; bound = bound }
@@ -78,77 +73,59 @@ module _ (c : tie.Else2 Inv-loop μ-loop Inv-steps μ-steps) where
       going-taken (d at) (before at) (work at) (at .loop .k) (going at) (c .before .before .before .before .loop-test .left) (c .before .before .if1 .taken)
       (at .before .before .before .before .pre) yes
 
--- src/division.rt:118:5
 steps-holds : tie.Need-steps-holds Inv-loop μ-loop Inv-steps μ-steps
 steps-holds c = search needs
 
--- src/division.rt:119:9
 loop-holds : tie.Need-loop-holds Inv-loop μ-loop Inv-steps μ-steps
 loop-holds c = search needs
 
--- src/division.rt:123:13
 sub-k : tie.Need-sub-k Inv-loop μ-loop Inv-steps μ-steps
 sub-k c = search needs
 
--- src/division.rt:124:16
 mul-if1 : tie.Need-mul-if1 Inv-loop μ-loop Inv-steps μ-steps
 mul-if1 c = search needs
 
--- src/division.rt:124:16
 slice-read-if1 : tie.Need-slice-read-if1 Inv-loop μ-loop Inv-steps μ-steps
 slice-read-if1 c = search needs
 
--- src/division.rt:119:9
 loop-less : tie.Need-loop-less Inv-loop μ-loop Inv-steps μ-steps
 loop-less c = search needs
 
--- src/division.rt:119:9
 loop-again : tie.Need-loop-again Inv-loop μ-loop Inv-steps μ-steps
 loop-again c =
     let l = c .before .before .before in
     (omega arith, l .loop .inv .1 ∙ going-passed (d l) (work l) (l .loop .k) (going l .cells) (c .before .before .loop-test .left) (c .if1 .left))
 
--- src/division.rt:128:18
 cast-fits : tie.Need-cast-fits Inv-loop μ-loop Inv-steps μ-steps
 cast-fits c = search needs
 
--- src/division.rt:128:13
 fits-requires : tie.Need-fits-requires Inv-loop μ-loop Inv-steps μ-steps
 fits-requires c κs = search needs
 
--- src/division.rt:132:33
 mul-times : tie.Need-mul-times Inv-loop μ-loop Inv-steps μ-steps
 mul-times c = search needs
 
--- src/division.rt:132:33
 slice-read-times : tie.Need-slice-read-times Inv-loop μ-loop Inv-steps μ-steps
 slice-read-times c = search needs
 
--- src/division.rt:132:13
 times-requires : tie.Need-times-requires Inv-loop μ-loop Inv-steps μ-steps
 times-requires c κs = search needs
 
--- src/division.rt:133:22
 sub-work : tie.Need-sub-work Inv-loop μ-loop Inv-steps μ-steps
 sub-work c = below (c .before .before)
 
--- src/division.rt:133:14
 add-work : tie.Need-add-work Inv-loop μ-loop Inv-steps μ-steps
 add-work c = search needs
 
--- src/division.rt:133:9
 mul-work : tie.Need-mul-work Inv-loop μ-loop Inv-steps μ-steps
 mul-work c = search needs
 
--- src/division.rt:133:9
 slice-write-work : tie.Need-slice-write-work Inv-loop μ-loop Inv-steps μ-steps
 slice-write-work c = search needs
 
--- src/division.rt:134:24
 sub-subtract : tie.Need-sub-subtract Inv-loop μ-loop Inv-steps μ-steps
 sub-subtract c = below (c .before .before)
 
--- src/division.rt:134:9
 subtract-requires : tie.Need-subtract-requires Inv-loop μ-loop Inv-steps μ-steps
 subtract-requires c κs =
     let e = c .before .before .before in
@@ -161,11 +138,9 @@ subtract-requires c κs =
       within = λ i h. omega (arith, within e i h, z .pre .room, going l .same-length, long);
     }
 
--- src/division.rt:118:5
 steps-less : tie.Need-steps-less Inv-loop μ-loop Inv-steps μ-steps
 steps-less c = search needs
 
--- src/division.rt:118:5
 steps-again : tie.Need-steps-again Inv-loop μ-loop Inv-steps μ-steps
 steps-again c =
     let u = c .before .before in
@@ -173,19 +148,15 @@ steps-again c =
     let e = m .before .before in
     (e .before .before .before .before .before .before .steps .inv .0, taken e (m .times .result) _ (m .times .ensures) (u .subtract .ensures))
 
--- src/division.rt:111:1
 same-length : tie.Need-same-length Inv-loop μ-loop Inv-steps μ-steps
 same-length c = search needs
 
--- src/division.rt:111:1
 returns : tie.Need-returns Inv-loop μ-loop Inv-steps μ-steps
 returns c = rw (c .before .before .steps .inv .0) (going-done (d (c .before)) (before (c .before)) (work (c .before)) (c .before .loop .k) (going (c .before)) (c .loop-test .taken))
 
--- src/division.rt:111:1
 same-length-2 : tie.Need-same-length-2 Inv-loop μ-loop Inv-steps μ-steps
 same-length-2 c = search needs
 
--- src/division.rt:111:1
 returns-2 : tie.Need-returns-2 Inv-loop μ-loop Inv-steps μ-steps
 returns-2 c =
     let t = c .before .before in

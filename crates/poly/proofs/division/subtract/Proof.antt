@@ -8,11 +8,6 @@ use Rattle.poly.specs.Laws.DivisionTurns.{less-turn, less-end}
 use borrow.Author.Needs.{needs}
 use Rattle.poly.proofs.division.subtract.Statement.{statement}
 use Rattle.poly.proofs.division.subtract.Tie as tie
-use Rattle.poly.proofs.division.subtract.Reads as reads
-use Rattle.poly.proofs.division.subtract.Lts as lts
-use Rattle.field.proofs.plus_times.Reads as plus-times-reads
-use Rattle.poly.proofs.key.Key.of.Reads as of-reads
-use Rattle.poly.proofs.key.coefficient_of.Reads as coefficient-of-reads
 
 abbrev Inv-loop : tie.InvT-loop
 Inv-loop p q shift divisor cells₀ opposite i₀ cells i = (i ≤ length divisor) × (length cells ≡ length cells₀) × (less-product p shift q divisor cells₀ ≡ less-product p shift q (drop i divisor) cells)
@@ -28,67 +23,51 @@ at-below c =
     let z = a .before .before .before in
     omega (arith, z .pre .within (a .loop .i) (c .before .before .before .loop-test .taken), c .before .of .ensures, a .loop .inv .1)
 
--- src/division.rt:98:20
 sub-opposite : tie.Need-sub-opposite Inv-loop μ-loop
 sub-opposite c = omega (arith, c .before .before .pre .reduced)
 
--- src/division.rt:100:5
 loop-holds : tie.Need-loop-holds Inv-loop μ-loop
 loop-holds c = search needs
 
--- src/division.rt:101:17
 mul-t : tie.Need-mul-t Inv-loop μ-loop
 mul-t c = search needs
 
--- src/division.rt:101:17
 shared-slice-read-t : tie.Need-shared-slice-read-t Inv-loop μ-loop
 shared-slice-read-t c = search needs
 
--- src/division.rt:102:13
 of-requires : tie.Need-of-requires Inv-loop μ-loop
 of-requires c κs = search needs
 
--- src/division.rt:103:18
 cast-at : tie.Need-cast-at Inv-loop μ-loop
 cast-at c = search needs
 
--- src/division.rt:103:18
 add-at : tie.Need-add-at Inv-loop μ-loop
 add-at c = omega (arith, at-below c)
 
--- src/division.rt:104:42
 mul-plus-times : tie.Need-mul-plus-times Inv-loop μ-loop
 mul-plus-times c = omega (arith, at-below c)
 
--- src/division.rt:104:42
 slice-read-plus-times : tie.Need-slice-read-plus-times Inv-loop μ-loop
 slice-read-plus-times c = at-below (c .before)
 
--- src/division.rt:104:63
 coefficient-of-requires : tie.Need-coefficient-of-requires Inv-loop μ-loop
 coefficient-of-requires c κs = search needs
 
--- src/division.rt:104:21
 plus-times-requires : tie.Need-plus-times-requires Inv-loop μ-loop
 plus-times-requires c κs = c .before .before .before .before .before .before .before .before .before .pre .positive
 
--- src/division.rt:104:9
 mul-cells : tie.Need-mul-cells Inv-loop μ-loop
 mul-cells c = omega (arith, at-below (c .before .before .before))
 
--- src/division.rt:104:9
 slice-write-cells : tie.Need-slice-write-cells Inv-loop μ-loop
 slice-write-cells c = at-below (c .before .before .before)
 
--- src/division.rt:105:9
 add-i : tie.Need-add-i Inv-loop μ-loop
 add-i c = search needs
 
--- src/division.rt:100:5
 loop-less : tie.Need-loop-less Inv-loop μ-loop
 loop-less c = search needs
 
--- src/division.rt:100:5
 loop-again : tie.Need-loop-again Inv-loop μ-loop
 loop-again c =
     let s = c .before .before .before in
@@ -101,11 +80,9 @@ loop-again c =
           (c .before .coefficient-of .ensures) (c .plus-times .ensures),
     )
 
--- src/division.rt:94:1
 same-length : tie.Need-same-length Inv-loop μ-loop
 same-length c = search needs
 
--- src/division.rt:94:1
 returns : tie.Need-returns Inv-loop μ-loop
 returns c = sym (c .before .loop .inv .2 ∙ less-end _ _ _ _ _ _ (c .loop-test .left))
 

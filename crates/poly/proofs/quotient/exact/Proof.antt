@@ -1,0 +1,112 @@
+-- `exact` meets its contract, from what its calls say: the room cleared, the division, the quotient's terms gathered, and the room cleared again. Assumes nothing.
+use mathlib.Core.Path.{_≡_, sym, _∙_}
+use Prim.Native.Nat.{_≤_}
+use native.Mathlib.Omega.{arith}
+use borrow.Author.Tests.{not-true, not-false}
+use lib.ListN.{length}
+use Rattle.poly.specs.Room.{work-room}
+use Rattle.poly.specs.Quotient.{QuotientCall}
+use Rattle.poly.specs.Laws.WorkRoom.{quotient-long}
+use Rattle.poly.specs.Laws.Quotient.{call, passed-lists, passed-output}
+use Rattle.poly.specs.Laws.QuotientExact.{exact-begins, exact-none, exact-found}
+use borrow.Author.Needs.{needs}
+use Rattle.poly.proofs.quotient.exact.Statement.{statement}
+use Rattle.poly.proofs.quotient.exact.Tie as tie
+
+-- the call
+abbrev lent : tie.Start → QuotientCall
+lent z = call (z .args .p) (z .args .first .now) (z .args .second .now) (z .args .out .now) (z .args .work .now)
+
+-- the room is as long after the division as before
+abbrev start : tie.After-divide → tie.Start
+start d = d .before .before .before .before .before .before .before .before .before .before
+
+room-long : (d : tie.After-divide) → work-room ≤ length (d .divide .last .1 .1 .1 .0)
+room-long d = omega (arith, passed-lists (lent (start d)) (start d .pre) .room)
+
+clear-requires : tie.Need-clear-requires
+clear-requires c κs =
+    let z = c .before .before .before .before .before in
+    passed-lists (lent z) (z .pre) .room
+
+divide-requires : tie.Need-divide-requires
+divide-requires c κs =
+    let l = c .before .before .before in
+    let z = l .before .before .before .before .before .before in
+    rw (l .clear .ensures) (exact-begins (lent z) (z .pre))
+
+clear-requires-2 : tie.Need-clear-requires-2
+clear-requires-2 c κs = room-long (c .before .before .before .before)
+
+at-requires : tie.Need-at-requires
+at-requires c κs = search needs
+
+same-length : tie.Need-same-length
+same-length c = search needs
+
+returns : tie.Need-returns
+returns c =
+    let e = c .before .before .before in
+    let t = e .before .before in
+    let d = t .before .before .before in
+    let l = d .before .before .before .before in
+    let z = start d in
+    exact-none (lent z) (z .pre) _ _ _ (d .divide .result) (l .clear .ensures) (d .divide .ensures) (e .clear2 .ensures) (not-true _ (t .if1 .taken)) (c .at .ensures)
+
+sub-gather : tie.Need-sub-gather
+sub-gather c = search needs
+
+part-gather-start : tie.Need-part-gather-start
+part-gather-start c = search needs
+
+part-gather-end : tie.Need-part-gather-end
+part-gather-end c = room-long (c .before .before .before .before)
+
+gather-requires : tie.Need-gather-requires
+gather-requires c κs =
+    let d = c .before .before .before .before .before .before in
+    let long = quotient-long (d .divide .last .1 .1 .1 .0) (room-long d) in
+    record { few = omega (arith, long); room = omega (arith, long, passed-output (lent (start d)) (start d .pre)) }
+
+clear-requires-3 : tie.Need-clear-requires-3
+clear-requires-3 c κs = room-long (c .before .before .before .before .before .before .before .before .before .before)
+
+none-requires : tie.Need-none-requires
+none-requires c κs = search needs
+
+same-length-2 : tie.Need-same-length-2
+same-length-2 c = search needs
+
+same-length-3 : tie.Need-same-length-3
+same-length-3 c = search needs
+
+returns-2 : tie.Need-returns-2
+returns-2 c =
+    let e = c .before .before .before in
+    let g = e .before .before .before .before in
+    let n = g .before .before .before .before in
+    let d = n .before .before .before in
+    let l = d .before .before .before .before in
+    let z = start d in
+    exact-found (lent z) (z .pre) _ _ _ (d .divide .result) (l .clear .ensures) (d .divide .ensures) (e .clear3 .ensures) (not-false _ (n .if1 .left)) (quotient-long (d .divide .last .1 .1 .1 .0) (room-long d)) _ _ (g .gather .ensures)
+    (c .none .ensures)
+
+pub exact-spec : {M : Type 1} → statement M
+exact-spec =
+    tie.close
+    (tie.spec
+    clear-requires
+    divide-requires
+    clear-requires-2
+    at-requires
+    same-length
+    returns
+    sub-gather
+    part-gather-start
+    part-gather-end
+    gather-requires
+    clear-requires-3
+    none-requires
+    same-length-2
+    same-length-3
+    returns-2)

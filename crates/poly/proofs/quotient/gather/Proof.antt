@@ -1,0 +1,111 @@
+-- `gather` meets its contract. The invariant: the terms of the cells from k on stand first in the output, and the rest of it is as it was. Assumes nothing.
+use mathlib.Core.Path.{_≡_, refl, _∙_}
+use mathlib.Core.List.{_++_}
+use Prim.Native.Nat.{_+_, _≤_, _<_}
+use native.Mathlib.Omega.{arith}
+use lib.ListN.{length, take, drop, length-set}
+use Rattle.poly.specs.Models.Spread.{gathered}
+use Rattle.poly.specs.Laws.DivisionTurns.{gather-pass, gather-turn, gather-end, gather-written, drop-written}
+use borrow.Author.Needs.{needs}
+use Rattle.poly.proofs.quotient.gather.Statement.{statement}
+use Rattle.poly.proofs.quotient.gather.Tie as tie
+
+abbrev Inv-loop : tie.InvT-loop
+Inv-loop cells out₀ k₀ n₀ out k n =
+    (n + k ≤ length cells) × (length out ≡ length out₀) × (gathered (length cells) cells ≡ take n out ++ gathered k cells) × (drop n out ≡ drop n out₀)
+
+abbrev μ-loop : tie.MeasureT-loop
+μ-loop cells out₀ k₀ n₀ out k n = k
+
+-- there is room for one more
+room : (c : tie.After-term Inv-loop μ-loop) → c .before .before .before .before .loop .n < length (c .before .before .before .before .loop .out)
+room c =
+    let a = c .before .before .before .before in
+    omega (arith, a .loop .inv .0, a .loop .inv .1, a .before .before .before .pre .room, c .before .before .before .loop-test .taken)
+
+loop-holds : tie.Need-loop-holds Inv-loop μ-loop
+loop-holds c = (omega arith, refl, refl, refl)
+
+sub-k : tie.Need-sub-k Inv-loop μ-loop
+sub-k c = search needs
+
+mul-c : tie.Need-mul-c Inv-loop μ-loop
+mul-c c = search needs
+
+shared-slice-read-c : tie.Need-shared-slice-read-c Inv-loop μ-loop
+shared-slice-read-c c = search needs
+
+cast-term : tie.Need-cast-term Inv-loop μ-loop
+cast-term c = search needs
+
+term-requires : tie.Need-term-requires Inv-loop μ-loop
+term-requires c κs = search needs
+
+mul-out : tie.Need-mul-out Inv-loop μ-loop
+mul-out c = omega (arith, room c, c .before .before .before .before .before .before .before .good .1 .0 .0, c .before .before .before .before .loop .inv .1)
+
+slice-write-out : tie.Need-slice-write-out Inv-loop μ-loop
+slice-write-out c = room c
+
+add-n : tie.Need-add-n Inv-loop μ-loop
+add-n c = search needs
+
+loop-less : tie.Need-loop-less Inv-loop μ-loop
+loop-less c = search needs
+
+loop-again : tie.Need-loop-again Inv-loop μ-loop
+loop-again c =
+    let a = c .before .before .before .before in
+    let x = a .before .before .before .args in (
+      omega (arith, a .loop .inv .0, c .before .before .before .loop-test .taken),
+      length-set (a .loop .out) (a .loop .n) (c .term .result) ∙ a .loop .inv .1,
+      gather-turn (x .cells .now) (a .loop .out) (a .loop .k) (a .loop .n) _ (a .loop .inv .2) (c .before .before .before .loop-test .taken) (c .before .if1 .taken) (room c)
+          (c .term .ensures),
+      drop-written (a .loop .out) (x .out .now) (a .loop .n) (c .term .result) (a .loop .inv .3),
+    )
+
+loop-less-2 : tie.Need-loop-less-2 Inv-loop μ-loop
+loop-less-2 c = search needs
+
+loop-again-2 : tie.Need-loop-again-2 Inv-loop μ-loop
+loop-again-2 c =
+    let a = c .before .before .before in (
+      omega (arith, a .loop .inv .0),
+      a .loop .inv .1,
+      gather-pass (a .before .before .before .args .cells .now) (a .loop .out) (a .loop .k) (a .loop .n) _ (a .loop .inv .2) (c .before .before .loop-test .taken) (c .if1 .left),
+      a .loop .inv .3,
+    )
+
+same-length : tie.Need-same-length Inv-loop μ-loop
+same-length c = search needs
+
+returns : tie.Need-returns Inv-loop μ-loop
+returns c =
+    let a = c .before in
+    let z = a .before .before .before in
+    let w =
+    gather-written _ (z .args .out .now) (a .loop .out) (a .loop .n) (omega (arith, a .loop .inv .0, a .loop .inv .1, z .pre .room))
+    (gather-end (z .args .cells .now) (a .loop .out) (a .loop .k) (a .loop .n) _ (a .loop .inv .2) (c .loop-test .left)) (a .loop .inv .3) in
+    record { count = w .0; output = w .1 }
+
+pub gather-spec : {M : Type 1} → statement M
+gather-spec =
+    tie.close
+    (tie.spec
+    Inv-loop
+    μ-loop
+    loop-holds
+    sub-k
+    mul-c
+    shared-slice-read-c
+    cast-term
+    term-requires
+    mul-out
+    slice-write-out
+    add-n
+    loop-less
+    loop-again
+    loop-less-2
+    loop-again-2
+    same-length
+    returns)

@@ -1,0 +1,41 @@
+-- `quotient` meets its contract: a fault of the table is the answer, and inputs that pass are divided. Assumes nothing.
+use Rattle.field.specs.RefusalLaws.{tested-passes, tested-refuses}
+use Rattle.poly.specs.Quotient.{QuotientCall, quotient-table, refused}
+use Rattle.poly.specs.Laws.Quotient.{call}
+use borrow.Author.Needs.{needs}
+use Rattle.poly.proofs.quotient.quotient.Statement.{statement}
+use Rattle.poly.proofs.quotient.quotient.Tie as tie
+
+-- the call
+abbrev lent : tie.Start → QuotientCall
+lent z = call (z .args .p) (z .args .first .now) (z .args .second .now) (z .args .out .now) (z .args .work .now)
+
+quotient-fault-requires : tie.Need-quotient-fault-requires
+quotient-fault-requires c κs = search needs
+
+returns : tie.Need-returns
+returns c =
+    let t = c .before .before in
+    let z = t .before .before .before .before .before in
+    refused (t .quotient-fault .result) (tested-refuses (quotient-table (lent z)) (t .quotient-fault .result) (t .quotient-fault .ensures) (c .if1 .taken))
+
+exact-requires : tie.Need-exact-requires
+exact-requires c κs =
+    let e = c .before .before in
+    let t = e .before .before in
+    let z = t .before .before .before .before .before in
+    tested-passes (quotient-table (lent z)) tt (t .quotient-fault .result) (t .quotient-fault .ensures) (e .if1 .left) .0
+
+same-length : tie.Need-same-length
+same-length c = search needs
+
+same-length-2 : tie.Need-same-length-2
+same-length-2 c = search needs
+
+returns-2 : tie.Need-returns-2
+returns-2 c = c .before .before .before .before .exact .ensures
+
+pub quotient-spec : {M : Type 1} → statement M
+quotient-spec =
+    tie.close
+    (tie.spec quotient-fault-requires returns exact-requires same-length same-length-2 returns-2)

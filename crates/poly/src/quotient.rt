@@ -1,0 +1,92 @@
+// The quotient service: one list over another, exactly. The quotient's terms are written first in the lent output.
+ghost use mathlib.Core.List.{_++_};
+ghost use Rattle.field.specs.Refusal.{Passes, Tested};
+ghost use Rattle.poly.specs.Lists.{of-lists};
+ghost use Rattle.poly.specs.Quotient.{QuotientCall, quotient-table, QuotientResult, Quotient};
+ghost use Rattle.poly.specs.Models.WorkRoom.{CanGather, Gathered, of-rooms};
+use crate::QuotientRecord;
+use crate::Term;
+use crate::division::KEYS;
+use crate::division::WORK_ROOM;
+use field::Fault;
+use field::Number;
+
+// The terms of the cells that are not 0, the highest key first, written first in the output; how many there are.
+fn gather(cells: &[Number], out: &mut [Term]) -> usize
+    requires { ⌜ CanGather (now cells) (now out) ⌝ }
+    ensures { λ r. ⌜ Gathered (now (cells .entry)) (now (out .entry)) (now (out .exit)) r ⌝ }
+{
+    let mut k = cells.len();
+    let mut n: usize = 0;
+    while 0 < k {
+        k -= 1;
+        let c = cells[k];
+        if c != 0 {
+            out[n] = crate::key::term(k as u16, c);
+            n += 1;
+        }
+    }
+    n
+}
+
+// The refusals of the inputs, 1 to 5, 10 and 11; of the two rooms only the lengths matter.
+fn quotient_fault(p: Number, first: &[Term], second: &[Term], output: usize, work: usize) -> Fault
+    ensures { λ r. ⌜ Tested (of-lists p (now (first .entry)) (now (second .entry)) ++ of-rooms output work) r ⌝ }
+{
+    let fault = crate::list::lists_fault(p, first, second);
+    if fault.number != 0 {
+        return fault;
+    }
+    if output < KEYS {
+        return Fault::at(Fault::OUTPUT_SHORT, 0);
+    }
+    if work < WORK_ROOM {
+        return Fault::at(Fault::WORK_SHORT, 0);
+    }
+    Fault::none()
+}
+
+// The quotient of inputs that pass, or 15. The work room is left cleared.
+fn exact(
+    p: Number,
+    first: &[Term],
+    second: &[Term],
+    out: &mut [Term],
+    work: &mut [Number],
+) -> QuotientRecord
+    requires { ⌜ Passes (quotient-table (record { modulus = p; first-list = now first; second-list = now second; output = now out; work = now work })) ⌝ }
+    ensures { λ r. ⌜ Quotient (record { modulus = p; first-list = now (first .entry); second-list = now (second .entry); output = now (out .entry); work = now (work .entry) }) (record { found = r; output = now (out .exit); work = now (work .exit) }) ⌝ }
+{
+    crate::division::clear(WORK_ROOM, work);
+    let whole = crate::division::divide(p, first, second, work);
+    if !whole {
+        crate::division::clear(WORK_ROOM, work);
+        return QuotientRecord {
+            fault: Fault::at(Fault::DOES_NOT_DIVIDE, 0),
+            terms: 0,
+        };
+    }
+    let terms = gather(&work[KEYS..WORK_ROOM], out);
+    crate::division::clear(WORK_ROOM, work);
+    QuotientRecord {
+        fault: Fault::none(),
+        terms,
+    }
+}
+
+// First over second: the quotient's terms and their count, or a refusal.
+pub fn quotient(
+    p: Number,
+    first: &[Term],
+    second: &[Term],
+    out: &mut [Term],
+    work: &mut [Number],
+) -> QuotientRecord
+    ensures { λ r. ⌜ Quotient (record { modulus = p; first-list = now (first .entry); second-list = now (second .entry); output = now (out .entry); work = now (work .entry) }) (record { found = r; output = now (out .exit); work = now (work .exit) }) ⌝ }
+{
+    let fault = quotient_fault(p, first, second, out.len(), work.len());
+    if fault.number != 0 {
+        return QuotientRecord { fault, terms: 0 };
+    }
+    exact(p, first, second, out, work)
+}
