@@ -21,3 +21,4 @@ pub mod LookTurns
 pub mod Stores
 pub mod Looking
 pub mod Checks
+pub mod Verdict

@@ -5,3 +5,4 @@ pub mod Monic
 pub mod Equation
 pub mod Looks
 pub mod Checks
+pub mod Verdict

@@ -7,15 +7,13 @@ ghost use Rattle.divisor.specs.Models.Checks.{of-skeleton, of-points, of
 use field::Fault;
 use field::Number;
 use poly::Term;
+use poly::division::WORK_ROOM;
 use poly::key::Key;
 
 // The most keys of a skeleton, and the most point numbers.
 const KEYS: usize = 32;
 
 const POINT_NUMBERS: usize = 96;
-
-// The numbers of the work room that a call uses.
-pub const WORK_ROOM: usize = 8192;
 
 // The place of the first key that is wrong, or the length.
 fn first_wrong_key(skeleton: &[Number]) -> usize

@@ -7,6 +7,7 @@ mod monic;
 mod points;
 mod sorting;
 mod table;
+mod verdict;
 
 // Number and place, the least degree of an image, the numbers of bad, unlucky and kept points, and the count of terms.
 pub struct CandidateRecord {
