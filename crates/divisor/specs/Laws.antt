@@ -20,3 +20,5 @@ pub mod PointTurns
 pub mod LookTurns
 pub mod Stores
 pub mod Looking
+pub mod Checks
+pub mod Verdict

@@ -4,3 +4,5 @@ pub mod Sorting
 pub mod Monic
 pub mod Equation
 pub mod Looks
+pub mod Checks
+pub mod Verdict

@@ -40,5 +40,6 @@ pub record Solvable (p : ℕ) (ks values : List ℕ) : Type 0 where
 
 -- what it promises: the divisor's terms first
 pub record Monic (p : ℕ) (ks values : List ℕ) (r : Divisor) : Type 0 where
-  pub fits : r .count ≤ 32
+  pub sized : length (r .terms) ≡ 32
+  pub fits : r .count ≤ length ks
   pub terms : take (r .count) (r .terms) ≡ monic-terms p ks (take (length ks) values)

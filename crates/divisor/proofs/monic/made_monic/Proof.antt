@@ -111,7 +111,8 @@ returns c =
     let l = c .before .loop in
     let a = s .args in
     record {
-      fits = omega (arith, s .pre .few);
+      sized = l .inv .2;
+      fits = omega arith;
       terms =
           made-all (a .p) (c .before .before .inverse .result .value) (a .skeleton .now) (a .t3) (l .i) (s .pre .long) (l .count) (l .terms) (c .loop-test .left) (l .inv .3)
           ∙ ap (λ (f : ℕ). scaled-terms (a .p) f (a .skeleton .now) (take (length (a .skeleton .now)) (a .t3)))

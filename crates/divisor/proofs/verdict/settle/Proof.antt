@@ -1,0 +1,78 @@
+-- `divisor::verdict::settle` meets its contract, by the kind of the solution. Assumes nothing.
+use Rattle.divisor.specs.Laws.Verdict.{settled-none, settled-several, only-ready, settled-only}
+use borrow.Author.Needs.{needs}
+use Rattle.divisor.proofs.verdict.settle.Statement.{statement}
+use Rattle.divisor.proofs.verdict.settle.Tie as tie
+use Rattle.divisor.proofs.verdict.settle.Reads as reads
+use Rattle.divisor.proofs.verdict.settle.Lts as lts
+use Rattle.divisor.proofs.verdict.divided.Reads as divided-reads
+use Rattle.divisor.proofs.verdict.refused.Reads as refused-reads
+
+enum-told : tie.Need-enum-told
+enum-told c = search needs
+
+refused-requires : tie.Need-refused-requires
+refused-requires c κs = search needs
+
+enum-told-2 : tie.Need-enum-told-2
+enum-told-2 c = search needs
+
+refused-requires-2 : tie.Need-refused-requires-2
+refused-requires-2 c κs = search needs
+
+enum-told-3 : tie.Need-enum-told-3
+enum-told-3 c = search needs
+
+divided-requires : tie.Need-divided-requires
+divided-requires c κs =
+    let s = c .before .before .before .before .before .before .before .before .before .before in
+    let a = s .args in
+    only-ready (a .p) (a .first .now) (a .second .now) (a .skeleton .now) (a .solved) (a .output .now) (a .work .now) (c .before .before .enum-told3 .given .1) (s .pre)
+
+same-length : tie.Need-same-length
+same-length c = search needs
+
+returns : tie.Need-returns
+returns c =
+    let a = c .before .before .before .before .before .before .before .before .before .before .before .before .args in
+    let r = c .before .before .refused in
+    settled-none (a .p) (a .first .now) (a .second .now) (a .skeleton .now) (a .solved) (a .output .now) (a .work .now) _ (r .result) (c .before .before .before .before .enum-told .given .1) (r .ensures)
+
+same-length-2 : tie.Need-same-length-2
+same-length-2 c = search needs
+
+returns-2 : tie.Need-returns-2
+returns-2 c =
+    let a = c .before .before .before .before .before .before .before .before .before .before .before .before .args in
+    let r = c .before .before .refused2 in
+    settled-several (a .p) (a .first .now) (a .second .now) (a .skeleton .now) (a .solved) (a .output .now) (a .work .now) _ (r .result) (c .before .before .before .before .enum-told2 .given .1) (r .ensures)
+
+same-length-3 : tie.Need-same-length-3
+same-length-3 c = search needs
+
+same-length-4 : tie.Need-same-length-4
+same-length-4 c = search needs
+
+returns-3 : tie.Need-returns-3
+returns-3 c =
+    let a = c .before .before .before .before .before .before .before .before .before .before .before .before .before .before .before .args in
+    let d = c .before .before .before .before .divided in
+    settled-only (a .p) (a .first .now) (a .second .now) (a .skeleton .now) (a .solved) (a .output .now) (a .work .now) (c .before .before .before .before .before .before .before .enum-told3 .given .1) (d .ensures)
+
+pub settle-spec : {M : Type 1} → statement M
+settle-spec =
+    tie.close
+    (tie.spec
+    enum-told
+    refused-requires
+    enum-told-2
+    refused-requires-2
+    enum-told-3
+    divided-requires
+    same-length
+    returns
+    same-length-2
+    returns-2
+    same-length-3
+    same-length-4
+    returns-3)
