@@ -9,19 +9,15 @@ use Rattle.field.specs.declared.Fault.{Fault}
 use Rattle.case_file.specs.declared.Counts.{Counts as CaseCounts}
 use Rattle.case_file.specs.Reading.{read}
 use Rattle.case_file.specs.Handed.{fault}
-use Rattle.poly.specs.Quotient.{QuotientCall, QuotientResult, Quotient, refused, no-quotient, quotient}
+use Rattle.poly.specs.Quotient.{QuotientCall, QuotientResult, Quotient}
 use Rattle.poly.specs.Laws.Quotient.{quotient-determined}
 use Rattle.console.specs.Lists.{Lists}
-use Rattle.console.specs.Laws.{of-file-refused, of-file-asked, of-file-has, of-file-determined, none-first, written-first}
+use Rattle.console.specs.OfFileLaws.{of-file-refused, of-file-asked, of-file-has, of-file-determined}
+use Rattle.console.specs.TermsFirst.{none-first, quotient-first}
 use Rattle.quotient.specs.QuotientOfFile.{unread, call, QuotientOfFile, Answered}
 
 abbrev TermsFirst : QuotientResult → Type 0
 TermsFirst r = Counts (r .found .terms) (r .output)
-
-quotient-first : (c : QuotientCall) (r : QuotientResult) → Quotient c r → TermsFirst r
-quotient-first c r (refused f h) = none-first (c .output)
-quotient-first c r (no-quotient h listed n) = none-first (c .output)
-quotient-first c r (quotient h listed qs q) = written-first qs (c .output)
 
 module _ (bytes output work : List ℕ) where
   answered : (r : QuotientResult) → QuotientOfFile output work bytes r → Answered bytes output work r

@@ -1,15 +1,10 @@
--- What is found of a file: a refusal and an answer meet the promise, what both have is had, and the service settles it. What is written stands first.
--- Assumes nothing.
-use Prim.Native.Nat.{ℕ, _≤_, zero-le}
-use native.Mathlib.Omega.{arith}
+-- What is found of a file: a refusal and an answer meet the promise, what both have is had, and the service settles it. Assumes nothing.
+use Prim.Native.Nat.{ℕ}
 use mathlib.Core.Path.{_≡_, refl, sym, _∙_, ap}
 use mathlib.Core.List.{List}
-use lib.ListN.{length, length-append, length-take}
-use Rattle.io.specs.Counts.{Counts}
 use Rattle.field.specs.declared.Fault.{Fault}
 use Rattle.case_file.specs.Reading.{Reading, read}
 use Rattle.case_file.specs.Handed.{fault}
-use Rattle.poly.specs.Room.{written}
 use Rattle.console.specs.OfFile.{OfFile, refused, asked}
 
 module _ {Found : Type 0} (unread : Fault → Found) (Answer : Reading → Found → Type 0) (bytes : List ℕ) where
@@ -32,12 +27,3 @@ module _ {Found : Type 0} (unread : Fault → Found) (Answer : Reading → Found
   of-file-determined one r q (refused n) (asked z f a) = absurd (n z)
   of-file-determined one r q (asked z f a) (refused n) = absurd (n z)
   of-file-determined one r q (asked z f a) (asked y g b) = one (read bytes) f g a b
-
-pub counts-within : (n : ℕ) (list : List ℕ) → n ≤ length list → Counts n list
-counts-within n list h = (h, simp length-take (omega arith))
-
-pub none-first : (list : List ℕ) → Counts 0 list
-none-first list = (zero-le, refl)
-
-pub written-first : (ns out : List ℕ) → Counts (length ns) (written ns out)
-written-first ns out = counts-within (length ns) (written ns out) (simp length-append (omega arith))
