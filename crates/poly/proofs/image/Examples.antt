@@ -3,7 +3,7 @@ use mathlib.Core.Path.{_≡_, refl}
 use mathlib.Core.List.{List, [], _∷_}
 use Prim.Native.Nat.{ℕ}
 use Rattle.field.specs.Fp.{el, add, mul, neg, chase, inv}
-use Rattle.field.specs.Refusal.{fault, none}
+use Rattle.field.specs.Refusal.{none}
 use Rattle.poly.specs.Models.Cells.{cells}
 use Rattle.poly.specs.Models.Powers.{power, powers}
 use Rattle.poly.specs.Models.Value.{plus-term, value-from, value-of}
