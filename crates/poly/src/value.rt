@@ -9,8 +9,8 @@ use crate::key::Key;
 use field::Element;
 use field::Number;
 
-// The powers 0 to 7 of a number.
-pub(crate) fn powers(p: Number, y: Number) -> Eight
+// The powers 0 to 7 of a number: for the value below, and for the equations of the layer above.
+pub fn powers(p: Number, y: Number) -> Eight
     requires { ⌜ 1 < p ⌝ }
     ensures { λ r. ⌜ r ≡ powers-of p y ⌝ }
 {
