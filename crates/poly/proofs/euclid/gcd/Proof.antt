@@ -77,13 +77,13 @@ size-requires-3 c κs = search needs
 loop-less : tie.Need-loop-less Inv-loop μ-loop
 loop-less c =
     let turn = c .before .before .before in
-    turning-falls (prime (turn .before .before .before .before .before)) _ _ _ (turn .before .loop .inv) (turn .loop-test .taken)
+    turning-falls (prime (turn .before .before .before .before .before)) _ _ _ (turn .before .loop .inv) (omega arith)
     (c .before .before .monic2 .ensures) (c .before .remainder .ensures) (c .size3 .ensures)
 
 loop-again : tie.Need-loop-again Inv-loop μ-loop
 loop-again c =
     let turn = c .before .before .before in
-    turning-goes-on (prime (turn .before .before .before .before .before)) _ _ _ (turn .before .loop .inv) (turn .loop-test .taken)
+    turning-goes-on (prime (turn .before .before .before .before .before)) _ _ _ (turn .before .loop .inv) (omega arith)
     (c .before .before .monic2 .ensures) (c .before .remainder .ensures) (c .size3 .ensures)
 
 returns : tie.Need-returns Inv-loop μ-loop
@@ -95,7 +95,7 @@ returns c =
     c .before .before .before .monic .ensures ∙ ap (λ (n : ℕ). monic (a .p) (n - 1) (a .a)) (c .before .before .before .before .size .ensures) in
     sym
     (ap₂ (λ (n : ℕ) (u : List ℕ). euclid (a .p) n u (a .b)) (sym (c .before .before .size2 .ensures)) (sym f)
-    ∙ turning-ends (prime s) _ _ _ (c .before .loop .inv) (c .loop-test .left))
+    ∙ turning-ends (prime s) _ _ _ (c .before .loop .inv) (omega arith))
 
 pub gcd-spec : {M : Type 1} → statement M
 gcd-spec =
