@@ -1,20 +1,19 @@
 -- Inputs that pass, from what the calls of the routine give back to the promise of the call. Assumes nothing.
 use mathlib.Core.Path.{_≡_, refl, sym, _∙_, ap, subst}
 use mathlib.Core.Logic.{inl, inr}
-use mathlib.Core.List.{List, [], _∷_, map}
-use Prim.Native.Nat.{ℕ, zero, suc, _+_, _-_, _*_, _/_, _≤_, _<_}
+use mathlib.Core.List.{List, [], _∷_}
+use Prim.Native.Nat.{ℕ, zero, suc, _+_, _-_, _/_, _≤_, _<_}
 use native.Mathlib.Decide.{decLt}
 use native.Mathlib.Omega.{arith}
-use lib.ListN.{length, getD, take, drop}
+use lib.ListN.{length, getD, take}
 use lib.Seq.{length-take-le, getD-take}
 use Rattle.field.specs.Moduli.{Listed}
 use Rattle.field.specs.Prime.{Prime}
-use Rattle.field.specs.Modulo.{Modulo}
 use Rattle.field.specs.Numbers.{NO_GOOD_POINT}
-use Rattle.field.specs.Refusal.{Passes}
-use Rattle.field.specs.RefusalLaws.{never-placed, passes-front, passes-back}
+use Rattle.field.specs.Refusal.{fault, Passes}
+use Rattle.field.specs.declared.Fault.{Fault}
+use Rattle.field.specs.RefusalLaws.{never-placed}
 use Rattle.poly.specs.declared.ImageRecord.{ImageRecord}
-use Rattle.poly.specs.Keys.{exponents}
 use Rattle.poly.specs.Lists.{of-lists}
 use Rattle.poly.specs.Coefficients.{Eight}
 use Rattle.poly.specs.Room.{work-room, written, cleared}
@@ -22,18 +21,19 @@ use Rattle.poly.specs.Laws.Room.{zeroed-same}
 use Rattle.poly.specs.Laws.RightLists.{RightLists, lists-are-right}
 use Rattle.divisor.specs.declared.table.Kind.{Kind}
 use Rattle.divisor.specs.declared.table.Kind.the-variants.{None, One, Several}
+use Rattle.divisor.specs.declared.table.Solved.{Solved}
 use Rattle.divisor.specs.declared.table.Table.{Table}
 use Rattle.divisor.specs.declared.verdict.Verdict.{Verdict}
 use Rattle.divisor.specs.Rule.{report, Kept}
 use Rattle.divisor.specs.Candidate.{Call, table, prime, Numbers, A, B, monomials, lent-points, Result, Candidate}
-use Rattle.divisor.specs.TableModel.{COLUMNS, TableReady, empty-table, solved}
+use Rattle.divisor.specs.TableModel.{TableReady, empty-table, solved}
 use Rattle.divisor.specs.TableMeaning.{added, rows-of, Says}
 use Rattle.divisor.specs.TableKept.{empty-ready}
 use Rattle.divisor.specs.TableAnswer.{added-ready, table-answers, solved-below, solved-length}
-use Rattle.divisor.specs.Models.Checks.{of-skeleton, of-points, of-rooms}
+use Rattle.divisor.specs.Models.Checks.{of-skeleton}
 use Rattle.divisor.specs.Models.Rows.{all-rows}
 use Rattle.divisor.specs.Models.Sorting.{Within, sizes-of, least, alike, kept-of}
-use Rattle.divisor.specs.Models.Looks.{image-at, LookReady, Looks, kept-before, rows-so, EquationsReady, Equations-before}
+use Rattle.divisor.specs.Models.Looks.{LookReady, Looks, kept-before, rows-so, EquationsReady, Equations-before}
 use Rattle.divisor.specs.Models.Verdict.{VerdictReady, Settles, Settled, MakesDivisor, none, several, rejected, accepted}
 use Rattle.divisor.specs.Laws.Checks.{RightPoints, points-are-right, skeleton-count, keys-small}
 use Rattle.divisor.specs.Laws.Sorting.{Looked, Least, AtLeast, least-is, kept-count}
@@ -107,11 +107,12 @@ module _ (c : Call) (pass : Passes (table c)) where
     sizes-are = sizes-seen p (c .first-list) (c .second-list) (c .points) n (c .work) after sizes few-points look
 
     -- no point is good
-    pub nothing-good : least (take (length (c .points) / 3) sizes) ≡ 0 → (end : List ℕ) → end ≡ cleared after
-        → Candidate c (record { found = report NO_GOOD_POINT 0 (length (c .points) / 3) 0 0 0; output = c .output; work = end })
-    nothing-good e end r =
-        subst (λ (w : List ℕ). Candidate c (record { found = report NO_GOOD_POINT 0 n 0 0 0; output = c .output; work = w })) (sym (r ∙ same-room))
-        (assembled.answer-all-bad c pass listed looks looked (least-is 0 (sizes-of looks) .zero (ap least (sym sizes-are) ∙ e)))
+    pub nothing-good : least (take (length (c .points) / 3) sizes) ≡ 0 → (end : List ℕ) → end ≡ cleared after → (f : Fault) → f ≡ fault NO_GOOD_POINT 0
+        → Candidate c (record { found = record { fault = f; degree = 0; bad = length (c .points) / 3; unlucky = 0; kept = 0; terms = 0 }; output = c .output; work = end })
+    nothing-good e end r f q =
+        subst (λ (x : Fault). Candidate c (record { found = record { fault = x; degree = 0; bad = n; unlucky = 0; kept = 0; terms = 0 }; output = c .output; work = end })) (sym q)
+        (subst (λ (w : List ℕ). Candidate c (record { found = report NO_GOOD_POINT 0 n 0 0 0; output = c .output; work = w })) (sym (r ∙ same-room))
+        (assembled.answer-all-bad c pass listed looks looked (least-is 0 (sizes-of looks) .zero (ap least (sym sizes-are) ∙ e))))
 
     module _ (m : ℕ) (is-least : m ≡ least (take (length (c .points) / 3) sizes)) (some : ¬ (m ≡ 0)) where
       abbrev kept : ℕ
@@ -257,3 +258,48 @@ module _ (c : Call) (pass : Passes (table c)) where
 
             with-all : List ℕ → ℕ → ℕ → List ℕ → List ℕ → Result
             with-all l s terms o w = record { found = report (v .number) d (alike 0 l) (n - alike 0 l - alike s l) (alike s l) terms; output = o; work = w }
+
+-- the same with the numbers as the calls gave them
+module _ (c : Call) (pass : Passes (table c)) (after sizes : List ℕ)
+    (look : Looks (length (c .points) / 3) (c .modulus) (c .first-list) (c .second-list) (c .points) (c .work) after sizes)
+    (m : ℕ) (is-least : m ≡ least (take (length (c .points) / 3) sizes)) (some : ¬ (m ≡ 0))
+    (count : ℕ) (is-count : count ≡ alike m (take (length (c .points) / 3) sizes)) where
+  pub ready-equations : EquationsReady (c .modulus) (c .skeleton) (c .points) sizes after m (length (c .skeleton) + count)
+  ready-equations = subst (λ (x : ℕ). EquationsReady (c .modulus) (c .skeleton) (c .points) sizes after m (length (c .skeleton) + x)) (sym is-count)
+      (equations-ready c pass after sizes look m is-least some)
+
+  pub count-small : count ≤ 32
+  count-small = let e = kept-most c pass after sizes look m is-least some in omega arith
+
+  module _ (t : Table) (made : Equations-before (length (c .points) / 3) (c .modulus) (c .skeleton) (c .points) sizes after m (length (c .skeleton) + count) t) where
+    made-so : Equations-before (length (c .points) / 3) (c .modulus) (c .skeleton) (c .points) sizes after m
+        (length (c .skeleton) + alike m (take (length (c .points) / 3) sizes)) t
+    made-so = subst (λ (x : ℕ). Equations-before (length (c .points) / 3) (c .modulus) (c .skeleton) (c .points) sizes after m (length (c .skeleton) + x) t) is-count made
+
+    pub ready-table : TableReady (c .modulus) t
+    ready-table = table-ready c pass after sizes look m is-least some t made-so
+
+    module _ (s : Solved) (is-solved : s ≡ solved (c .modulus) t) where
+      pub ready-verdict : VerdictReady (c .modulus) (c .first-list) (c .second-list) (c .skeleton) s (c .output) after
+      ready-verdict = subst (λ (x : Solved). VerdictReady (c .modulus) (c .first-list) (c .second-list) (c .skeleton) x (c .output) after) (sym is-solved)
+          (verdict-ready c pass after sizes look m is-least some t made-so)
+
+      module _ (bad : ℕ) (is-bad : bad ≡ alike 0 (take (length (c .points) / 3) sizes)) where
+        pub bad-fits : bad + count ≤ length (c .points) / 3
+        bad-fits = let l = counts-fit c pass after sizes look m is-least some in omega arith
+
+        pub answered-so : {output work : List ℕ} (v : Verdict) → Settled (c .modulus) (c .first-list) (c .second-list) (c .skeleton) s (c .output) output after work v
+            → (f : Fault) → f ≡ fault (v .number) 0 → Candidate c (record {
+              found = record { fault = f; degree = m - 1; bad = bad; unlucky = length (c .points) / 3 - bad - count; kept = count; terms = v .terms };
+              output = output;
+              work = work;
+            })
+        answered-so {output} {work} v h f e =
+            subst (λ (x : Fault). Candidate c (so x bad count)) (sym e)
+            (subst (λ (x : ℕ). Candidate c (so (fault (v .number) 0) x count)) (sym is-bad)
+            (subst (λ (x : ℕ). Candidate c (so (fault (v .number) 0) (alike 0 (take (length (c .points) / 3) sizes)) x)) (sym is-count)
+            (finished c pass after sizes look m is-least some t made-so output work v
+            (subst (λ (x : Solved). Settled (c .modulus) (c .first-list) (c .second-list) (c .skeleton) x (c .output) output after work v) is-solved h))))
+          where
+            so : Fault → ℕ → ℕ → Result
+            so x b k = record { found = record { fault = x; degree = m - 1; bad = b; unlucky = length (c .points) / 3 - b - k; kept = k; terms = v .terms }; output = output; work = work }

@@ -2,7 +2,7 @@
 use mathlib.Core.Path.{_≡_, refl, sym, _∙_, ap, ap₂, subst}
 use mathlib.Core.Bool.{Bool, true, false}
 use mathlib.Core.List.{List, [], _∷_, _++_, append-assoc, append-nil}
-use Prim.Native.Nat.{ℕ, zero, suc, _+_, _*_, _/_, _≤_, _<_}
+use Prim.Native.Nat.{ℕ, zero, suc, _+_, _*_, _≤_}
 use native.Mathlib.Decide.{ℕ-discrete}
 use native.Mathlib.Omega.{arith}
 use lib.Dec.{eqb}
@@ -14,11 +14,10 @@ use Rattle.field.specs.Modulo.{Modulo}
 use Rattle.poly.specs.declared.ImageRecord.{ImageRecord}
 use Rattle.poly.specs.Terms.{terms-of}
 use Rattle.poly.specs.Value.{Point}
-use Rattle.poly.specs.Coefficients.{series}
 use Rattle.poly.specs.ImageCall.{point-of}
 use Rattle.divisor.specs.Rule.{Kept}
 use Rattle.divisor.specs.Candidate.{points-of}
-use Rattle.divisor.specs.Models.Sorting.{size-of, sizes-of, alike, kept-of}
+use Rattle.divisor.specs.Models.Sorting.{sizes-of, alike, kept-of}
 use Rattle.divisor.specs.Models.Equation.{kept-numbers}
 use Rattle.divisor.specs.Models.Looks.{point-at, image-at, look-at, LookReady, Looks, kept-before}
 use Rattle.divisor.specs.Laws.Sorting.{Looked, none, one}
