@@ -23,9 +23,8 @@ use Rattle.poly.specs.Laws.Keys.{key-order-of}
 use Rattle.poly.specs.Laws.Lists.{Falling}
 use Rattle.poly.specs.Laws.Falling.{falling-right}
 use Rattle.poly.specs.Laws.Terms.{poly-determines}
-use Rattle.poly.specs.Laws.Spread.{gather-falling, gather-dense}
+use Rattle.poly.specs.Laws.Spread.{key-of-term, coefficient-of-term, gather-falling, gather-dense}
 use Rattle.poly.specs.Laws.DivisionSteps.{found-passed, found-taken, found-stopped}
-use Rattle.poly.specs.Laws.DivisionModel.{key-of-term, coefficient-of-term}
 use Rattle.poly.specs.Laws.QuotientCells.{Stored, nothing-stored, zeros-reduced, quotient-stored, stored-means}
 use Rattle.poly.specs.Laws.DivisionEnds.{Empty, no-cells, no-cells-empty, divided-division}
 use Rattle.poly.specs.Models.Cells.{past-end}
