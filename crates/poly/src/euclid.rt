@@ -5,27 +5,28 @@ ghost use Rattle.poly.specs.Models.Eight.{size as size-of, scaled as sca
 ghost use Rattle.poly.specs.Models.Steps.{Divisible, Step, Reducible, Pair};
 use crate::Eight;
 use field::Element;
+use field::Number;
 
 // The place after the highest number that is not 0.
-pub fn size(f: Eight) -> usize
+pub(crate) fn size(f: Eight) -> usize
     ensures { λ r. ⌜ r ≡ size-of f ⌝ }
 {
-    let mut n: usize = 8;
-    while n > 0 {
-        if f[n - 1] != 0 {
-            return n;
+    let mut place: usize = 8;
+    while place > 0 {
+        if f[place - 1] != 0 {
+            return place;
         }
-        n -= 1;
+        place -= 1;
     }
     0
 }
 
 // Each number times c.
-fn scaled(p: u16, c: u16, f: Eight) -> Eight
+fn scaled(p: Number, c: Number, f: Eight) -> Eight
     requires { ⌜ 0 < p ⌝ }
     ensures { λ r. ⌜ r ≡ scaled-of p c f ⌝ }
 {
-    let mut r = [0u16; 8];
+    let mut r: Eight = [Element::ZERO; 8];
     let mut i: usize = 0;
     while i < 8 {
         r[i] = field::times(p, c, f[i]);
@@ -35,7 +36,7 @@ fn scaled(p: u16, c: u16, f: Eight) -> Eight
 }
 
 // All divided by the number at n.
-fn monic(p: u16, n: usize, f: Eight) -> Eight
+fn monic(p: Number, n: usize, f: Eight) -> Eight
     requires { ⌜ Divisible p n f ⌝ }
     ensures { λ r. ⌜ r ≡ monic-of p n f ⌝ }
 {
@@ -48,7 +49,7 @@ fn monic(p: u16, n: usize, f: Eight) -> Eight
 }
 
 // f - c x^k g.
-fn subtract(p: u16, c: u16, k: usize, f: Eight, g: Eight) -> Eight
+fn subtract(p: Number, c: Number, k: usize, f: Eight, g: Eight) -> Eight
     requires { ⌜ Step p c k ⌝ }
     ensures { λ r. ⌜ r ≡ subtract-of p c k f g ⌝ }
 {
@@ -63,7 +64,7 @@ fn subtract(p: u16, c: u16, k: usize, f: Eight, g: Eight) -> Eight
 }
 
 // The remainder of f by g, which is monic of degree m.
-fn remainder(p: u16, m: usize, g: Eight, f: Eight) -> Eight
+fn remainder(p: Number, m: usize, g: Eight, f: Eight) -> Eight
     requires { ⌜ Reducible p m f ⌝ }
     ensures { λ r. ⌜ r ≡ remainder-of p m g (8 - m) f ⌝ }
 {
@@ -78,7 +79,7 @@ fn remainder(p: u16, m: usize, g: Eight, f: Eight) -> Eight
 }
 
 // The monic greatest common divisor of a, which is not 0, and b.
-pub fn gcd(p: u16, a: Eight, b: Eight) -> Eight
+pub(crate) fn gcd(p: Number, a: Eight, b: Eight) -> Eight
     requires { ⌜ Pair p a b ⌝ }
     ensures { λ r. ⌜ r ≡ gcd-of p a b ⌝ }
 {

@@ -13,6 +13,7 @@ use crate::euclid;
 use crate::key::Key;
 use crate::list;
 use crate::value;
+use field::Element;
 use field::Fault;
 use field::Number;
 
@@ -22,7 +23,7 @@ fn refused(fault: Fault) -> ImageRecord
 {
     ImageRecord {
         fault,
-        coefficients: [0u16; 8],
+        coefficients: [Element::ZERO; 8],
         degree: 0,
     }
 }

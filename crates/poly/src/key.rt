@@ -5,6 +5,7 @@ ghost use Rattle.poly.specs.Keys.{exponents};
 ghost use Rattle.poly.specs.Terms.{key-of, coefficient-of};
 ghost use Rattle.poly.specs.Models.Keys.{Packable};
 use crate::Term;
+use field::Number;
 
 pub struct Key {
     pub bits: u16,
@@ -72,14 +73,14 @@ impl Key {
     }
 }
 
-pub fn coefficient_of(t: Term) -> u16
+pub fn coefficient_of(t: Term) -> Number
     ensures { λ r. ⌜ r ≡ coefficient-of t ⌝ }
 {
-    (t % Key::COEFFICIENT_LIMIT) as u16
+    (t % Key::COEFFICIENT_LIMIT) as Number
 }
 
 // The term of a key and a coefficient.
-pub fn term(key: u16, coefficient: u16) -> Term
+pub fn term(key: u16, coefficient: Number) -> Term
     ensures { λ r. ⌜ r ≡ key * 65536 + coefficient ⌝ }
 {
     (key as u32) * Key::COEFFICIENT_LIMIT + (coefficient as u32)

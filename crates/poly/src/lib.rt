@@ -1,5 +1,6 @@
 // Layer 2, polynomials in x, y, z, w modulo a listed prime: keys and lists, the value and the image at a point, division.
 use field::Fault;
+use field::Number;
 
 pub mod division;
 pub mod euclid;
@@ -13,7 +14,7 @@ pub mod value;
 pub type Term = u32;
 
 // Eight numbers below the modulus: the coefficients of x^0 to x^7, or the powers 0 to 7 of a number.
-pub type Eight = [u16; 8];
+pub type Eight = [Number; 8];
 
 // What the image service answers: U's coefficients and its degree; on refusal all are 0.
 pub struct ImageRecord {

@@ -6,13 +6,15 @@ ghost use Rattle.poly.specs.Models.Value.{Ready, value-of};
 use crate::Eight;
 use crate::Term;
 use crate::key::Key;
+use field::Element;
+use field::Number;
 
-// The powers 0 to 7 of a number.
-pub fn powers(p: u16, y: u16) -> Eight
+// The powers 0 to 7 of a number: for the value below, and for the equations of the layer above.
+pub fn powers(p: Number, y: Number) -> Eight
     requires { ⌜ 1 < p ⌝ }
     ensures { λ r. ⌜ r ≡ powers-of p y ⌝ }
 {
-    let mut r = [1u16; 8];
+    let mut r: Eight = [Element::ONE; 8];
     let mut i: usize = 1;
     while i < 8 {
         r[i] = field::times(p, r[i - 1], y);
@@ -22,11 +24,11 @@ pub fn powers(p: u16, y: u16) -> Eight
 }
 
 // The value of a list where the powers of y, z and w are given: eight coefficients in x.
-pub fn value(p: u16, ys: Eight, zs: Eight, ws: Eight, terms: &[Term]) -> Eight
+pub(crate) fn value(p: Number, ys: Eight, zs: Eight, ws: Eight, terms: &[Term]) -> Eight
     requires { ⌜ Ready p ys zs ws (now terms) ⌝ }
     ensures { λ r. ⌜ r ≡ value-of p ys zs ws (now (terms .entry)) ⌝ }
 {
-    let mut r = [0u16; 8];
+    let mut r: Eight = [Element::ZERO; 8];
     let mut i: usize = 0;
     while i < terms.len() {
         let t = terms[i];

@@ -9,10 +9,10 @@ use Rattle.poly.proofs.euclid.size.Statement.{statement}
 use Rattle.poly.proofs.euclid.size.Tie as tie
 
 abbrev Inv-loop : tie.InvT-loop
-Inv-loop f n₀ n = (n ≤ 8) × (size f ≡ size-to n f)
+Inv-loop f place₀ place = (place ≤ 8) × (size f ≡ size-to place f)
 
 abbrev μ-loop : tie.MeasureT-loop
-μ-loop f n₀ n = n
+μ-loop f place₀ place = place
 
 loop-holds : tie.Need-loop-holds Inv-loop μ-loop
 loop-holds c = (omega arith, refl)
@@ -30,10 +30,10 @@ returns : tie.Need-returns Inv-loop μ-loop
 returns c =
     let l = c .before .before .loop in
     let f = c .before .before .before .args .t1 in
-    sym (l .inv .1 ∙ size-found (l .n) f (omega arith) (c .if1 .taken))
+    sym (l .inv .1 ∙ size-found (l .place) f (omega arith) (c .if1 .taken))
 
-sub-n : tie.Need-sub-n Inv-loop μ-loop
-sub-n c = search needs
+sub-place : tie.Need-sub-place Inv-loop μ-loop
+sub-place c = search needs
 
 loop-less : tie.Need-loop-less Inv-loop μ-loop
 loop-less c = search needs
@@ -42,13 +42,13 @@ loop-again : tie.Need-loop-again Inv-loop μ-loop
 loop-again c =
     let l = c .before .before .loop in
     let f = c .before .before .before .args .t1 in
-    (omega arith, l .inv .1 ∙ size-down (l .n) f (omega arith) (c .if1 .left))
+    (omega arith, l .inv .1 ∙ size-down (l .place) f (omega arith) (c .if1 .left))
 
 returns-2 : tie.Need-returns-2 Inv-loop μ-loop
 returns-2 c =
     let l = c .before .loop in
     let f = c .before .before .args .t1 in
-    sym (l .inv .1 ∙ size-none (l .n) f (omega arith))
+    sym (l .inv .1 ∙ size-none (l .place) f (omega arith))
 
 pub size-spec : {M : Type 1} → statement M
 size-spec =
@@ -61,7 +61,7 @@ size-spec =
     mul-if1
     array-read-if1
     returns
-    sub-n
+    sub-place
     loop-less
     loop-again
     returns-2)
