@@ -1,5 +1,6 @@
 -- `poly::list::list_fault` meets its contract: each way out is an answer of the check. Assumes nothing.
 use mathlib.Core.Logic.{inl, inr}
+use native.Mathlib.Omega.{arith}
 use Rattle.poly.specs.Laws.ListCheck.{list-miscounted, list-wrong, list-right}
 use borrow.Author.Needs.{needs}
 use Rattle.poly.proofs.list.list_fault.Statement.{statement}
