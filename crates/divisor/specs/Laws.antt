@@ -22,3 +22,5 @@ pub mod Stores
 pub mod Looking
 pub mod Checks
 pub mod Verdict
+pub mod Seen
+pub mod Answer

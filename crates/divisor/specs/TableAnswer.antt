@@ -7,7 +7,7 @@ use Prim.Native.Nat.{ℕ, zero, suc, _+_, _-_, _<_, _≤_}
 use native.Mathlib.Decide.{ℕ-discrete}
 use native.Mathlib.Omega.{arith}
 use lib.Dec.{eqb}
-use lib.ListN.{getD}
+use lib.ListN.{length, getD, length-set}
 use Rattle.algebra.specs.Field.{Field}
 use Rattle.algebra.specs.Linear.{Table as Equations, free, fresh, has-failed, has-free, none, one, several, OnlySolution, Meets, steps, solution, answer}
 use Rattle.algebra.specs.LinearLaws.{solve-meets}
@@ -20,7 +20,7 @@ use Rattle.divisor.specs.declared.table.Row.{Row}
 use Rattle.divisor.specs.declared.table.Table.{Table}
 use Rattle.divisor.specs.declared.table.Kind.{Kind}
 use Rattle.divisor.specs.declared.table.Kind.the-variants.{None, One, Several}
-use Rattle.divisor.specs.TableModel.{COLUMNS, row-at, diagonal, empty-table, with-row, kind-from, kind, zeros, solved-as, solved, TableReady}
+use Rattle.divisor.specs.TableModel.{COLUMNS, row-at, diagonal, empty-table, with-row, kind-from, kind, back, zeros, solved-as, solved, TableReady}
 use Rattle.divisor.specs.TableMeaning.{entries, column, last-column, columns-of, table-of, added, rows-of, AllReady, Says}
 use Rattle.divisor.specs.TableStep.{column-free, column-pivot, last-solvable, table-step}
 use Rattle.divisor.specs.TableKept.{empty-cell, empty-ready, with-row-ready, with-row-columns}
@@ -165,3 +165,17 @@ solved-below p t ready k = go (kind t)
     go None = zero-below
     go One = values-below p t ready k
     go Several = zero-below
+
+-- and as many as a row has cells
+back-length : (p : ℕ) (t : Table) (j : ℕ) (v : List ℕ) → length (back j p t v) ≡ length v
+unfolding back
+back-length p t zero v = refl
+back-length p t (suc j) v = back-length p t j _ ∙ length-set v j _
+
+pub solved-length : (p : ℕ) (t : Table) → length (solved p t .values) ≡ COLUMNS
+solved-length p t = go (kind t)
+  where
+    go : (x : Kind) → length (solved-as x p t .values) ≡ COLUMNS
+    go None = refl
+    go One = back-length p t (t .columns - 1) zeros
+    go Several = refl

@@ -1,5 +1,10 @@
 // Layer 3, the candidate: the common divisor that images and equations fix, or a refusal.
+ghost use Rattle.divisor.specs.Candidate.{table as table-of, Candidate};
+ghost use Rattle.field.specs.Refusal.{Passes};
 use field::Fault;
+use field::Number;
+use poly::Term;
+use poly::division::WORK_ROOM;
 
 mod checks;
 mod equations;
@@ -17,4 +22,73 @@ pub struct CandidateRecord {
     pub unlucky: usize,
     pub kept: usize,
     pub terms: usize,
+}
+
+// The answer to inputs that pass: the points sorted by their images, the equations of those kept, and the verdict on their solution.
+fn answer(
+    p: Number,
+    first: &[Term],
+    second: &[Term],
+    skeleton: &[Number],
+    points: &[Number],
+    out: &mut [Term],
+    work: &mut [Number],
+) -> CandidateRecord
+    requires { ⌜ Passes (table-of (record { modulus = p; first-list = now first; second-list = now second; skeleton = now skeleton; points = now points; output = now out; work = now work })) ⌝ }
+    ensures { λ r. ⌜ Candidate (record { modulus = p; first-list = now (first .entry); second-list = now (second .entry); skeleton = now (skeleton .entry); points = now (points .entry); output = now (out .entry); work = now (work .entry) }) (record { found = r; output = now (out .exit); work = now (work .exit) }) ⌝ }
+{
+    let n = points.len() / 3;
+    let sizes = points::look(p, first, second, points, work);
+    let least = sorting::least_size(sizes, n);
+    if least == 0 {
+        poly::division::clear(WORK_ROOM, work);
+        return CandidateRecord {
+            fault: Fault::at(Fault::NO_GOOD_POINT, 0),
+            degree: 0,
+            bad: n,
+            unlucky: 0,
+            kept: 0,
+            terms: 0,
+        };
+    }
+    let bad = sorting::alike(sizes, n, 0);
+    let kept = sorting::alike(sizes, n, least);
+    let columns = skeleton.len() + kept;
+    let table = equations::equations(p, skeleton, points, sizes, least, columns, work);
+    let solved = table::solution(table, p);
+    let verdict = verdict::settle(p, first, second, skeleton, solved, out, work);
+    CandidateRecord {
+        fault: Fault::at(verdict.number, 0),
+        degree: least as usize - 1,
+        bad,
+        unlucky: n - bad - kept,
+        kept,
+        terms: verdict.terms,
+    }
+}
+
+// The common divisor of two lists that the equations of the kept points fix, in proposed monomials; or a refusal. Nothing that is proposed is trusted.
+pub fn candidate(
+    p: Number,
+    first: &[Term],
+    second: &[Term],
+    skeleton: &[Number],
+    points: &[Number],
+    out: &mut [Term],
+    work: &mut [Number],
+) -> CandidateRecord
+    ensures { λ r. ⌜ Candidate (record { modulus = p; first-list = now (first .entry); second-list = now (second .entry); skeleton = now (skeleton .entry); points = now (points .entry); output = now (out .entry); work = now (work .entry) }) (record { found = r; output = now (out .exit); work = now (work .exit) }) ⌝ }
+{
+    let fault = checks::candidate_fault(p, first, second, skeleton, points, out.len(), work.len());
+    if fault.number != 0 {
+        return CandidateRecord {
+            fault,
+            degree: 0,
+            bad: 0,
+            unlucky: 0,
+            kept: 0,
+            terms: 0,
+        };
+    }
+    answer(p, first, second, skeleton, points, out, work)
 }

@@ -31,6 +31,7 @@ pub mod DivisionTurns
 pub mod DivisionGoing
 pub mod DivisionBegins
 pub mod QuotientExact
+pub mod TrialDivision
 pub mod Image
 pub mod ImageModel
 pub mod ImageCall

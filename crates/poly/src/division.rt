@@ -1,7 +1,7 @@
 // Division by leading terms in a lent work room: one number for each key holds the remainder, the next as many hold the quotient's coefficients.
 ghost use mathlib.Core.Path.{_≡_};
-ghost use Prim.Native.Nat.{ℕ, _≤_, _<_, max};
-ghost use lib.ListN.{length, getD};
+ghost use Prim.Native.Nat.{_≤_, max};
+ghost use lib.ListN.{length};
 ghost use Rattle.poly.specs.Keys.{keys};
 ghost use Rattle.poly.specs.Room.{zeroed};
 ghost use Rattle.poly.specs.TrialDivision.{CanDivide, TrialDivision};
@@ -14,7 +14,7 @@ use field::Element;
 use field::Number;
 
 // A number for each key.
-pub const KEYS: usize = 4096;
+pub const KEYS: usize = Key::LIMIT as usize;
 
 // The numbers of the work room that a division uses.
 pub const WORK_ROOM: usize = 2 * KEYS;
@@ -64,7 +64,7 @@ fn fits(k: u16, lead: u16, bound: Key) -> bool
 }
 
 // The first `n` numbers set to 0.
-pub fn clear(n: usize, numbers: &mut [Number])
+pub(crate) fn clear(n: usize, numbers: &mut [Number])
     requires { ⌜ n ≤ length (now numbers) ⌝ }
     ensures { λ _. ⌜ now (numbers .exit) ≡ zeroed n (now (numbers .entry)) ⌝ }
 {
@@ -144,7 +144,7 @@ fn steps(
 }
 
 // Whether the divisor divides the dividend, in a room whose cells of the remainder are 0; the quotient's coefficients are stored in its other cells.
-pub fn divide(p: Number, dividend: &[Term], divisor: &[Term], work: &mut [Number]) -> bool
+pub(crate) fn divide(p: Number, dividend: &[Term], divisor: &[Term], work: &mut [Number]) -> bool
     requires { ⌜ CanBegin p (now dividend) (now divisor) (now work) ⌝ }
     ensures { λ r. ⌜ Divided p (now (dividend .entry)) (now (divisor .entry)) (now (work .entry)) (now (work .exit)) r ⌝ }
 {

@@ -8,7 +8,7 @@ use field::Element;
 use field::Number;
 
 // The place after the highest number that is not 0.
-pub fn size(f: Eight) -> usize
+pub(crate) fn size(f: Eight) -> usize
     ensures { λ r. ⌜ r ≡ size-of f ⌝ }
 {
     let mut place: usize = 8;
@@ -79,7 +79,7 @@ fn remainder(p: Number, m: usize, g: Eight, f: Eight) -> Eight
 }
 
 // The monic greatest common divisor of a, which is not 0, and b.
-pub fn gcd(p: Number, a: Eight, b: Eight) -> Eight
+pub(crate) fn gcd(p: Number, a: Eight, b: Eight) -> Eight
     requires { ⌜ Pair p a b ⌝ }
     ensures { λ r. ⌜ r ≡ gcd-of p a b ⌝ }
 {

@@ -2,7 +2,7 @@
 ghost use mathlib.Core.List.{_++_};
 ghost use Rattle.field.specs.Refusal.{Passes, Tested};
 ghost use Rattle.poly.specs.Lists.{of-lists};
-ghost use Rattle.poly.specs.Quotient.{QuotientCall, quotient-table, QuotientResult, Quotient};
+ghost use Rattle.poly.specs.Quotient.{quotient-table, Quotient};
 ghost use Rattle.poly.specs.Models.WorkRoom.{CanGather, Gathered, of-rooms};
 use crate::QuotientRecord;
 use crate::Term;

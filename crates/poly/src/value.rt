@@ -9,7 +9,7 @@ use crate::key::Key;
 use field::Element;
 use field::Number;
 
-// The powers 0 to 7 of a number.
+// The powers 0 to 7 of a number: for the value below, and for the equations of the layer above.
 pub fn powers(p: Number, y: Number) -> Eight
     requires { ⌜ 1 < p ⌝ }
     ensures { λ r. ⌜ r ≡ powers-of p y ⌝ }
@@ -24,7 +24,7 @@ pub fn powers(p: Number, y: Number) -> Eight
 }
 
 // The value of a list where the powers of y, z and w are given: eight coefficients in x.
-pub fn value(p: Number, ys: Eight, zs: Eight, ws: Eight, terms: &[Term]) -> Eight
+pub(crate) fn value(p: Number, ys: Eight, zs: Eight, ws: Eight, terms: &[Term]) -> Eight
     requires { ⌜ Ready p ys zs ws (now terms) ⌝ }
     ensures { λ r. ⌜ r ≡ value-of p ys zs ws (now (terms .entry)) ⌝ }
 {

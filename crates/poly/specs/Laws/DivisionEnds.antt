@@ -1,6 +1,6 @@
 -- The rule of division ends on any two lists that fall, within as many steps as there are keys, and the division on cells gives its answer and its terms.
 -- So it is decided whether one list divides another. Assumes nothing.
-use mathlib.Core.Path.{_≡_, refl, sym, _∙_, ap, ap₂, subst}
+use mathlib.Core.Path.{_≡_, refl, sym, _∙_, ap, subst}
 use mathlib.Core.Logic.{_↔_}
 use mathlib.Core.Bool.{Bool, true, false}
 use mathlib.Core.List.{List, [], _∷_}
@@ -35,7 +35,7 @@ use Rattle.poly.specs.Laws.DivisionSteps.{found-few}
 use Rattle.poly.specs.Laws.DivisionModel.{model-division}
 use Rattle.poly.specs.Models.Cells.{past-end}
 use Rattle.poly.specs.Models.Spread.{spread}
-use Rattle.poly.specs.Models.Division.{most-of, most-key, at-most, setting, divide-from, found-from, divided, found}
+use Rattle.poly.specs.Models.Division.{most-of, most-key, at-most, setting, divided, found}
 
 -- a list means a polynomial
 pub poly-finite : (p : ℕ) (P : Prime p) (ts : List ℕ) → D4 (Modulo p P .ring) (domain (Modulo p P)) .P (poly p P ts)
@@ -52,6 +52,13 @@ empty-cells l e z = record { long = e; zeros = λ i. go i (decLt i keys) }
     go : (i : ℕ) → Dec (i < keys) → getD l i 0 ≡ 0
     go i (yes h) = z i h
     go i (no h) = past-end keys i l e (omega arith)
+
+pub no-cells : List ℕ
+no-cells = replicate keys 0
+
+pub no-cells-empty : Empty no-cells
+unfolding no-cells
+no-cells-empty = empty-cells no-cells (length-replicate {A = ℕ} keys 0) (λ i h. getD-replicate {A = ℕ} keys i 0 0 h)
 
 -- a list spread over them
 module _ (p : ℕ) (P : Prime p) (f : List ℕ) (hf : Falling p keys f) (l : List ℕ) (empty : Empty l) where
@@ -146,13 +153,6 @@ module _ (p : ℕ) (P : Prime p) (word : p ≤ 65536) where
     pub whole : Bool
     pub division : Division (Modulo p P .ring) (poly p P f) (poly p P g) terms whole
     pub few : length terms ≤ keys
-
-  no-cells : List ℕ
-  no-cells = replicate keys 0
-
-  no-cells-empty : Empty no-cells
-  unfolding no-cells
-  no-cells-empty = empty-cells no-cells (length-replicate {A = ℕ} keys 0) (λ i h. getD-replicate {A = ℕ} keys i 0 0 h)
 
   module _ (f g : List ℕ) (sf : 0 < length f) (hf : Falling p keys f) (sg : 0 < length g) (hg : Falling p keys g) where
     -- the rule ends within as many steps as there are keys

@@ -1,9 +1,9 @@
 -- The division on cells goes by the rule: a cell that is not 0 is one step. Assumes nothing.
 use mathlib.Core.Path.{_≡_, refl, sym, _∙_, ap, ap₂, subst}
 use mathlib.Core.Logic.{_⊎_, inl, inr}
-use mathlib.Core.Bool.{Bool, true, false, _&&_}
+use mathlib.Core.Bool.{Bool, true, false}
 use mathlib.Core.List.{List, [], _∷_}
-use Prim.Native.Nat.{ℕ, zero, suc, _+_, _-_, _*_, _/_, _%_, _≤_, _<_}
+use Prim.Native.Nat.{ℕ, zero, suc, _+_, _-_, _*_, _/_, _≤_, _<_}
 use native.Mathlib.Nat.{add-comm, mod-lt}
 use native.Mathlib.Decide.{ℕ-discrete}
 use native.Mathlib.Omega.{arith}
@@ -31,16 +31,10 @@ use Rattle.poly.specs.Laws.Lists.{Falling}
 use Rattle.poly.specs.Laws.Falling.{falling-keys}
 use Rattle.poly.specs.Laws.Terms.{poly-head}
 use Rattle.poly.specs.Laws.Dense.{Reduced, MovesUp, dense, dense-at, dense-zero, dense-lead, less-dense, less-reduced, less-length}
+use Rattle.poly.specs.Laws.Spread.{key-of-term, coefficient-of-term}
 use Rattle.poly.specs.Laws.GreatestExponents.{most-small, sizes}
 use Rattle.poly.specs.Laws.DivisionSteps.{outcome-passed, outcome-taken, outcome-stopped, found-passed, found-taken, found-stopped}
-use Rattle.poly.specs.Models.Division.{most, most-of, at-most, Setting, less-product, fits-in, fits, factor, less, Outcome, divide-from, found-from}
-
--- the number of a term has its key and its coefficient
-pub key-of-term : (n q : ℕ) → q < 65536 → key-of (n * 65536 + q) ≡ n
-key-of-term n q h = omega arith
-
-pub coefficient-of-term : (n q : ℕ) → q < 65536 → coefficient-of (n * 65536 + q) ≡ q
-coefficient-of-term n q h = omega arith
+use Rattle.poly.specs.Models.Division.{most, most-of, at-most, Setting, fits-in, fits, factor, less, Outcome, divide-from, found-from}
 
 not-both : (c : Bool) → c ≡ true → c ≡ false → ⊥
 not-both c p q = let z : _≡_ {A = ℕ} 0 1 = cc in omega arith

@@ -13,10 +13,9 @@ use Rattle.algebra.specs.Degree.{Ends, conv-ends}
 use Rattle.algebra.specs.Mono.{mono, mono-low, mono-high, mono-ends}
 use Rattle.algebra.specs.GreatestCommon.{GreatestCommon, Associate, greatest-swap, greatest-zero, greatest-first, greatest-second}
 use Rattle.algebra.specs.Univariate.{Poly, PolyD, less, greatest-less, over-lead, over-lead-associate}
-use Rattle.field.specs.Fp.{Fp, el, add, mul, neg}
+use Rattle.field.specs.Fp.{Fp, el, add, mul, neg, inv}
 use Rattle.field.specs.FpLaws.{el-val, el-mod, el-inj, el-mul, el-nonzero}
 use Rattle.field.specs.Prime.{Prime}
-use Rattle.field.specs.Fp.{inv}
 use Rattle.field.specs.InverseLaws.{mul-inv}
 use Rattle.field.specs.PrimeLaws.{prime-positive}
 use Rattle.field.specs.Residues.{Residues}

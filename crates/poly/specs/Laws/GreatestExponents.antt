@@ -1,11 +1,11 @@
 -- The greatest exponents of a list of terms, computed, are those of its polynomial. Assumes nothing.
-use mathlib.Core.Path.{_≡_, refl, sym, _∙_, ap, ap₂, subst}
+use mathlib.Core.Path.{_≡_, refl, sym, _∙_, ap, ap₂}
 use mathlib.Core.List.{List, [], _∷_}
-use Prim.Native.Nat.{ℕ, suc, _+_, _≤_, _<_, max}
+use Prim.Native.Nat.{ℕ, suc, _+_, _≤_, _<_}
 use native.Mathlib.Decide.{decLe}
 use native.Mathlib.Omega.{arith}
 use Rattle.algebra.specs.Ring.{CommRing, zero-add}
-use Rattle.algebra.specs.Four.{Exponents, coef}
+use Rattle.algebra.specs.Four.{coef}
 use Rattle.algebra.specs.GreatestExponent.{Variable, in-x, in-y, in-z, in-w, exponent, Within, GreatestExponent}
 use Rattle.algebra.specs.Monomial.{polynomial, monomial-off}
 use Rattle.algebra.specs.Division.{Most, Sizes}

@@ -93,6 +93,9 @@ module _ (count term bound : ℕ) (ts : List ℕ) where
 pub lists-one-place : (p : ℕ) (A B : List ℕ) → OnePlaceEach (of-lists p A B)
 lists-one-place p A B = (whole-one-place _, (whole-one-place _, (first-one-place _, (whole-one-place _, (first-one-place _, tt)))))
 
--- the promise of the list check settles its fault
+-- the promises of the checks settle their faults
+pub lists-check-determined : (p : ℕ) (A B : List ℕ) (f g : Fault) → Tested (of-lists p A B) f → Tested (of-lists p A B) g → f ≡ g
+lists-check-determined p A B = tested-determined (of-lists p A B) (lists-one-place p A B)
+
 pub list-check-determined : (ts : List ℕ) (f g : Fault) → Tested (of-list ts) f → Tested (of-list ts) g → f ≡ g
 list-check-determined ts = tested-determined (of-list ts) (whole-one-place _, (first-one-place _, tt))

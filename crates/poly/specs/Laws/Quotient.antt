@@ -17,7 +17,6 @@ use Rattle.field.specs.ModuliLaws.{listed-prime}
 use Rattle.field.specs.Modulo.{Modulo}
 use Rattle.field.specs.Refusal.{none, Passes}
 use Rattle.field.specs.RefusalLaws.{OnePlaceEach, placed-one-place, first-one-place, never-placed, refuses-determined, not-passes-and-refuses, passes-front}
-use Rattle.field.specs.declared.Fault.{Fault}
 use Rattle.poly.specs.Keys.{exponents, keys}
 use Rattle.poly.specs.Terms.{key-of, poly}
 use Rattle.poly.specs.Image.{Divides}

@@ -21,7 +21,7 @@ use Rattle.poly.specs.Terms.{poly}
 use Rattle.poly.specs.Laws.KeyDifference.{fits-key}
 use Rattle.poly.specs.Laws.Dense.{Reduced, dense, dense-zero, dense-set, set-reduced}
 use Rattle.poly.specs.Laws.DivisionSteps.{outcome-passed, outcome-taken, outcome-stopped, found-passed, found-taken, found-stopped}
-use Rattle.poly.specs.Laws.DivisionModel.{key-of-term, coefficient-of-term}
+use Rattle.poly.specs.Laws.Spread.{key-of-term, coefficient-of-term}
 use Rattle.poly.specs.Models.Division.{Setting, fits, factor, less, Outcome, divide-from, found-from}
 
 module _ (p : ℕ) (P : Prime p) (n : ℕ) where

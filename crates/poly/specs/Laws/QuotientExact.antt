@@ -1,30 +1,26 @@
 -- What the quotient service answers to inputs that pass, from what the division, the gathering and the clearing say. Assumes nothing.
-use mathlib.Core.Path.{_≡_, refl, sym, _∙_, ap, ap₂, subst}
-use mathlib.Core.Logic.{_↔_}
+use mathlib.Core.Path.{_≡_, sym, _∙_, ap, ap₂}
 use mathlib.Core.Bool.{Bool, true, false}
 use mathlib.Core.List.{List}
-use Prim.Native.Nat.{ℕ, _≤_, _<_}
+use Prim.Native.Nat.{ℕ, _≤_}
 use native.Mathlib.Omega.{arith}
 use lib.ListN.{length}
-use Rattle.field.specs.Prime.{Prime}
-use Rattle.field.specs.Moduli.{Listed}
 use Rattle.field.specs.ModuliLaws.{listed-prime, listed-below}
 use Rattle.field.specs.Numbers.{DOES_NOT_DIVIDE}
 use Rattle.field.specs.Refusal.{fault, none, Passes}
 use Rattle.field.specs.declared.Fault.{Fault}
-use Rattle.poly.specs.declared.QuotientRecord.{QuotientRecord}
 use Rattle.poly.specs.Keys.{keys}
 use Rattle.poly.specs.Room.{work-room, zeroed, written, cleared}
-use Rattle.poly.specs.Quotient.{QuotientCall, quotient-table, IsQuotient, QuotientResult, Quotient, no-quotient, quotient}
+use Rattle.poly.specs.Quotient.{QuotientCall, quotient-table, QuotientResult, Quotient, no-quotient, quotient}
 use Rattle.poly.specs.TrialDivision.{CanDivide}
-use Rattle.poly.specs.Laws.Room.{zeroed-length, zeroed-at}
-use Rattle.poly.specs.Laws.WorkRoom.{quotient-long, remainder-empty, quotient-empty}
+use Rattle.poly.specs.Laws.Room.{zeroed-at}
+use Rattle.poly.specs.Laws.WorkRoom.{remainder-empty, quotient-empty}
 use Rattle.poly.specs.Laws.DivisionEnds.{Empty}
 use Rattle.poly.specs.Laws.DivisionBegins.{cleared-begins, cleared-room, cleared-says}
 use Rattle.poly.specs.Laws.QuotientFound.{gathered-found, quotient-found}
 use Rattle.poly.specs.Laws.Quotient.{passed-lists}
 use Rattle.poly.specs.Models.Spread.{gathered}
-use Rattle.poly.specs.Models.Division.{Outcome, divided, found}
+use Rattle.poly.specs.Models.Division.{Outcome, found}
 use Rattle.poly.specs.Models.WorkRoom.{remainder-cells, quotient-cells, CanBegin, Divided, Gathered}
 
 module _ (c : QuotientCall) (h : Passes (quotient-table c)) where

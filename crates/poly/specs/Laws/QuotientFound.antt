@@ -2,17 +2,16 @@
 use mathlib.Core.Path.{_≡_, refl, sym, _∙_, ap, subst}
 use mathlib.Core.Bool.{Bool, true, false}
 use mathlib.Core.List.{List, [], _∷_}
-use Prim.Native.Nat.{ℕ, zero, suc, _-_, _*_, _≤_, _<_}
+use Prim.Native.Nat.{ℕ, zero, suc, _-_, _≤_, _<_}
 use native.Mathlib.Nat.{mod-lt}
 use native.Mathlib.Decide.{ℕ-discrete}
 use native.Mathlib.Omega.{arith}
 use lib.ListN.{length, getD}
 use Rattle.algebra.specs.Ring.{CommRing}
-use Rattle.algebra.specs.Series.{S4}
 use Rattle.algebra.specs.Field.{domain}
-use Rattle.algebra.specs.Monomial.{FallsBelow, Falls}
+use Rattle.algebra.specs.Monomial.{Term, FallsBelow, Falls}
 use Rattle.algebra.specs.Division.{Division}
-use Rattle.algebra.specs.DivisionLaws.{division-falls, division-quotient}
+use Rattle.algebra.specs.DivisionLaws.{division-falls, division-quotient, division-determined}
 use Rattle.field.specs.Fp.{el}
 use Rattle.field.specs.Prime.{Prime}
 use Rattle.field.specs.PrimeLaws.{prime-positive}
@@ -24,14 +23,13 @@ use Rattle.poly.specs.Laws.Keys.{key-order-of}
 use Rattle.poly.specs.Laws.Lists.{Falling}
 use Rattle.poly.specs.Laws.Falling.{falling-right}
 use Rattle.poly.specs.Laws.Terms.{poly-determines}
-use Rattle.poly.specs.Laws.Spread.{gather-falling, gather-dense}
+use Rattle.poly.specs.Laws.Spread.{key-of-term, coefficient-of-term, gather-falling, gather-dense}
 use Rattle.poly.specs.Laws.DivisionSteps.{found-passed, found-taken, found-stopped}
-use Rattle.poly.specs.Laws.DivisionModel.{key-of-term, coefficient-of-term}
 use Rattle.poly.specs.Laws.QuotientCells.{Stored, nothing-stored, zeros-reduced, quotient-stored, stored-means}
-use Rattle.poly.specs.Laws.DivisionEnds.{Empty, divided-division}
+use Rattle.poly.specs.Laws.DivisionEnds.{Empty, no-cells, no-cells-empty, divided-division}
 use Rattle.poly.specs.Models.Cells.{past-end}
 use Rattle.poly.specs.Models.Spread.{spread, gathered}
-use Rattle.poly.specs.Models.Division.{most-key, at-most, Setting, setting, fits, factor, less, divide-from, found-from, divided, found}
+use Rattle.poly.specs.Models.Division.{most-key, at-most, Setting, setting, fits, factor, less, found-from, divided, found}
 
 -- keys and coefficients in range
 abbrev InRange : ℕ → List ℕ → Type 0
@@ -118,4 +116,22 @@ module _ (p : ℕ) (P : Prime p) (word : p ≤ 65536) (f g : List ℕ) (sf : 0 <
         right = falling-right p (found p f g l) found-falling;
         product =
             division-quotient (Modulo p P .ring) (domain (Modulo p P)) (λ a. tt) (poly p P f) (poly p P g) (terms-of p P (found p f g l)) (rw e at rule);
+      }
+
+-- so, where the rule says yes, its terms are the quotient's list
+module _ (p : ℕ) (P : Prime p) (word : p ≤ 65536) (f g : List ℕ) (sf : 0 < length f) (hf : Falling p keys f) (sg : 0 < length g) (hg : Falling p keys g) where
+  pub record QuotientTerms (ts : List (Term (Modulo p P .ring))) : Type 0 where
+    pub list : List ℕ
+    pub terms-are : ts ≡ terms-of p P list
+    pub is-quotient : IsQuotient p P f g list
+
+  pub division-terms : (ts : List (Term (Modulo p P .ring))) → Division (Modulo p P .ring) (poly p P f) (poly p P g) ts true → QuotientTerms ts
+  division-terms ts d =
+      let rule = divided-division p P word f g sf hf sg hg no-cells no-cells no-cells-empty in
+      let same =
+      division-determined (Modulo p P .ring) (domain (Modulo p P)) (λ a. tt) (poly p P f) (poly p P g) ts (terms-of p P (found p f g no-cells)) true (divided p f g no-cells no-cells .whole) d rule in
+      record {
+        list = found p f g no-cells;
+        terms-are = same .0;
+        is-quotient = quotient-found p P word f g sf hf sg hg no-cells no-cells no-cells-empty no-cells-empty (sym (same .1));
       }

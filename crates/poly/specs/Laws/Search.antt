@@ -1,4 +1,5 @@
 -- How a search goes on, and what it leaves as a line of a table: the first wrong place, or that there is none. Assumes nothing.
+use mathlib.Core.Path.{_≡_}
 use Prim.Native.Nat.{ℕ, _+_, _≤_, _<_}
 use native.Mathlib.Decide.{decLt}
 use native.Mathlib.Omega.{arith}
@@ -26,3 +27,13 @@ module _ (Wrong : ℕ → Type 0) (n : ℕ) (beyond : (i : ℕ) → n ≤ i → 
 
   pub searched-none : n ≤ place → (i : ℕ) → ¬ first Wrong i
   searched-none l i w = elim (decLt i n) [ yes b ↦ s .before i (omega arith) (w .0) | no b ↦ beyond i (omega arith) (w .0) ]
+
+-- a search gives one place
+pub searched-determined : {Wrong : ℕ → Type 0} {n a b : ℕ} → Searched Wrong n a → Searched Wrong n b → a ≡ b
+searched-determined {Wrong} {n} {a} {b} s t =
+    let l = s .within in
+    let m = t .within in
+    elim (decLt a b) [
+      | yes h ↦ absurd (t .before a h (s .here (omega arith)))
+      | no h ↦ elim (decLt b a) [ yes k ↦ absurd (s .before b k (t .here (omega arith))) | no k ↦ omega arith ]
+    ]

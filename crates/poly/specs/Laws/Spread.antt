@@ -21,6 +21,13 @@ use Rattle.poly.specs.Laws.Lists.{Falling}
 use Rattle.poly.specs.Laws.Dense.{Reduced, dense, dense-set, dense-zero, set-reduced}
 use Rattle.poly.specs.Models.Spread.{spread, gathered}
 
+-- the number of a term has its key and its coefficient
+pub key-of-term : (n q : ℕ) → q < 65536 → key-of (n * 65536 + q) ≡ n
+key-of-term n q h = omega arith
+
+pub coefficient-of-term : (n q : ℕ) → q < 65536 → coefficient-of (n * 65536 + q) ≡ q
+coefficient-of-term n q h = omega arith
+
 pub spread-length : (ts l : List ℕ) → length (spread ts l) ≡ length l
 unfolding spread
 spread-length [] l = refl
@@ -68,12 +75,6 @@ module _ (p : ℕ) (P : Prime p) where
       (ap (λ (n : ℕ). R .add (el p (coefficient-of t)) (R .neg (el p n))) (z (key-of t) (h .0)) ∙ ring1 R (λ a. a ⊖ k0 ≗ a) tt (el p (coefficient-of t))))
       ∙ S4 R .add-assoc _ _ _
 
-  term-key : (n q : ℕ) → q < 65536 → key-of (n * 65536 + q) ≡ n
-  term-key n q h = omega arith
-
-  term-coeff : (n q : ℕ) → q < 65536 → coefficient-of (n * 65536 + q) ≡ q
-  term-coeff n q h = omega arith
-
   pub gather-falling : p ≤ 65536 → (k : ℕ) (l : List ℕ) (b : ℕ) → k ≤ b → Reduced p l → Falling p b (gathered k l)
   unfolding gathered
   gather-falling w zero l b m red = tt
@@ -83,8 +84,8 @@ module _ (p : ℕ) (P : Prime p) where
       go (yes z) again = subst (Falling p b) (sym (gather-passed k l z)) (again b (omega arith))
       go (no n) again =
           let r = red k in
-          let ek : key-of (k * 65536 + getD l k 0) ≡ k = term-key k (getD l k 0) (omega arith) in
-          let ec : coefficient-of (k * 65536 + getD l k 0) ≡ getD l k 0 = term-coeff k (getD l k 0) (omega arith) in
+          let ek : key-of (k * 65536 + getD l k 0) ≡ k = key-of-term k (getD l k 0) (omega arith) in
+          let ec : coefficient-of (k * 65536 + getD l k 0) ≡ getD l k 0 = coefficient-of-term k (getD l k 0) (omega arith) in
           subst (Falling p b) (sym (gather-taken k l n)) (omega arith, omega arith, omega arith, again (key-of (k * 65536 + getD l k 0)) (omega arith))
 
   -- the cells' terms mean what the cells mean
@@ -112,7 +113,7 @@ module _ (p : ℕ) (P : Prime p) where
           let lv : v < 65536 = let r = red k in omega arith in
           let M : Fp p → S4 R .Car = monomial R (exponents k) in
           ap (poly p P) (gather-taken k l n)
-          ∙ ap₂ (S4 R .add) (ap₂ (λ (i j : ℕ). monomial R (exponents i) (el p j)) (term-key k v lv) (term-coeff k v lv))
+          ∙ ap₂ (S4 R .add) (ap₂ (λ (i j : ℕ). monomial R (exponents i) (el p j)) (key-of-term k v lv) (coefficient-of-term k v lv))
           (ap (poly p P) (sym (gather-set k k 0 l (omega arith)))
           ∙ again (set l k 0) (subst (λ (n : ℕ). k ≤ n) (sym (length-set l k 0)) (omega arith)) (set-reduced p P l k 0 lt (prime-positive P) red) (λ i h. cleared i h (ℕ-discrete i k))
           ∙ dense-set p P l k 0 lt

@@ -1,14 +1,13 @@
 -- The parts of the work room while a division goes on: what is written into one leaves the others. Assumes nothing.
-use mathlib.Core.Path.{_≡_, refl, sym, _∙_, ap, ap₂}
+use mathlib.Core.Path.{_≡_, refl, sym, _∙_, ap}
 use mathlib.Core.List.{List, [], _∷_}
-use Prim.Native.Nat.{ℕ, zero, suc, _+_, _-_, _*_, _%_, _≤_, _<_}
+use Prim.Native.Nat.{ℕ, suc, _+_, _-_, _*_, _%_, _≤_, _<_}
 use native.Mathlib.Omega.{arith}
-use lib.ListN.{length, getD, set, take, drop, length-set, length-drop}
+use lib.ListN.{length, getD, set, take, drop, length-drop}
 use lib.Seq.{take-set-le, take-set-lt, drop-set-lt, drop-set-add, getD-take, getD-drop, drop-drop, length-take-le}
 use Rattle.poly.specs.Keys.{keys}
 use Rattle.poly.specs.Terms.{key-of, coefficient-of}
-use Rattle.poly.specs.Room.{work-room, zeroed}
-use Rattle.poly.specs.Laws.Room.{zeroed-length, zeroed-at, zeroed-beyond}
+use Rattle.poly.specs.Room.{work-room}
 use Rattle.poly.specs.Laws.DivisionEnds.{Empty, empty-cells}
 use Rattle.poly.specs.Models.Spread.{spread}
 use Rattle.poly.specs.Models.Division.{KeysBelow, less-term, less-product}

@@ -11,7 +11,7 @@ use Rattle.poly.specs.Terms.{key-of}
 use Rattle.poly.specs.Room.{work-room, written}
 use Rattle.poly.specs.TrialDivision.{CanDivide}
 use Rattle.poly.specs.Models.Spread.{gathered}
-use Rattle.poly.specs.Models.Division.{KeysBelow, Setting, Outcome, divide-from, divided}
+use Rattle.poly.specs.Models.Division.{KeysBelow, Setting, divide-from, divided}
 
 abbrev pub remainder-cells : List ℕ → List ℕ
 remainder-cells work = take keys work

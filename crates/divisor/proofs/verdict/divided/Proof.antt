@@ -6,11 +6,6 @@ use Rattle.divisor.specs.Laws.Verdict.{can-divide, fits-output, settled-
 use borrow.Author.Needs.{needs}
 use Rattle.divisor.proofs.verdict.divided.Statement.{statement}
 use Rattle.divisor.proofs.verdict.divided.Tie as tie
-use Rattle.divisor.proofs.verdict.divided.Reads as reads
-use Rattle.divisor.proofs.verdict.divided.Lts as lts
-use Rattle.divisor.proofs.monic.made_monic.Reads as made-monic-reads
-use Rattle.divisor.proofs.verdict.divides_both.Reads as divides-both-reads
-use Rattle.divisor.proofs.verdict.write.Reads as write-reads
 
 made-monic-requires : tie.Need-made-monic-requires
 made-monic-requires c κs =

@@ -3,9 +3,6 @@ use Rattle.divisor.specs.Laws.Verdict.{divide-again, first-fails, then-s
 use borrow.Author.Needs.{needs}
 use Rattle.divisor.proofs.verdict.divides_both.Statement.{statement}
 use Rattle.divisor.proofs.verdict.divides_both.Tie as tie
-use Rattle.divisor.proofs.verdict.divides_both.Reads as reads
-use Rattle.divisor.proofs.verdict.divides_both.Lts as lts
-use Rattle.poly.proofs.division.divides.Reads as divides-reads
 
 divides-requires : tie.Need-divides-requires
 divides-requires c κs = search needs

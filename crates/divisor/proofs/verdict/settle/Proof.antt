@@ -3,10 +3,6 @@ use Rattle.divisor.specs.Laws.Verdict.{settled-none, settled-several, on
 use borrow.Author.Needs.{needs}
 use Rattle.divisor.proofs.verdict.settle.Statement.{statement}
 use Rattle.divisor.proofs.verdict.settle.Tie as tie
-use Rattle.divisor.proofs.verdict.settle.Reads as reads
-use Rattle.divisor.proofs.verdict.settle.Lts as lts
-use Rattle.divisor.proofs.verdict.divided.Reads as divided-reads
-use Rattle.divisor.proofs.verdict.refused.Reads as refused-reads
 
 enum-told : tie.Need-enum-told
 enum-told c = search needs

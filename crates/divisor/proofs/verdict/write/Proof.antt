@@ -1,5 +1,5 @@
 -- `divisor::verdict::write` meets its contract. The invariant: the first i terms are written, the rest is left. Assumes nothing.
-use mathlib.Core.Path.{_≡_, refl, sym, _∙_, ap}
+use mathlib.Core.Path.{_≡_, refl, _∙_, ap}
 use mathlib.Core.List.{List, _++_}
 use Prim.Native.Nat.{ℕ, _-_, _≤_, _<_}
 use native.Mathlib.Omega.{arith}
@@ -8,8 +8,6 @@ use Rattle.divisor.specs.Laws.Verdict.{copy-more, copy-all}
 use borrow.Author.Needs.{needs}
 use Rattle.divisor.proofs.verdict.write.Statement.{statement}
 use Rattle.divisor.proofs.verdict.write.Tie as tie
-use Rattle.divisor.proofs.verdict.write.Reads as reads
-use Rattle.divisor.proofs.verdict.write.Lts as lts
 
 abbrev Inv-loop : tie.InvT-loop
 Inv-loop terms output₀ i₀ output i = (i ≤ length terms) × (length output ≡ length output₀) × (output ≡ take i terms ++ drop i output₀)

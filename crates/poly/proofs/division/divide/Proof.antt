@@ -1,10 +1,9 @@
 -- `divide` meets its contract, from what its calls say: the test of the greatest exponents, the setting, the dividend spread, and the steps. Assumes nothing.
-use mathlib.Core.Path.{_≡_, refl, sym, _∙_, ap, ap₂}
-use mathlib.Core.Bool.{true, false}
-use Prim.Native.Nat.{ℕ, _-_}
+use mathlib.Core.Path.{_≡_, refl, sym, _∙_, ap₂}
+use mathlib.Core.Bool.{true}
+use Prim.Native.Nat.{_-_}
 use native.Mathlib.Omega.{arith}
 use borrow.Author.Tests.{not-true, not-false}
-use lib.ListN.{length}
 use Rattle.poly.specs.Keys.{keys}
 use Rattle.poly.specs.Laws.Falling.{falling-keys}
 use Rattle.poly.specs.Laws.KeyDifference.{at-most-key}

@@ -1,8 +1,6 @@
 -- `divides` meets its contract, from what its calls say: the remainder's cells cleared, the division, and the whole room cleared. Assumes nothing.
-use mathlib.Core.Path.{_≡_}
 use native.Mathlib.Omega.{arith}
 use Rattle.poly.specs.Keys.{keys}
-use Rattle.poly.specs.Models.WorkRoom.{CanBegin}
 use Rattle.poly.specs.Laws.DivisionBegins.{cleared-begins, cleared-says, cleared-room}
 use borrow.Author.Needs.{needs}
 use Rattle.poly.proofs.division.divides.Statement.{statement}

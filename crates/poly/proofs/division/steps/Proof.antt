@@ -1,13 +1,13 @@
 -- `steps` meets its contract. The invariant of the steps: what is left of the division, from the cell k down, ends as the whole does;
 -- of the search: the cells passed are 0. Both measures are k. Assumes nothing.
-use mathlib.Core.Path.{_≡_, refl, sym, _∙_, ap}
-use mathlib.Core.Bool.{true, false}
+use mathlib.Core.Path.{_≡_, refl, sym, _∙_}
+use mathlib.Core.Bool.{true}
 use mathlib.Core.List.{List}
-use Prim.Native.Nat.{ℕ, _+_, _-_, _*_, _%_, _≤_, _<_}
+use Prim.Native.Nat.{ℕ, _+_, _-_, _*_, _%_, _≤_}
 use native.Mathlib.Nat.{mod-lt}
 use native.Mathlib.Omega.{arith}
 use borrow.Author.Tests.{not-true, not-false}
-use lib.ListN.{length, getD, set, length-set}
+use lib.ListN.{getD, set, length-set}
 use Rattle.poly.specs.Keys.{keys}
 use Rattle.poly.specs.Laws.DivisionGoing.{left-of, Going, going-start, going-passed, going-on, going-done, going-stopped, lead-below, product-below, going-taken}
 use Rattle.poly.specs.Models.Division.{KeysBelow, Setting, less-product, fits}
@@ -74,7 +74,7 @@ module _ (c : tie.Else2 Inv-loop μ-loop Inv-steps μ-steps) where
       (at .before .before .before .before .pre) yes
 
 steps-holds : tie.Need-steps-holds Inv-loop μ-loop Inv-steps μ-steps
-steps-holds c = search needs
+steps-holds c = (refl, going-start (setting (c .before .before .args .p) (c .before .before .args .divisor .now) (c .before .before .args .lead) (c .before .before .args .inverse) (c .before .before .args .bound .bits)) (c .before .before .args .work .now))
 
 loop-holds : tie.Need-loop-holds Inv-loop μ-loop Inv-steps μ-steps
 loop-holds c = search needs

@@ -1,5 +1,5 @@
 -- `subtract` meets its contract. The invariant: taking away what is left of the product from the cells as they are gives what the whole gave. Assumes nothing.
-use mathlib.Core.Path.{_≡_, refl, sym, _∙_}
+use mathlib.Core.Path.{_≡_, sym, _∙_}
 use Prim.Native.Nat.{_+_, _-_, _≤_, _<_}
 use native.Mathlib.Omega.{arith}
 use lib.ListN.{length, drop, length-set}

@@ -1,24 +1,27 @@
--- `poly::euclid::gcd` meets its contract: the loop keeps the model's answer, with fuel that is at least the size of g. Assumes nothing.
-use borrow.Author.Needs.{needs}
-use mathlib.Core.Path.{_≡_, refl, sym, ap, ap₂, _∙_, subst}
-use Prim.Native.Nat.{ℕ, _-_, _≤_, _<_}
-use native.Mathlib.Omega.{arith}
+-- `poly::euclid::gcd` meets its contract: the loop keeps `Turning`, the model's answer; the measure is the size of g. Assumes nothing.
+use mathlib.Core.Path.{_≡_, sym, ap, ap₂, _∙_, subst}
 use mathlib.Core.List.{List}
+use Prim.Native.Nat.{ℕ, _-_}
+use native.Mathlib.Omega.{arith}
+use borrow.Author.Needs.{needs}
+use Rattle.field.specs.Prime.{Prime}
 use Rattle.field.specs.ModuliLaws.{listed-prime}
 use Rattle.poly.specs.Coefficients.{Eight}
-use Rattle.poly.specs.Models.Eight.{size, monic, remainder, euclid, gcd}
-use Rattle.poly.specs.Laws.EightNumbers.{remainder-eight}
-use Rattle.poly.specs.Laws.EightMeaning.{monic-eight, euclid-end}
-use Rattle.poly.specs.Laws.EightTurns.{turned, rest, turn-on, turn-falls, size-divides, size-fits}
-use Rattle.field.specs.PrimeLaws.{prime-positive}
+use Rattle.poly.specs.Models.Eight.{size, monic, euclid, gcd}
+use Rattle.poly.specs.Laws.EightMeaning.{monic-eight}
+use Rattle.poly.specs.Laws.EightTurns.{size-divides, size-fits}
+use Rattle.poly.proofs.euclid.Turning.{Turning, turning-begins, turning-ends, turning-falls, turning-goes-on}
 use Rattle.poly.proofs.euclid.gcd.Statement.{statement}
 use Rattle.poly.proofs.euclid.gcd.Tie as tie
 
 abbrev Inv-loop : tie.InvT-loop
-Inv-loop p f₀ g₀ n₀ f g n = (n ≡ size g) × Eight p f × Eight p g × (j : ℕ) × (n ≤ j) × (euclid p n₀ f₀ g₀ ≡ euclid p j f g)
+Inv-loop p f₀ g₀ n₀ f g n = Turning p n₀ f₀ g₀ n f g
 
 abbrev μ-loop : tie.MeasureT-loop
 μ-loop p f₀ g₀ n₀ f g n = n
+
+prime : (c : tie.Start Inv-loop μ-loop) → Prime (c .args .p)
+prime c = listed-prime (c .pre .is-listed)
 
 size-requires : tie.Need-size-requires Inv-loop μ-loop
 size-requires c κs = search needs
@@ -41,14 +44,10 @@ size-requires-2 c κs = search needs
 
 loop-holds : tie.Need-loop-holds Inv-loop μ-loop
 loop-holds c =
-    let s = c .before .before .before in (
-      c .size2 .ensures,
-      subst (λ (u : List ℕ). Eight (s .args .p) u) (sym (c .before .monic .ensures)) (monic-eight (listed-prime (s .pre .is-listed)) _ (s .args .a)),
-      s .pre .second,
-      c .size2 .result,
-      omega arith,
-      refl,
-    )
+    let s = c .before .before .before in
+    turning-begins (prime s) _ _ _ (c .size2 .ensures)
+    (subst (Eight (s .args .p)) (sym (c .before .monic .ensures)) (monic-eight (prime s) _ (s .args .a)))
+    (s .pre .second)
 
 sub-monic-2 : tie.Need-sub-monic-2 Inv-loop μ-loop
 sub-monic-2 c = search needs
@@ -59,9 +58,9 @@ monic-requires-2 c κs =
     let l = c .before .loop in
     record {
       is-listed = s .pre .is-listed;
-      numbers = l .inv .2;
-      there = omega (arith, size-fits (l .g) (l .n) (l .inv .0));
-      nonzero = size-divides (l .g) (l .n) (l .inv .0) (omega arith);
+      numbers = l .inv .second;
+      there = omega (arith, size-fits (l .g) (l .n) (l .inv .sized));
+      nonzero = size-divides (l .g) (l .n) (l .inv .sized) (omega arith);
     }
 
 sub-remainder : tie.Need-sub-remainder Inv-loop μ-loop
@@ -70,56 +69,33 @@ sub-remainder c = search needs
 remainder-requires : tie.Need-remainder-requires Inv-loop μ-loop
 remainder-requires c κs =
     let l = c .before .before .loop in
-    record { numbers = l .inv .1; degree = omega (arith, size-fits (l .g) (l .n) (l .inv .0)) }
+    record { numbers = l .inv .first; degree = omega (arith, size-fits (l .g) (l .n) (l .inv .sized)) }
 
 size-requires-3 : tie.Need-size-requires-3 Inv-loop μ-loop
 size-requires-3 c κs = search needs
 
 loop-less : tie.Need-loop-less Inv-loop μ-loop
 loop-less c =
-    let s = c .before .before .before .before .before .before .before .before in
-    let p = s .args .p in
-    let l = c .before .before .before .before .loop in
-    let h : c .before .before .monic2 .result ≡ turned p (l .n) (l .g) = c .before .before .monic2 .ensures in
-    let r : c .before .remainder .result ≡ rest p (l .n) (l .f) (l .g) =
-    c .before .remainder .ensures ∙ ap (λ (u : List ℕ). remainder p (l .n - 1) u (8 - (l .n - 1)) (l .f)) h in
-    let falls : size (rest p (l .n) (l .f) (l .g)) < l .n =
-    turn-falls (listed-prime (s .pre .is-listed)) (l .n) (l .n) (l .f) (l .g) (l .inv .0) (omega arith) (l .inv .1) (l .inv .2) in
-    let e : c .size3 .result ≡ size (rest p (l .n) (l .f) (l .g)) = c .size3 .ensures ∙ ap size r in
-    omega arith
+    let turn = c .before .before .before in
+    turning-falls (prime (turn .before .before .before .before .before)) _ _ _ (turn .before .loop .inv) (omega arith)
+    (c .before .before .monic2 .ensures) (c .before .remainder .ensures) (c .size3 .ensures)
 
 loop-again : tie.Need-loop-again Inv-loop μ-loop
 loop-again c =
-    let s = c .before .before .before .before .before .before .before .before in
-    let p = s .args .p in
-    let l = c .before .before .before .before .loop in
-    let h : c .before .before .monic2 .result ≡ turned p (l .n) (l .g) = c .before .before .monic2 .ensures in
-    let r : c .before .remainder .result ≡ rest p (l .n) (l .f) (l .g) =
-    c .before .remainder .ensures ∙ ap (λ (u : List ℕ). remainder p (l .n - 1) u (8 - (l .n - 1)) (l .f)) h in
-    let falls : size (rest p (l .n) (l .f) (l .g)) < l .n =
-    turn-falls (listed-prime (s .pre .is-listed)) (l .n) (l .n) (l .f) (l .g) (l .inv .0) (omega arith) (l .inv .1) (l .inv .2) in
-    let e : c .size3 .result ≡ size (rest p (l .n) (l .f) (l .g)) = c .size3 .ensures ∙ ap size r in (
-      c .size3 .ensures,
-      subst (λ (u : List ℕ). Eight p u) (sym h) (monic-eight (listed-prime (s .pre .is-listed)) (l .n - 1) (l .g)),
-      subst (λ (u : List ℕ). Eight p u) (sym r)
-          (remainder-eight p (prime-positive (listed-prime (s .pre .is-listed))) (l .n - 1) (turned p (l .n) (l .g)) (8 - (l .n - 1)) (l .f) (l .inv .1)),
-      l .inv .3 - 1,
-      omega (arith, l .inv .4),
-      l .inv .5 ∙ turn-on (listed-prime (s .pre .is-listed)) (l .n) (l .inv .3) (l .f) (l .g) (l .inv .0) (omega arith) (l .inv .4)
-          ∙ ap₂ (λ (u v : List ℕ). euclid p (l .inv .3 - 1) u v) (sym h) (sym r),
-    )
+    let turn = c .before .before .before in
+    turning-goes-on (prime (turn .before .before .before .before .before)) _ _ _ (turn .before .loop .inv) (omega arith)
+    (c .before .before .monic2 .ensures) (c .before .remainder .ensures) (c .size3 .ensures)
 
 returns : tie.Need-returns Inv-loop μ-loop
 unfolding gcd
 returns c =
     let s = c .before .before .before .before .before in
     let a = s .args in
-    let l = c .before .loop in
     let f : c .before .before .before .monic .result ≡ monic (a .p) (size (a .a) - 1) (a .a) =
     c .before .before .before .monic .ensures ∙ ap (λ (n : ℕ). monic (a .p) (n - 1) (a .a)) (c .before .before .before .before .size .ensures) in
     sym
     (ap₂ (λ (n : ℕ) (u : List ℕ). euclid (a .p) n u (a .b)) (sym (c .before .before .size2 .ensures)) (sym f)
-    ∙ l .inv .5 ∙ euclid-end (listed-prime (s .pre .is-listed)) (l .inv .3) (l .f) (l .g) (sym (l .inv .0) ∙ omega arith))
+    ∙ turning-ends (prime s) _ _ _ (c .before .loop .inv) (omega arith))
 
 pub gcd-spec : {M : Type 1} → statement M
 gcd-spec =

@@ -38,9 +38,9 @@ gcd-requires : tie.Need-gcd-requires
 gcd-requires c κs =
     let s = c .before in
     record {
-      is-listed = s .pre .is-listed;
-      first = s .pre .first;
-      second = s .pre .second;
+      is-listed = search needs;
+      first = search needs;
+      second = search needs;
       nonzero = size-positive (s .args .p) (s .args .x) (s .args .t3) (s .pre .first) (c .if1 .left);
     }
 

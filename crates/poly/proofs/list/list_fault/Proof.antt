@@ -1,5 +1,6 @@
 -- `poly::list::list_fault` meets its contract: each way out is an answer of the check. Assumes nothing.
 use mathlib.Core.Logic.{inl, inr}
+use native.Mathlib.Omega.{arith}
 use Rattle.poly.specs.Laws.ListCheck.{list-miscounted, list-wrong, list-right}
 use borrow.Author.Needs.{needs}
 use Rattle.poly.proofs.list.list_fault.Statement.{statement}
@@ -19,7 +20,7 @@ at-requires-2 c κs = search needs
 returns-2 : tie.Need-returns-2
 returns-2 c =
     let a = c .before .before .before .before .args in
-    list-miscounted (a .count) (a .term) (a .bound) (a .terms .now) (inr (c .before .if2 .taken)) (c .at2 .ensures)
+    list-miscounted (a .count) (a .term) (a .bound) (a .terms .now) (inr (omega arith)) (c .at2 .ensures)
 
 first-wrong-requires : tie.Need-first-wrong-requires
 first-wrong-requires c κs = search needs
@@ -31,7 +32,7 @@ returns-3 : tie.Need-returns-3
 returns-3 c =
     let then3 = c .before in
     let else2 = then3 .before .before in
-    list-wrong _ _ _ _ (else2 .before .if1 .left) (else2 .if2 .left) _ (then3 .before .first-wrong .ensures) (then3 .if3 .taken) (c .at3 .ensures)
+    list-wrong _ _ _ _ (else2 .before .if1 .left) (omega arith) _ (then3 .before .first-wrong .ensures) (then3 .if3 .taken) (c .at3 .ensures)
 
 none-requires : tie.Need-none-requires
 none-requires c κs = search needs
@@ -40,7 +41,7 @@ returns-4 : tie.Need-returns-4
 returns-4 c =
     let else3 = c .before in
     let else2 = else3 .before .before in
-    list-right _ _ _ _ (else2 .before .if1 .left) (else2 .if2 .left) _ (else3 .before .first-wrong .ensures) (else3 .if3 .left) (c .none .ensures)
+    list-right _ _ _ _ (else2 .before .if1 .left) (omega arith) _ (else3 .before .first-wrong .ensures) (else3 .if3 .left) (c .none .ensures)
 
 pub list-fault-spec : {M : Type 1} → statement M
 list-fault-spec =

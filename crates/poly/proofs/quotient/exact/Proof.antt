@@ -1,5 +1,4 @@
 -- `exact` meets its contract, from what its calls say: the room cleared, the division, the quotient's terms gathered, and the room cleared again. Assumes nothing.
-use mathlib.Core.Path.{_≡_, sym, _∙_}
 use Prim.Native.Nat.{_≤_}
 use native.Mathlib.Omega.{arith}
 use borrow.Author.Tests.{not-true, not-false}

@@ -1,0 +1,40 @@
+-- `divisor::candidate` meets its contract: the fault of the table, or the answer. Assumes nothing.
+use Rattle.field.specs.RefusalLaws.{tested-refuses, tested-passes}
+use Rattle.divisor.specs.Candidate.{Call, table, refused}
+use borrow.Author.Needs.{needs}
+use Rattle.divisor.proofs.candidate.Statement.{statement}
+use Rattle.divisor.proofs.candidate.Tie as tie
+
+candidate-fault-requires : tie.Need-candidate-fault-requires
+candidate-fault-requires c κs = search needs
+
+returns : tie.Need-returns
+returns c =
+    let s = c .before .before .before .before .before .before .before .before .before in
+    let a = s .args in
+    let q : Call = record { modulus = a .p; first-list = a .first .now; second-list = a .second .now; skeleton = a .skeleton .now; points = a .points .now; output = a .out .now; work = a .work .now } in
+    let f = c .before .before .candidate-fault in
+    refused (f .result) (tested-refuses (table q) (f .result) (f .ensures) (c .if1 .taken))
+
+answer-requires : tie.Need-answer-requires
+answer-requires c κs =
+    let s = c .before .before .before .before .before .before .before .before .before .before .before in
+    let a = s .args in
+    let q : Call = record { modulus = a .p; first-list = a .first .now; second-list = a .second .now; skeleton = a .skeleton .now; points = a .points .now; output = a .out .now; work = a .work .now } in
+    let f = c .before .before .before .before .candidate-fault in
+    tested-passes (table q) tt (f .result) (f .ensures) (c .before .before .if1 .left) .0
+
+same-length : tie.Need-same-length
+same-length c = search needs
+
+same-length-2 : tie.Need-same-length-2
+same-length-2 c = search needs
+
+returns-2 : tie.Need-returns-2
+returns-2 c =
+    c .before .before .before .before .answer .ensures
+
+pub candidate-spec : {M : Type 1} → statement M
+candidate-spec =
+    tie.close
+    (tie.spec candidate-fault-requires returns answer-requires same-length same-length-2 returns-2)

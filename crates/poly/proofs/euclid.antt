@@ -1,0 +1,2 @@
+-- What the proofs of Euclid's steps share.
+pub mod Turning

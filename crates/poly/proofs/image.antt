@@ -1,0 +1,2 @@
+-- What stands beside the proofs of the image.
+pub mod Examples
