@@ -64,7 +64,7 @@ fn fits(k: u16, lead: u16, bound: Key) -> bool
 }
 
 // The first `n` numbers set to 0.
-pub(crate) fn clear(n: usize, numbers: &mut [Number])
+pub fn clear(n: usize, numbers: &mut [Number])
     requires { ⌜ n ≤ length (now numbers) ⌝ }
     ensures { λ _. ⌜ now (numbers .exit) ≡ zeroed n (now (numbers .entry)) ⌝ }
 {
