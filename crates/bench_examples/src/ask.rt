@@ -1,0 +1,115 @@
+// Asking a service and printing its answer behind a label.
+use console::print;
+use field::Answer;
+use field::Number;
+use libc::STDOUT_FILENO;
+use poly::Term;
+use poly::division::WORK_ROOM;
+
+// The most keys of a skeleton.
+const SKELETON: usize = 32;
+
+// The modulus, where none is said.
+const P: Number = 17;
+
+fn print_label(label: &[u8]) {
+    io::write_all(STDOUT_FILENO, label);
+    io::write_all(STDOUT_FILENO, b": ");
+}
+
+// The numbers of a record, and the terms.
+fn print_found(label: &[u8], numbers: &[usize], terms: &[Term]) {
+    print_label(label);
+    print::line(numbers);
+    print::terms(terms);
+}
+
+// The candidate in rooms that are long enough.
+pub fn candidate(
+    label: &[u8],
+    p: Number,
+    first: &[Term],
+    second: &[Term],
+    skeleton: &[Number],
+    points: &[Number],
+) {
+    let mut out = [0; SKELETON];
+    let mut work = [0; WORK_ROOM];
+    candidate_in(
+        label,
+        p,
+        first,
+        second,
+        skeleton,
+        points,
+        &mut out,
+        &mut work,
+    );
+}
+
+// The candidate in rooms of the caller's.
+pub fn candidate_in(
+    label: &[u8],
+    p: Number,
+    first: &[Term],
+    second: &[Term],
+    skeleton: &[Number],
+    points: &[Number],
+    out: &mut [Term],
+    work: &mut [Number],
+) {
+    let found = divisor::candidate(p, first, second, skeleton, points, out, work);
+    let number = found.fault.number as usize;
+    let terms = found.terms;
+    let numbers = [
+        number,
+        found.fault.place,
+        found.degree,
+        found.bad,
+        found.unlucky,
+        found.kept,
+        terms,
+    ];
+    print_found(label, &numbers, &out[..terms]);
+}
+
+pub fn quotient(
+    label: &[u8],
+    first: &[Term],
+    second: &[Term],
+    out: &mut [Term],
+    work: &mut [Number],
+) {
+    let found = poly::quotient::quotient(P, first, second, out, work);
+    let number = found.fault.number as usize;
+    let terms = found.terms;
+    let numbers = [number, found.fault.place, terms];
+    print_found(label, &numbers, &out[..terms]);
+}
+
+pub fn image(label: &[u8], first: &[Term], second: &[Term], point: &[Number]) {
+    print_label(label);
+    print::image(poly::image::image(P, first, second, point));
+}
+
+// Number, place, modulus, value.
+pub fn arithmetic(label: &[u8], found: Answer) {
+    let fault = found.fault;
+    let element = found.element;
+    print_label(label);
+    print::line(
+        &[
+            fault.number as usize,
+            fault.place,
+            element.modulus as usize,
+            element.value as usize,
+        ],
+    );
+}
+
+// What the list check says, and the terms of the leading part.
+pub fn leading_part(label: &[u8], terms: &[Term]) {
+    print_label(label);
+    print::fault(poly::list::check_list(terms));
+    print::terms(poly::list::leading_part(terms));
+}

@@ -1,0 +1,96 @@
+// The lines that are run only, also those that no case file can bring about: P1 with one input changed.
+use crate::ask;
+use crate::lists;
+use crate::lists::P1_FIRST;
+use crate::lists::P1_SECOND;
+use crate::lists::X_1;
+use field::Number;
+use poly::Term;
+
+fn with_first(label: &[u8], first: &[Term]) {
+    ask::candidate(label, 17, first, &P1_SECOND, &X_1, &[0, 0, 0]);
+}
+
+fn with_skeleton(label: &[u8], skeleton: &[Number]) {
+    ask::candidate(label, 17, &P1_FIRST, &P1_SECOND, skeleton, &[0, 0, 0]);
+}
+
+fn with_points(label: &[u8], points: &[Number]) {
+    ask::candidate(label, 17, &P1_FIRST, &P1_SECOND, &X_1, points);
+}
+
+fn with_rooms(label: &[u8], out: &mut [Term], work: &mut [Number]) {
+    let origin = [0, 0, 0];
+    ask::candidate_in(label, 17, &P1_FIRST, &P1_SECOND, &X_1, &origin, out, work);
+}
+
+pub fn lists() {
+    ask::candidate(b"modulus 15", 15, &P1_FIRST, &P1_SECOND, &X_1, &[0, 0, 0]);
+    with_first(b"coefficient 17", &lists::COEFFICIENT_17);
+    with_first(b"coefficient 16", &lists::COEFFICIENT_16);
+    with_first(b"two equal keys", &lists::EQUAL_KEYS);
+    with_first(b"key 4096", &lists::KEY_4096);
+    let last = lists::KEY_4095;
+    ask::candidate(b"key 4095", 17, &last, &last, &[4095], &[1, 1, 1]);
+}
+
+pub fn skeletons_and_points() {
+    let keys = lists::KEYS_33;
+    with_skeleton(b"32 keys", &keys[1..]);
+    with_skeleton(b"33 keys", &keys);
+    with_points(b"95 point numbers", &[0; 95]);
+    with_points(b"96 point numbers", &[0; 96]);
+    with_points(b"99 point numbers", &[0; 99]);
+}
+
+pub fn rooms() {
+    let mut out = [0; 2];
+    let mut short_out = [0; 1];
+    let mut work = [0; 8192];
+    let mut short_work = [0; 8191];
+    with_rooms(b"output 1, work 8191", &mut short_out, &mut short_work);
+    with_rooms(b"output 1, work 8192", &mut short_out, &mut work);
+    with_rooms(b"output 2, work 8191", &mut out, &mut short_work);
+    with_rooms(b"output 2, work 8192", &mut out, &mut work);
+}
+
+pub fn quotients() {
+    let x_plus_1 = lists::X_PLUS_1;
+    let mut out = [0; 4096];
+    let mut short_out = [0; 4095];
+    let mut work = [0; 8192];
+    let mut short_work = [0; 8191];
+    ask::quotient(
+        b"quotient, output 4095",
+        &P1_FIRST,
+        &x_plus_1,
+        &mut short_out,
+        &mut work,
+    );
+    ask::quotient(
+        b"quotient, work 8191",
+        &P1_FIRST,
+        &x_plus_1,
+        &mut out,
+        &mut short_work,
+    );
+    ask::quotient(b"x^2-1 by x+1", &P1_FIRST, &x_plus_1, &mut out, &mut work);
+    ask::quotient(
+        b"x^2-1 by x^2+2x+1",
+        &P1_FIRST,
+        &P1_SECOND,
+        &mut out,
+        &mut work,
+    );
+    ask::quotient(b"F by E", &lists::F, &lists::E, &mut out, &mut work);
+}
+
+pub fn images() {
+    ask::image(b"image at two numbers", &P1_FIRST, &P1_SECOND, &[0, 0]);
+    ask::image(
+        b"image at a bad point",
+        &lists::P2_FIRST,
+        &lists::P2_SECOND,
+        &[0, 0, 0],
+    );
+}

@@ -1,0 +1,35 @@
+// The services that no program asks: arithmetic, the leading part and the list check.
+use crate::ask;
+use crate::lists;
+use field::Element;
+use field::Number;
+
+fn element(modulus: Number, value: Number) -> Element {
+    Element { modulus, value }
+}
+
+pub fn arithmetic() {
+    let three = element(17, 3);
+    let five = element(17, 5);
+    let sixteen = element(17, 16);
+    ask::arithmetic(b"5 + 16", field::ask_sum(five, sixteen));
+    ask::arithmetic(b"5 - 16", field::ask_difference(five, sixteen));
+    ask::arithmetic(b"16 * 16", field::ask_product(sixteen, sixteen));
+    ask::arithmetic(b"1 / 3", field::ask_inverse(three));
+}
+
+pub fn arithmetic_refused() {
+    let five = element(17, 5);
+    let large = element(17, 17);
+    ask::arithmetic(b"modulus 15", field::ask_sum(element(15, 5), five));
+    ask::arithmetic(b"17 + 5", field::ask_sum(large, five));
+    ask::arithmetic(b"5 + 17", field::ask_sum(five, large));
+    ask::arithmetic(b"two moduli", field::ask_sum(five, element(13, 5)));
+    ask::arithmetic(b"1 / 0", field::ask_inverse(element(17, 0)));
+}
+
+pub fn leading_parts() {
+    ask::leading_part(b"leading part of F", &lists::F);
+    ask::leading_part(b"leading part, two equal keys", &lists::EQUAL_KEYS);
+    ask::leading_part(b"leading part, no terms", &[]);
+}
