@@ -9,7 +9,7 @@ use native.Mathlib.Omega.{arith}
 use borrow.Author.Tests.{ltb-false}
 use lib.Dec.{ltb}
 use lib.ListN.{length}
-use Rattle.case_file.specs.Refusals.{after-end}
+use Rattle.field.specs.Numbers.{AFTER_END}
 use Rattle.case_file.specs.Format.{base}
 use Rattle.case_file.specs.Case.{Case}
 use Rattle.case_file.specs.Reading.{Reading, whole, refused, alone, read-one, read}
@@ -31,8 +31,8 @@ unfolding alone
 alone-whole (refused i j) m c n e = absurd (refused-no-case i j c n e)
 alone-whole (whole d at) m c n e = go (ltb at m) refl e
   where
-    go : (b : Bool) → ltb at m ≡ b → elim b [ true ↦ refused after-end at | false ↦ whole d at ] ≡ whole c n → (whole d at ≡ whole c n) × (m ≤ n)
-    go true t q = absurd (refused-no-case after-end at c n q)
+    go : (b : Bool) → ltb at m ≡ b → elim b [ true ↦ refused AFTER_END at | false ↦ whole d at ] ≡ whole c n → (whole d at ≡ whole c n) × (m ≤ n)
+    go true t q = absurd (refused-no-case AFTER_END at c n q)
     go false t q = let l : at ≡ n = cc in (q, omega (arith, ltb-false at m t))
 
 no-length : (l : List ℕ) → length l ≡ 0 → l ≡ []

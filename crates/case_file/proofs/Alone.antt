@@ -7,7 +7,7 @@ use native.Mathlib.Omega.{arith}
 use borrow.Author.Tests.{lt-ltb, le-ltb}
 use lib.Dec.{ltb}
 use lib.ListN.{length}
-use Rattle.case_file.specs.Refusals.{after-end}
+use Rattle.field.specs.Numbers.{AFTER_END}
 use Rattle.case_file.specs.Format.{body, content}
 use Rattle.case_file.specs.Case.{Case, no-records, added}
 use Rattle.case_file.specs.Reading.{Reading, whole, refused, alone, reading, read-one, read}
@@ -43,7 +43,7 @@ module _ (n : ℕ) where
   stays-refused (whole c at) z = absurd (z refl)
   stays-refused (refused e i) z = refl
 
-  becomes-refused : (o : Reading) → Numbered o → next o < n → fault o .number ≡ 0 → alone n o ≡ refused after-end (next o)
+  becomes-refused : (o : Reading) → Numbered o → next o < n → fault o .number ≡ 0 → alone n o ≡ refused AFTER_END (next o)
   unfolding alone
   becomes-refused (whole c at) m h z = rw (lt-ltb at n h, alone)
   becomes-refused (refused e i) m h z = absurd (m z)
@@ -53,7 +53,7 @@ unfolding alone
 alone-numbered n (refused e i) m = m
 alone-numbered n (whole c at) m = go (ltb at n)
   where
-    go : (b : Bool) → Numbered (elim b [ true ↦ refused after-end at | false ↦ whole c at ])
+    go : (b : Bool) → Numbered (elim b [ true ↦ refused AFTER_END at | false ↦ whole c at ])
     go true = λ z. omega arith
     go false = tt
 
@@ -70,6 +70,6 @@ module _ (bs : List ℕ) {r : Counts} {f s k p : List ℕ} (g : Gives (read-one 
   unfolding read
   refused-before z = rw (stays-refused (length bs) (read-one bs) (rw (g .record-is) at z), read) g
 
-  pub bytes-after : r .next < length bs → r .fault .number ≡ 0 → read bs ≡ refused after-end (r .next)
+  pub bytes-after : r .next < length bs → r .fault .number ≡ 0 → read bs ≡ refused AFTER_END (r .next)
   unfolding read
   bytes-after h z = rw (g .record-is) (becomes-refused (length bs) (read-one bs) (read-one-numbered bs) (rw (g .record-is) at h) (rw (g .record-is) at z))

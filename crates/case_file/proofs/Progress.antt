@@ -6,7 +6,7 @@ use native.Mathlib.Omega.{arith}
 use native.Mathlib.Numerals.{add-one}
 use lib.ListN.{length, getD, drop, length-drop, drop-of-length-le}
 use lib.Seq.{drop-cons, drop-drop}
-use Rattle.case_file.specs.Refusals.{no-end}
+use Rattle.field.specs.Numbers.{NO_END}
 use Rattle.case_file.specs.Format.{modulus-kind, end-kind, body, content}
 use Rattle.case_file.specs.Case.{Case, no-records, added}
 use Rattle.case_file.specs.Reading.{whole, refused, fault-number, reading, read-one}
@@ -38,7 +38,7 @@ begun bs g =
     }
 
 module _ {bs : List ℕ} {r : Counts} {f s k p : List ℕ} {before at : ℕ} (q : Progress bs r f s k p before at) where
-  pub out : length bs ≤ at → read-one bs ≡ refused no-end at
+  pub out : length bs ≤ at → read-one bs ≡ refused NO_END at
   out h = rw (q .same, drop-of-length-le bs h) (runs-out 0 at before (q .case))
 
   module _ (h : at < length bs) where

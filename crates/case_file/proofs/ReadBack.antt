@@ -8,7 +8,7 @@ use native.Mathlib.Omega.{arith}
 use borrow.Author.Tests.{leb-true, leb-false}
 use lib.Dec.{leb}
 use lib.ListN.{length, drop, length-append, take-append-drop}
-use Rattle.case_file.specs.Refusals.{no-end}
+use Rattle.field.specs.Numbers.{NO_END}
 use Rattle.case_file.specs.Format.{base, modulus-kind, end-kind, count, width, body, content}
 use Rattle.case_file.specs.Case.{Case, no-records, added}
 use Rattle.case_file.specs.Reading.{Reading, whole, refused, reading, read-one}
@@ -130,8 +130,8 @@ module _ (m n : ℕ) (c′ : Case) (before k : ℕ) (c : Case) (bs done : List �
 
 back : (c′ : Case) (n s at before : ℕ) (c : Case) (bs done : List ℕ) → Stored before c done → Below base bs → reading s at before c bs ≡ whole c′ n → Back done (drop s bs) (at + length bs) n c′
 unfolding reading
-back c′ n zero at before c [] done t b e = absurd (refused-no-case no-end at c′ n e)
-back c′ n (suc s) at before c [] done t b e = absurd (refused-no-case no-end at c′ n e)
+back c′ n zero at before c [] done t b e = absurd (refused-no-case NO_END at c′ n e)
+back c′ n (suc s) at before c [] done t b e = absurd (refused-no-case NO_END at c′ n e)
 back c′ n (suc s) at before c (x ∷ bs) done t b e =
     let r : Back done (drop s bs) (at + 1 + length bs) n c′ = back c′ n s (at + 1) before c bs done t (b .1) e in
     record { rest = r .rest; same = r .same; left = omega (arith, r .left); storable = r .storable }

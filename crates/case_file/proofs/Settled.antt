@@ -10,7 +10,7 @@ use borrow.Author.Tests.{le-leb, lt-leb, leb-true, leb-false, lt-ltb}
 use lib.Dec.{leb}
 use lib.ListN.{length, take, drop, length-take, length-append}
 use lib.Seq.{take-take, take-nil, take-all, length-take-le}
-use Rattle.case_file.specs.Refusals.{no-end}
+use Rattle.field.specs.Numbers.{NO_END}
 use Rattle.case_file.specs.Format.{enough, end-kind, count, width, body, limit, numbers, content}
 use Rattle.case_file.specs.Case.{Case, no-records, added}
 use Rattle.case_file.specs.Reading.{Reading, whole, refused, fault-number, reading, read-one, alone, read}
@@ -98,8 +98,8 @@ cut zero at before c (k ∷ bs) (suc m) h =
 
 ends-by : (c′ : Case) (n s at before : ℕ) (c : Case) (bs : List ℕ) → reading s at before c bs ≡ whole c′ n → n + 6 ≤ at + s + left c
 unfolding reading
-ends-by c′ n zero at before c [] e = absurd (refused-no-case no-end at c′ n e)
-ends-by c′ n (suc s) at before c [] e = absurd (refused-no-case no-end at c′ n e)
+ends-by c′ n zero at before c [] e = absurd (refused-no-case NO_END at c′ n e)
+ends-by c′ n (suc s) at before c [] e = absurd (refused-no-case NO_END at c′ n e)
 ends-by c′ n (suc s) at before c (b ∷ bs) e = omega (arith, ends-by c′ n s (at + 1) before c bs e)
 ends-by c′ n zero at before c (k ∷ bs) e =
     by-record at before c k bs (λ (o : Reading). o ≡ whole c′ n → n + 6 ≤ at + 0 + left c)

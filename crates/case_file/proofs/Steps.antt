@@ -8,12 +8,12 @@ use native.Mathlib.Omega.{arith}
 use borrow.Author.Tests.{eqb-true, eqb-false, eq-eqb, ne-eqb}
 use lib.Dec.{eqb}
 use lib.ListN.{length, drop}
-use Rattle.case_file.specs.Refusals.{no-end}
+use Rattle.field.specs.Numbers.{NO_END}
 use Rattle.case_file.specs.Format.{end-kind, body, content}
 use Rattle.case_file.specs.Case.{Case, added}
 use Rattle.case_file.specs.Reading.{Reading, whole, refused, fault-number, reading}
 
-pub runs-out : (s at before : ℕ) (c : Case) → reading s at before c [] ≡ refused no-end at
+pub runs-out : (s at before : ℕ) (c : Case) → reading s at before c [] ≡ refused NO_END at
 unfolding reading
 runs-out zero at before c = refl
 runs-out (suc s) at before c = refl

@@ -6,7 +6,7 @@ use mathlib.Core.List.{[], _∷_}
 use native.Mathlib.Omega.{arith}
 use borrow.Author.Tests.{le-leb, lt-leb, lt-ltb, le-ltb, leb-true, ltb-true, eqb-true}
 use lib.Dec.{leb, ltb}
-use Rattle.case_file.specs.Refusals.{kind-unknown, body-cut, order, too-many}
+use Rattle.field.specs.Numbers.{KIND_UNKNOWN, BODY_CUT, ORDER, TOO_MANY}
 use Rattle.case_file.specs.Format.{modulus-kind, first-kind, second-kind, skeleton-kind, point-kind, end-kind, body, limit, follows}
 use Rattle.case_file.specs.Reading.{first-failed, fault-number}
 
@@ -62,27 +62,27 @@ not-below zero k low o = omega arith
 not-below (suc before) k low o = rises (suc before) k (omega arith) o .0
 
 module _ (before k n m : ℕ) where
-  pub fails-low : k < modulus-kind → kind-unknown ≡ fault-number before k n m
+  pub fails-low : k < modulus-kind → KIND_UNKNOWN ≡ fault-number before k n m
   unfolding fault-number
   fails-low h = rw (lt-leb modulus-kind k h)
 
-  pub fails-high : end-kind < k → kind-unknown ≡ fault-number before k n m
+  pub fails-high : end-kind < k → KIND_UNKNOWN ≡ fault-number before k n m
   unfolding fault-number
   fails-high h =
       let l : modulus-kind ≤ k = omega arith in
       rw (le-leb modulus-kind k l, lt-leb k end-kind h)
 
   module _ (low : modulus-kind ≤ k) (high : k ≤ end-kind) where
-    pub fails-order : follows before k ≡ false → order ≡ fault-number before k n m
+    pub fails-order : follows before k ≡ false → ORDER ≡ fault-number before k n m
     unfolding fault-number
     fails-order o = rw (le-leb modulus-kind k low, le-leb k end-kind high, o)
 
     module _ (o : follows before k ≡ true) where
-      pub fails-whole : m < body k → body-cut ≡ fault-number before k n m
+      pub fails-whole : m < body k → BODY_CUT ≡ fault-number before k n m
       unfolding fault-number
       fails-whole h = rw (le-leb modulus-kind k low, le-leb k end-kind high, o, lt-leb (body k) m h)
 
-      pub fails-limit : body k ≤ m → limit k ≤ n → too-many ≡ fault-number before k n m
+      pub fails-limit : body k ≤ m → limit k ≤ n → TOO_MANY ≡ fault-number before k n m
       unfolding fault-number
       fails-limit w h = rw (le-leb modulus-kind k low, le-leb k end-kind high, o, le-leb (body k) m w, le-ltb n (limit k) h)
 
@@ -98,7 +98,7 @@ pub record Passed (before k n m : ℕ) : Type 0 where
   pub in-file : body k ≤ m
   pub room : n < limit k
 
-all-true : (a b c d e : Bool) → first-failed ((kind-unknown, a && b) ∷ (order, c) ∷ (body-cut, d) ∷ (too-many, e) ∷ []) ≡ 0 → (a ≡ true) × (b ≡ true) × (c ≡ true) × (d ≡ true) × (e ≡ true)
+all-true : (a b c d e : Bool) → first-failed ((KIND_UNKNOWN, a && b) ∷ (ORDER, c) ∷ (BODY_CUT, d) ∷ (TOO_MANY, e) ∷ []) ≡ 0 → (a ≡ true) × (b ≡ true) × (c ≡ true) × (d ≡ true) × (e ≡ true)
 all-true true true true true true h = (refl, refl, refl, refl, refl)
 all-true true true true true false h = absurd (omega arith)
 all-true true true true false e h = absurd (omega arith)
@@ -117,7 +117,7 @@ pub fault-same : (before k n n′ m : ℕ) → (modulus-kind ≤ k → k ≤ end
 unfolding fault-number
 fault-same before k n n′ m h = go (leb modulus-kind k) (leb k end-kind) (follows before k) refl refl refl
   where
-    go : (a b o : Bool) → leb modulus-kind k ≡ a → leb k end-kind ≡ b → follows before k ≡ o → first-failed ((kind-unknown, a && b) ∷ (order, o) ∷ (body-cut, leb (body k) m) ∷ (too-many, ltb n (limit k)) ∷ []) ≡ first-failed ((kind-unknown, a && b) ∷ (order, o) ∷ (body-cut, leb (body k) m) ∷ (too-many, ltb n′ (limit k)) ∷ [])
+    go : (a b o : Bool) → leb modulus-kind k ≡ a → leb k end-kind ≡ b → follows before k ≡ o → first-failed ((KIND_UNKNOWN, a && b) ∷ (ORDER, o) ∷ (BODY_CUT, leb (body k) m) ∷ (TOO_MANY, ltb n (limit k)) ∷ []) ≡ first-failed ((KIND_UNKNOWN, a && b) ∷ (ORDER, o) ∷ (BODY_CUT, leb (body k) m) ∷ (TOO_MANY, ltb n′ (limit k)) ∷ [])
     go true true true low high e = rw (h (leb-true _ _ low) (leb-true _ _ high) e)
     go true true false low high e = refl
     go true false o low high e = refl

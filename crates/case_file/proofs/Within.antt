@@ -5,7 +5,7 @@ use mathlib.Core.List.{List, [], _∷_}
 use native.Mathlib.Omega.{arith}
 use lib.Dec.{ltb}
 use lib.ListN.{length}
-use Rattle.case_file.specs.Refusals.{after-end, no-end}
+use Rattle.field.specs.Numbers.{AFTER_END, NO_END}
 use Rattle.case_file.specs.Format.{first-kind, second-kind, skeleton-kind, point-kind, count, body, limit, content}
 use Rattle.case_file.specs.Case.{Case, no-records, added, flat}
 use Rattle.case_file.specs.Reading.{Reading, whole, refused, reading, alone, read-one, read}
@@ -31,8 +31,8 @@ refused-fit e i j = omega arith
 
 reading-fit : (s at before : ℕ) (c : Case) (bs : List ℕ) → Standing before c → Fit (reading s at before c bs)
 unfolding reading
-reading-fit zero at before c [] t = refused-fit no-end at
-reading-fit (suc s) at before c [] t = refused-fit no-end at
+reading-fit zero at before c [] t = refused-fit NO_END at
+reading-fit (suc s) at before c [] t = refused-fit NO_END at
 reading-fit (suc s) at before c (b ∷ bs) t = reading-fit s (at + 1) before c bs t
 reading-fit zero at before c (k ∷ bs) t =
     by-record at before c k bs Fit (λ e h z. refused-fit e at)
@@ -44,8 +44,8 @@ unfolding alone
 alone-fit n (refused e i) f = f
 alone-fit n (whole c at) f = go (ltb at n)
   where
-    go : (b : Bool) → Fit (elim b [ true ↦ refused after-end at | false ↦ whole c at ])
-    go true = refused-fit after-end at
+    go : (b : Bool) → Fit (elim b [ true ↦ refused AFTER_END at | false ↦ whole c at ])
+    go true = refused-fit AFTER_END at
     go false = f
 
 within : (o : Reading) {r : Counts} {f s k p : List ℕ} → Fit o → Gives o r f s k p → Within r

@@ -1,5 +1,4 @@
 -- What the contracts of the case file's reader say.
-pub mod Refusals
 pub mod Format
 pub mod Case
 pub mod Reading

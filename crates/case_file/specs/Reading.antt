@@ -4,7 +4,7 @@ use mathlib.Core.Bool.{Bool, true, false}
 use mathlib.Core.List.{List, [], _∷_}
 use lib.Dec.{eqb, ltb, leb}
 use lib.ListN.{length}
-use Rattle.case_file.specs.Refusals.{kind-unknown, body-cut, order, after-end, no-end, too-many}
+use Rattle.field.specs.Numbers.{KIND_UNKNOWN, BODY_CUT, ORDER, AFTER_END, NO_END, TOO_MANY}
 use Rattle.case_file.specs.Format.{end-kind, known, limit, body, follows, content}
 use Rattle.case_file.specs.Case.{Case, no-records, added}
 
@@ -16,7 +16,7 @@ first-failed (t ∷ ts) = elim (t .1) [ true ↦ first-failed ts | false ↦ t .
 -- the tests of a record of kind k: the record before it is of kind before, n of its kind were read, m bytes follow its kind byte
 unfoldable pub fault-number : (before k n m : ℕ) → ℕ
 fault-number before k n m =
-    first-failed ((kind-unknown, known k) ∷ (order, follows before k) ∷ (body-cut, leb (body k) m) ∷ (too-many, ltb n (limit k)) ∷ [])
+    first-failed ((KIND_UNKNOWN, known k) ∷ (ORDER, follows before k) ∷ (BODY_CUT, leb (body k) m) ∷ (TOO_MANY, ltb n (limit k)) ∷ [])
 
 pub data Reading : Type 0 where
   -- a case, and the offset after its end record
@@ -26,8 +26,8 @@ pub data Reading : Type 0 where
 
 -- from the offset at on, where s bytes of a body are still to be passed: the last record is of kind before, c is what was read
 unfoldable pub reading : (s at before : ℕ) → Case → List ℕ → Reading
-reading zero at before c [] = refused no-end at
-reading (suc s) at before c [] = refused no-end at
+reading zero at before c [] = refused NO_END at
+reading (suc s) at before c [] = refused NO_END at
 reading (suc s) at before c (b ∷ bs) = reading s (at + 1) before c bs
 reading zero at before c (k ∷ bs) =
     elim (fault-number before k (length (c k)) (length bs)) [
@@ -45,7 +45,7 @@ read-one bs = reading 0 0 0 no-records bs
 
 -- one case and nothing after it, in a file of n bytes
 unfoldable pub alone : ℕ → Reading → Reading
-alone n (whole c at) = elim (ltb at n) [ true ↦ refused after-end at | false ↦ whole c at ]
+alone n (whole c at) = elim (ltb at n) [ true ↦ refused AFTER_END at | false ↦ whole c at ]
 alone n (refused e at) = refused e at
 
 -- a case file

@@ -145,7 +145,7 @@ pub fn read_one_into(
         before = kind;
         at = start + record::body(kind);
     }
-    nothing(record::NO_END, at, first, second, skeleton, points)
+    nothing(Fault::NO_END, at, first, second, skeleton, points)
 }
 
 // A case file: one case, and nothing after it. The first 4,096 bytes settle the answer, so that a program need read no more.
@@ -166,7 +166,7 @@ pub fn read_into(
         return counts;
     }
     nothing(
-        record::AFTER_END,
+        Fault::AFTER_END,
         counts.next,
         first,
         second,

@@ -13,6 +13,7 @@ use crate::POINTS;
 use crate::PointNumbers;
 use crate::TERMS;
 use crate::Terms;
+use field::Fault;
 use field::Number;
 
 // The kinds.
@@ -37,19 +38,6 @@ const LIMITS: [usize; 7] = [0, 1, TERMS, TERMS, KEYS, POINTS, 1];
 const BASE: u16 = 256;
 
 const BASE_SQUARED: u32 = 65536;
-
-// The reader's refusal numbers.
-pub const KIND_UNKNOWN: Number = 20;
-
-pub const BODY_CUT: Number = 21;
-
-pub const ORDER: Number = 22;
-
-pub const AFTER_END: Number = 23;
-
-pub const NO_END: Number = 24;
-
-pub const TOO_MANY: Number = 25;
 
 pub fn body(kind: u8) -> usize
     requires { ⌜ Known kind ⌝ }
@@ -90,19 +78,19 @@ pub fn fault_of(before: u8, kind: u8, counts: Counts, left: usize) -> Number
     ensures { λ r. ⌜ r ≡ fault-number before kind (held-of counts kind) left ⌝ }
 {
     if kind < MODULUS {
-        return KIND_UNKNOWN;
+        return Fault::KIND_UNKNOWN;
     }
     if END < kind {
-        return KIND_UNKNOWN;
+        return Fault::KIND_UNKNOWN;
     }
     if !follows(before, kind) {
-        return ORDER;
+        return Fault::ORDER;
     }
     if left < body(kind) {
-        return BODY_CUT;
+        return Fault::BODY_CUT;
     }
     if LIMITS[kind as usize] <= held(kind, counts) {
-        return TOO_MANY;
+        return Fault::TOO_MANY;
     }
     0
 }

@@ -1,0 +1,18 @@
+-- A list that is padded to an array stands first in it. Assumes nothing.
+use Prim.Native.Nat.{ℕ}
+use native.Mathlib.Omega.{arith}
+use mathlib.Core.Path.{_≡_, sym, ap}
+use mathlib.Core.List.{List}
+use lib.ListN.{length, length-append}
+use lib.Seq.{take-at}
+use Rattle.case_file.specs.Handed.{padded}
+use Rattle.console.specs.Lists.{First}
+use Rattle.console.specs.TermsFirst.{counts-within}
+
+pub padded-first : (m n : ℕ) (array numbers : List ℕ) → n ≡ length numbers → array ≡ padded m numbers → First n array numbers
+unfolding padded
+padded-first m n array numbers k e =
+    record {
+      counts = counts-within n array (omega (arith, simp length-append at (ap length e)));
+      is = rw (e, take-at numbers _ n (sym k));
+    }

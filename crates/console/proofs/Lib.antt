@@ -1,0 +1,3 @@
+-- Laws that belong to no single function.
+pub mod First
+pub mod Answered

@@ -1,0 +1,36 @@
+-- The candidate of a case file, in an output and a work room that are lent.
+use Prim.Native.Nat.{ℕ}
+use mathlib.Core.List.{List}
+use lib.ListN.{getD}
+use Rattle.io.specs.Counts.{Counts}
+use Rattle.field.specs.declared.Fault.{Fault}
+use Rattle.case_file.specs.Format.{modulus-kind, first-kind, second-kind, skeleton-kind, point-kind}
+use Rattle.case_file.specs.Reading.{Reading}
+use Rattle.case_file.specs.Handed.{list}
+use Rattle.divisor.specs.Candidate.{Call, Result, Candidate, refusal}
+use Rattle.console.specs.OfFile.{OfFile}
+
+module _ (output work : List ℕ) where
+  abbrev pub unread : Fault → Result
+  unread f = record { found = refusal f; output = output; work = work }
+
+  -- the call that a case makes
+  abbrev pub call : Reading → Call
+  call o =
+      record {
+        modulus = getD (list o modulus-kind) 0 0;
+        first-list = list o first-kind;
+        second-list = list o second-kind;
+        skeleton = list o skeleton-kind;
+        points = list o point-kind;
+        output = output;
+        work = work;
+      }
+
+  abbrev pub CandidateOfFile : List ℕ → Result → Type 0
+  CandidateOfFile bytes r = OfFile unread (λ (o : Reading). Candidate (call o)) bytes r
+
+-- the promise of a call on the bytes of a file; the terms stand first in the output
+pub record Answered (bytes output work : List ℕ) (r : Result) : Type 0 where
+  pub is : CandidateOfFile output work bytes r
+  pub terms-first : Counts (r .found .terms) (r .output)

@@ -1,0 +1,12 @@
+-- What is found where a file is read and a service is asked of the case: the reader's refusal, or the service's answer.
+use Prim.Native.Nat.{ℕ}
+use mathlib.Core.Path.{_≡_}
+use mathlib.Core.List.{List}
+use Rattle.field.specs.declared.Fault.{Fault}
+use Rattle.case_file.specs.Reading.{Reading, read}
+use Rattle.case_file.specs.Handed.{fault}
+
+module _ {Found : Type 0} (unread : Fault → Found) (Answer : Reading → Found → Type 0) where
+  pub data OfFile (bytes : List ℕ) : Found → Type 0 where
+    refused : ¬ (fault (read bytes) .number ≡ 0) → OfFile bytes (unread (fault (read bytes)))
+    asked : fault (read bytes) .number ≡ 0 → (found : Found) → Answer (read bytes) found → OfFile bytes found

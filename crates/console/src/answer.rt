@@ -1,0 +1,63 @@
+// The candidate of a case file.
+ghost use mathlib.Core.Path.{_≡_};
+ghost use Rattle.divisor.specs.Candidate.{refusal};
+ghost use Rattle.console.specs.CandidateOfFile.{Answered};
+use crate::input;
+use crate::print;
+use divisor::CandidateRecord;
+use field::Fault;
+use field::Number;
+use poly::Term;
+use poly::division::WORK_ROOM;
+
+// What a reader's refusal gives: number and place, and zeros.
+fn refused(fault: Fault) -> CandidateRecord
+    ensures { λ r. ⌜ r ≡ refusal fault ⌝ }
+{
+    CandidateRecord {
+        fault,
+        degree: 0,
+        bad: 0,
+        unlucky: 0,
+        kept: 0,
+        terms: 0,
+    }
+}
+
+// Reads the case and asks for its candidate.
+pub fn candidate_of(bytes: &[u8], out: &mut [Term], work: &mut [Number]) -> CandidateRecord
+    ensures { λ r. ⌜ Answered (now (bytes .entry)) (now (out .entry)) (now (work .entry)) (record { found = r; output = now (out .exit); work = now (work .exit) }) ⌝ }
+{
+    let mut first = [0; case_file::TERMS];
+    let mut second = [0; case_file::TERMS];
+    let mut skeleton = [0; case_file::KEYS];
+    let mut points = [0; case_file::POINT_NUMBERS];
+    let counts = input::read_case(bytes, &mut first, &mut second, &mut skeleton, &mut points);
+    let fault = counts.fault;
+    if fault.number != 0 {
+        return refused(fault);
+    }
+    let a = counts.first;
+    let b = counts.second;
+    let keys = counts.skeleton;
+    let numbers = counts.points;
+    divisor::candidate(
+        counts.modulus,
+        &first[..a],
+        &second[..b],
+        &skeleton[..keys],
+        &points[..numbers],
+        out,
+        work,
+    )
+}
+
+// Prints what is found: the first line, and a line for each term.
+pub fn print_candidate_of(bytes: &[u8]) {
+    let mut out = [0; case_file::KEYS];
+    let mut work = [0; WORK_ROOM];
+    let found = candidate_of(bytes, &mut out, &mut work);
+    let terms = found.terms;
+    print::candidate(found);
+    print::terms(&out[..terms]);
+}

@@ -1,0 +1,38 @@
+// Reads a case file from standard input and prints a line for each of its points: number, place, degree and the eight coefficients of the image.
+use case_file::COORDINATES;
+use console::input;
+use console::print;
+use field::Number;
+use poly::Term;
+
+fn print_images(p: Number, first: &[Term], second: &[Term], points: &[Number]) {
+    let mut i: usize = 0;
+    while i + COORDINATES <= points.len() {
+        let end = i + COORDINATES;
+        print::image(poly::image::image(p, first, second, &points[i..end]));
+        i = end;
+    }
+}
+
+fn print_images_of(bytes: &[u8]) {
+    let mut first = [0; case_file::TERMS];
+    let mut second = [0; case_file::TERMS];
+    let mut skeleton = [0; case_file::KEYS];
+    let mut points = [0; case_file::POINT_NUMBERS];
+    let counts = input::read_case(bytes, &mut first, &mut second, &mut skeleton, &mut points);
+    let fault = counts.fault;
+    if fault.number != 0 {
+        print::fault(fault);
+        return;
+    }
+    let a = counts.first;
+    let b = counts.second;
+    let n = counts.points;
+    print_images(counts.modulus, &first[..a], &second[..b], &points[..n]);
+}
+
+fn main() {
+    let mut bytes = io::buffer();
+    let n = input::read_file(&mut bytes);
+    print_images_of(&bytes[..n]);
+}

@@ -1,0 +1,52 @@
+-- A reader's refusal, and the quotient service's answer to what was read, meet the promise of a call on a file; two results that meet it are equal.
+-- Assumes nothing.
+use Prim.Native.Nat.{ℕ}
+use mathlib.Core.Path.{_≡_}
+use mathlib.Core.List.{List}
+use lib.ListN.{take}
+use Rattle.io.specs.Counts.{Counts}
+use Rattle.field.specs.declared.Fault.{Fault}
+use Rattle.case_file.specs.declared.Counts.{Counts as CaseCounts}
+use Rattle.case_file.specs.Reading.{read}
+use Rattle.case_file.specs.Handed.{fault}
+use Rattle.poly.specs.Quotient.{QuotientCall, QuotientResult, Quotient}
+use Rattle.poly.specs.Laws.Quotient.{quotient-determined}
+use Rattle.console.specs.Lists.{Lists}
+use Rattle.console.specs.OfFileLaws.{of-file-refused, of-file-asked, of-file-has, of-file-determined}
+use Rattle.console.specs.TermsFirst.{none-first, quotient-first}
+use Rattle.quotient.specs.QuotientOfFile.{unread, call, QuotientOfFile, Answered}
+
+abbrev TermsFirst : QuotientResult → Type 0
+TermsFirst r = Counts (r .found .terms) (r .output)
+
+module _ (bytes output work : List ℕ) where
+  answered : (r : QuotientResult) → QuotientOfFile output work bytes r → Answered bytes output work r
+  answered r f =
+      record {
+        is = f;
+        terms-first = of-file-has _ _ bytes TermsFirst (λ g. none-first output) (λ o. quotient-first (call output work o)) r f;
+      }
+
+  pub answered-refused : (f : Fault) → f ≡ fault (read bytes) → ¬ (f .number ≡ 0) → Answered bytes output work (unread output work f)
+  answered-refused f e n = answered _ (of-file-refused _ _ bytes f e n)
+
+  module _ (counts : CaseCounts) (first second skeleton points : List ℕ) (lists : Lists (read bytes) counts first second skeleton points) where
+    -- the call that is made
+    abbrev made : QuotientCall
+    made =
+        record {
+          modulus = counts .modulus;
+          first-list = take (counts .first) first;
+          second-list = take (counts .second) second;
+          output = output;
+          work = work;
+        }
+
+    made-is : made ≡ call output work (read bytes)
+    made-is = rw (lists .modulus-is, lists .first-list .is, lists .second-list .is)
+
+    pub answered-asked : (r : QuotientResult) → counts .fault .number ≡ 0 → Quotient made r → Answered bytes output work r
+    answered-asked r z q = answered r (of-file-asked _ _ bytes (counts .fault) (lists .fault-is) z r (rw made-is at q))
+
+  pub answered-determined : (r q : QuotientResult) → Answered bytes output work r → Answered bytes output work q → r ≡ q
+  answered-determined r q x y = of-file-determined _ _ bytes (λ o. quotient-determined (call output work o)) r q (x .is) (y .is)

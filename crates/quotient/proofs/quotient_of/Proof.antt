@@ -1,0 +1,53 @@
+-- `quotient::quotient_of` meets its contract: the reader's refusal, or the service's answer to the lists that were read. Assumes nothing.
+use borrow.Author.Needs.{needs}
+use Rattle.quotient.proofs.Answered.{answered-refused, answered-asked}
+use Rattle.quotient.proofs.quotient_of.Statement.{statement}
+use Rattle.quotient.proofs.quotient_of.Tie as tie
+
+read-case-requires : tie.Need-read-case-requires
+read-case-requires c κs = search needs
+
+returns : tie.Need-returns
+returns c = answered-refused _ _ _ _ (c .before .before .before .read-case .ensures .fault-is) (c .if1 .taken)
+
+array-share-prefix-first : tie.Need-array-share-prefix-first
+array-share-prefix-first c = search needs
+
+slice-aggregate-quotient : tie.Need-slice-aggregate-quotient
+slice-aggregate-quotient c = search needs
+
+array-share-prefix-second : tie.Need-array-share-prefix-second
+array-share-prefix-second c = search needs
+
+slice-aggregate-quotient-2 : tie.Need-slice-aggregate-quotient-2
+slice-aggregate-quotient-2 c = search needs
+
+quotient-requires : tie.Need-quotient-requires
+quotient-requires c κs = search needs
+
+same-length : tie.Need-same-length
+same-length c = search needs
+
+same-length-2 : tie.Need-same-length-2
+same-length-2 c = search needs
+
+returns-2 : tie.Need-returns-2
+returns-2 c =
+    let asked = c .before .before .before .before in
+    let tested = asked .before .before .before .before .before in
+    answered-asked _ _ _ _ _ _ _ _ (tested .before .before .before .read-case .ensures) _ (tested .if1 .left) (asked .quotient .ensures)
+
+pub quotient-of-spec : {M : Type 1} → statement M
+quotient-of-spec =
+    tie.close
+    (tie.spec
+    read-case-requires
+    returns
+    array-share-prefix-first
+    slice-aggregate-quotient
+    array-share-prefix-second
+    slice-aggregate-quotient-2
+    quotient-requires
+    same-length
+    same-length-2
+    returns-2)

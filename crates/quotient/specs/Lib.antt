@@ -1,0 +1,2 @@
+-- What the program's function on bytes promises.
+pub mod QuotientOfFile

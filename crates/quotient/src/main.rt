@@ -1,0 +1,38 @@
+// Reads a case file from standard input and prints A over B: `0 0` and a line for each term, or number and place.
+ghost use Rattle.quotient.specs.QuotientOfFile.{Answered};
+use console::input;
+use console::print;
+use field::Number;
+use poly::QuotientRecord;
+use poly::Term;
+use poly::division::KEYS;
+use poly::division::WORK_ROOM;
+
+// Reads the case and asks for its quotient.
+fn quotient_of(bytes: &[u8], out: &mut [Term], work: &mut [Number]) -> QuotientRecord
+    ensures { λ r. ⌜ Answered (now (bytes .entry)) (now (out .entry)) (now (work .entry)) (record { found = r; output = now (out .exit); work = now (work .exit) }) ⌝ }
+{
+    let mut first = [0; case_file::TERMS];
+    let mut second = [0; case_file::TERMS];
+    let mut skeleton = [0; case_file::KEYS];
+    let mut points = [0; case_file::POINT_NUMBERS];
+    let counts = input::read_case(bytes, &mut first, &mut second, &mut skeleton, &mut points);
+    let fault = counts.fault;
+    if fault.number != 0 {
+        return QuotientRecord { fault, terms: 0 };
+    }
+    let a = counts.first;
+    let b = counts.second;
+    poly::quotient::quotient(counts.modulus, &first[..a], &second[..b], out, work)
+}
+
+fn main() {
+    let mut bytes = io::buffer();
+    let n = input::read_file(&mut bytes);
+    let mut out = [0; KEYS];
+    let mut work = [0; WORK_ROOM];
+    let found = quotient_of(&bytes[..n], &mut out, &mut work);
+    let terms = found.terms;
+    print::fault(found.fault);
+    print::terms(&out[..terms]);
+}
