@@ -1,3 +1,4 @@
 -- Laws that belong to no single function.
 pub mod First
 pub mod Answered
+pub mod Settled

@@ -7,10 +7,10 @@ use case_file::PointNumbers;
 use case_file::Terms;
 use libc::STDIN_FILENO;
 
-// As much of a case file as settles the reader's answer, whatever stands after it.
+// As much of a case file as settles what is found of it, whatever stands after it: the law `of-file-settled`.
 pub const ENOUGH: usize = 4096;
 
-// Reads the whole file, or as much as settles the answer: how many bytes.
+// Reads the whole file, or as much as settles what is found of it: how many bytes.
 pub fn read_file(bytes: &mut [u8; ENOUGH]) -> usize
     ensures { λ r. ⌜ Counts r (now (bytes .exit)) ⌝ }
 {
