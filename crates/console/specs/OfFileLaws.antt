@@ -2,10 +2,22 @@
 use Prim.Native.Nat.{ℕ}
 use mathlib.Core.Path.{_≡_, refl, sym, _∙_, ap}
 use mathlib.Core.List.{List}
+use lib.ListN.{getD}
 use Rattle.field.specs.declared.Fault.{Fault}
+use Rattle.case_file.specs.declared.Counts.{Counts as CaseCounts}
+use Rattle.case_file.specs.Format.{modulus-kind}
 use Rattle.case_file.specs.Reading.{Reading, read}
-use Rattle.case_file.specs.Handed.{fault}
+use Rattle.case_file.specs.Handed.{fault, list}
+use Rattle.console.specs.Lists.{Lists}
 use Rattle.console.specs.OfFile.{OfFile, refused, asked}
+
+-- what the reader gives beside the lists
+module _ {o : Reading} {r : CaseCounts} {first second skeleton points : List ℕ} (lists : Lists o r first second skeleton points) where
+  pub lists-fault : r .fault ≡ fault o
+  lists-fault = ap (λ (q : CaseCounts). q .fault) (lists .given .record-is)
+
+  pub lists-modulus : r .modulus ≡ getD (list o modulus-kind) 0 0
+  lists-modulus = ap (λ (q : CaseCounts). q .modulus) (lists .given .record-is)
 
 module _ {Found : Type 0} (unread : Fault → Found) (Answer : Reading → Found → Type 0) (bytes : List ℕ) where
   -- where f is what the reader gives

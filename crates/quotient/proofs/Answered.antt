@@ -12,7 +12,7 @@ use Rattle.case_file.specs.Handed.{fault}
 use Rattle.poly.specs.Quotient.{QuotientCall, QuotientResult, Quotient}
 use Rattle.poly.specs.Laws.Quotient.{quotient-determined}
 use Rattle.console.specs.Lists.{Lists}
-use Rattle.console.specs.OfFileLaws.{of-file-refused, of-file-asked, of-file-has, of-file-determined}
+use Rattle.console.specs.OfFileLaws.{lists-fault, lists-modulus, of-file-refused, of-file-asked, of-file-has, of-file-determined}
 use Rattle.console.specs.TermsFirst.{none-first, quotient-first}
 use Rattle.quotient.specs.QuotientOfFile.{unread, call, QuotientOfFile, Answered}
 
@@ -43,10 +43,10 @@ module _ (bytes output work : List ℕ) where
         }
 
     made-is : made ≡ call output work (read bytes)
-    made-is = rw (lists .modulus-is, lists .first-list .is, lists .second-list .is)
+    made-is = rw (lists-modulus lists, lists .first-list .is, lists .second-list .is)
 
     pub answered-asked : (r : QuotientResult) → counts .fault .number ≡ 0 → Quotient made r → Answered bytes output work r
-    answered-asked r z q = answered r (of-file-asked _ _ bytes (counts .fault) (lists .fault-is) z r (rw made-is at q))
+    answered-asked r z q = answered r (of-file-asked _ _ bytes (counts .fault) (lists-fault lists) z r (rw made-is at q))
 
   pub answered-determined : (r q : QuotientResult) → Answered bytes output work r → Answered bytes output work q → r ≡ q
   answered-determined r q x y = of-file-determined _ _ bytes (λ o. quotient-determined (call output work o)) r q (x .is) (y .is)

@@ -1,5 +1,6 @@
 -- `quotient::quotient_of` meets its contract: the reader's refusal, or the service's answer to the lists that were read. Assumes nothing.
 use borrow.Author.Needs.{needs}
+use Rattle.console.specs.OfFileLaws.{lists-fault}
 use Rattle.quotient.proofs.Answered.{answered-refused, answered-asked}
 use Rattle.quotient.proofs.quotient_of.Statement.{statement}
 use Rattle.quotient.proofs.quotient_of.Tie as tie
@@ -8,7 +9,7 @@ read-case-requires : tie.Need-read-case-requires
 read-case-requires c κs = search needs
 
 returns : tie.Need-returns
-returns c = answered-refused _ _ _ _ (c .before .before .before .read-case .ensures .fault-is) (c .if1 .taken)
+returns c = answered-refused _ _ _ _ (lists-fault (c .before .before .before .read-case .ensures)) (c .if1 .taken)
 
 array-share-prefix-first : tie.Need-array-share-prefix-first
 array-share-prefix-first c = search needs

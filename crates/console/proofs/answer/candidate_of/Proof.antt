@@ -1,5 +1,6 @@
 -- `console::answer::candidate_of` meets its contract: the reader's refusal, or the candidate's answer to the lists that were read. Assumes nothing.
 use borrow.Author.Needs.{needs}
+use Rattle.console.specs.OfFileLaws.{lists-fault}
 use Rattle.console.proofs.Answered.{answered-refused, answered-asked}
 use Rattle.console.proofs.answer.candidate_of.Statement.{statement}
 use Rattle.console.proofs.answer.candidate_of.Tie as tie
@@ -12,7 +13,7 @@ refused-requires c κs = search needs
 
 returns : tie.Need-returns
 returns c =
-    rw (c .refused .ensures) (answered-refused _ _ _ _ (c .before .before .before .before .read-case .ensures .fault-is) (c .before .if1 .taken))
+    rw (c .refused .ensures) (answered-refused _ _ _ _ (lists-fault (c .before .before .before .before .read-case .ensures)) (c .before .if1 .taken))
 
 array-share-prefix-first : tie.Need-array-share-prefix-first
 array-share-prefix-first c = search needs

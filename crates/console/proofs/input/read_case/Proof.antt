@@ -13,8 +13,7 @@ returns : tie.Need-returns
 returns c =
     let h = c .read-into .ensures in
     record {
-      fault-is = ap (λ (r : Counts). r .fault) (h .record-is);
-      modulus-is = ap (λ (r : Counts). r .modulus) (h .record-is);
+      given = h;
       first-list = padded-first _ _ _ _ (ap (λ (r : Counts). r .first) (h .record-is)) (h .first-is);
       second-list = padded-first _ _ _ _ (ap (λ (r : Counts). r .second) (h .record-is)) (h .second-is);
       skeleton-list = padded-first _ _ _ _ (ap (λ (r : Counts). r .skeleton) (h .record-is)) (h .skeleton-is);
