@@ -7,7 +7,6 @@ use Rattle.algebra.specs.Ring.{CommRing}
 use Rattle.algebra.specs.Series.{Seq, SeriesR}
 use Rattle.algebra.specs.Degree.{Domain, SeriesD}
 use Rattle.algebra.specs.Maps.{Hom, SeriesH, flipH}
-use Rattle.algebra.specs.Divides.{Div}
 
 unfoldable pub sum : ℕ → (ℕ → ℕ) → ℕ
 sum zero h = 0
@@ -24,10 +23,6 @@ le-sum (suc N) h n l = elim (ℕ-discrete n N) [
 -- a homomorphism that keeps the finite elements
 unfoldable pub Keeps : (R S : CommRing) (D : Domain R) (E : Domain S) → Hom R S → Type 0
 Keeps R S D E φ = (a : R .Car) → D .P a → E .P (φ .fn a)
-
-pub div-hom : (R S : CommRing) (D : Domain R) (E : Domain S) (φ : Hom R S) → Keeps R S D E φ → (e f : R .Car) → Div R D e f → Div S E (φ .fn e) (φ .fn f)
-unfolding Keeps
-div-hom R S D E φ k e f d = record { quo = φ .fn (d .quo); fin = k (d .quo) (d .fin); eq = sym (φ .mul _ _) ∙ ap (φ .fn) (d .eq) }
 
 pub keeps-map : (R S : CommRing) (D : Domain R) (E : Domain S) (φ : Hom R S) → Keeps R S D E φ → Keeps (SeriesR R) (SeriesR S) (SeriesD R D) (SeriesD S E) (SeriesH R S φ)
 unfolding Keeps

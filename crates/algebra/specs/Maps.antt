@@ -1,12 +1,12 @@
 -- Homomorphisms of rings, coefficientwise, and the swap of the two outermost variables; the value of a series that is cut off.
-use mathlib.Core.Path.{_≡_, refl, sym, _∙_, ap, ap₂, fun-ext, subst}
+use mathlib.Core.Path.{_≡_, refl, sym, _∙_, ap, ap₂, fun-ext}
 use Prim.Native.Nat.{ℕ, zero, suc, _+_ as _+ₙ_, _≤_}
 use native.Mathlib.Nat.{suc-add}
 use native.Mathlib.Omega.{arith}
-use Rattle.algebra.specs.Ring.{CommRing, zero-mul, mul-zero, neg-unique}
+use Rattle.algebra.specs.Ring.{CommRing, zero-mul, mul-zero}
 use Rattle.algebra.specs.Solver.{_⊕_, _⊗_, _≗_, ring4, ring5, ring6}
-use Rattle.algebra.specs.Series.{Seq, tail, addS, scale, constS, conv, conv-const, SeriesR}
-use Rattle.algebra.specs.Degree.{Ends, Top, Domain, Ends-tail, conv-null, top-mul}
+use Rattle.algebra.specs.Series.{Seq, tail, addS, scale, constS, conv, SeriesR}
+use Rattle.algebra.specs.Degree.{Ends, Ends-tail, conv-null}
 
 -- ring homomorphisms
 pub record Hom (R S : CommRing) : Type 0 where
@@ -20,9 +20,6 @@ abbrev pub mapS : (R S : CommRing) → (R .Car → S .Car) → Seq R → Seq S
 mapS R S φ f = λ n. φ (f n)
 
 module _ (R S : CommRing) (φ : Hom R S) where
-  pub hom-neg : (a : R .Car) → φ .fn (R .neg a) ≡ S .neg (φ .fn a)
-  hom-neg a = neg-unique S (φ .fn a) (φ .fn (R .neg a)) (sym (φ .add _ _) ∙ ap (φ .fn) (R .add-neg a) ∙ φ .zero)
-
   pub map-conv : (f g : Seq R) (n : ℕ) → φ .fn (conv R f g n) ≡ conv S (mapS R S (φ .fn) f) (mapS R S (φ .fn) g) n
   unfolding conv
   map-conv f g zero = φ .mul _ _
@@ -51,31 +48,6 @@ module _ (R : CommRing) where
 
   infixl 60 _+_
   infixl 70 _*_
-  -- c at n, and nothing elsewhere: the constant series as a homomorphism
-  pub const-add : (a b : Car) (n : ℕ) → constS R (a + b) n ≡ constS R a n + constS R b n
-  unfolding constS
-  const-add a b zero = refl
-  const-add a b (suc n) = sym (R .add-zero _)
-
-  pub const-zero : (n : ℕ) → constS R 𝟘 n ≡ 𝟘
-  unfolding constS
-  const-zero zero = refl
-  const-zero (suc n) = refl
-
-  pub const-mul : (a b : Car) (n : ℕ) → constS R (a * b) n ≡ conv R (constS R a) (constS R b) n
-  unfolding constS
-  const-mul a b zero = sym (conv-const R b (constS R a) zero)
-  const-mul a b (suc n) = sym (conv-const R b (constS R a) (suc n) ∙ zero-mul R b)
-
-  abbrev pub constH : Hom R (SeriesR R)
-  constH = record {
-    fn = constS R;
-    zero = fun-ext const-zero;
-    one = refl;
-    add = λ a b. fun-ext (const-add a b);
-    mul = λ a b. fun-ext (const-mul a b);
-  }
-
   middle : (x y z w : Car) → (x + y) + (z + w) ≡ (x + z) + (y + w)
   middle = ring4 R (λ x y z w. (x ⊕ y) ⊕ (z ⊕ w) ≗ (x ⊕ z) ⊕ (y ⊕ w)) tt
 
@@ -161,12 +133,6 @@ module _ (R : CommRing) where
       ∙ ev-mul a (f zero) (g zero) (eval (M +ₙ N) a (tail g)) (eval M a (tail f)) (eval N a g)
       ∙ ap (λ u. f zero * u + a * eval M a (tail f) * eval N a g) (eval-past N (suc (M +ₙ N)) a g (omega arith) hg)
       ∙ sym (R .distrib _ _ _))
-
-  -- evaluation commutes with a homomorphism's map: stated below
-  -- the degree in the inner of two variables adds too
-  pub top-inner : (D : Domain (SeriesR R)) (m n : ℕ) (f g : ℕ → ℕ → Car) → D .P (flip f m) → D .P (flip g n)
-      → Top (SeriesR R) m (flip f) → Top (SeriesR R) n (flip g) → Top (SeriesR R) (m +ₙ n) (flip (conv (SeriesR R) f g))
-  top-inner D m n f g pf pg tf tg = subst (Top (SeriesR R) (m +ₙ n)) (sym (flip-mul f g)) (top-mul (SeriesR R) D m n (flip f) (flip g) pf pg tf tg)
 
 module _ (R S : CommRing) (φ : Hom R S) where
   pub map-eval : (N : ℕ) (a : R .Car) (f : Seq R) → φ .fn (eval R N a f) ≡ eval S N (φ .fn a) (mapS R S (φ .fn) f)

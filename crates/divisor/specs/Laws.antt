@@ -24,3 +24,10 @@ pub mod Checks
 pub mod Verdict
 pub mod Seen
 pub mod Answer
+pub mod TableTurns
+pub mod TableRows
+pub mod TableKept
+pub mod TableEntries
+pub mod TableStep
+pub mod TableSolution
+pub mod TableAnswer

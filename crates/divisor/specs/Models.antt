@@ -6,3 +6,5 @@ pub mod Equation
 pub mod Looks
 pub mod Checks
 pub mod Verdict
+pub mod Table
+pub mod TableMeaning

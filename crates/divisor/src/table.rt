@@ -1,7 +1,7 @@
 // The equation table: at most 63 unknowns and a last one that is fixed at 1, so 64 columns. A row that is kept stands at the index of its pivot column,
 // where its cell is 1; where no row is kept the cell on the diagonal is 0. A row kept in the last column says 1 = 0: there is no solution.
 ghost use mathlib.Core.Path.{_≡_};
-ghost use Rattle.divisor.specs.TableModel.{Columns, Column, Back, TableReady, Ready, empty-table, minus, scaled-row, with-row, kind, value, values, solved};
+ghost use Rattle.divisor.specs.Models.Table.{Columns, Column, Back, TableReady, Ready, empty-table, minus, scaled-row, with-row, kind, value, values, solved};
 use field::Element;
 use field::Number;
 

@@ -33,6 +33,11 @@ pub data WrongModulo (p : ℕ) (terms : List ℕ) (i : ℕ) : Type 0 where
   wrong-term : WrongTerm terms i → WrongModulo p terms i
   coefficient-large : i < length terms → p ≤ coefficient-of (getD terms i 0) → WrongModulo p terms i
 
+-- keys strictly falling from below b, coefficients 1 to p - 1
+abbrev pub Falling : ℕ → ℕ → List ℕ → Type 0
+Falling p b [] = Unit {0}
+Falling p b (t ∷ ts) = (key-of t < b) × (0 < coefficient-of t) × (coefficient-of t < p) × Falling p (key-of t) ts
+
 -- a point number that is at least p
 pub record WrongNumber (p : ℕ) (numbers : List ℕ) (i : ℕ) : Type 0 where
   pub there : i < length numbers

@@ -12,7 +12,7 @@ use Rattle.poly.specs.Keys.{keys}
 use Rattle.poly.specs.Terms.{poly}
 use Rattle.poly.specs.Image.{Divides}
 use Rattle.poly.specs.Room.{work-room, cleared}
-use Rattle.poly.specs.Laws.Lists.{Falling}
+use Rattle.poly.specs.Lists.{Falling}
 
 -- a listed modulus, two lists that are not empty and fall, and a work room that is not too short
 pub record CanDivide (p : ℕ) (dividend divisor work : List ℕ) : Type 0 where

@@ -26,10 +26,10 @@ use Rattle.divisor.specs.declared.table.Table.{Table}
 use Rattle.divisor.specs.declared.verdict.Verdict.{Verdict}
 use Rattle.divisor.specs.Rule.{report, Kept}
 use Rattle.divisor.specs.Candidate.{Call, table, prime, Numbers, A, B, monomials, lent-points, Result, Candidate}
-use Rattle.divisor.specs.TableModel.{TableReady, empty-table, solved}
-use Rattle.divisor.specs.TableMeaning.{added, rows-of, Says}
-use Rattle.divisor.specs.TableKept.{empty-ready}
-use Rattle.divisor.specs.TableAnswer.{added-ready, table-answers, solved-below, solved-length}
+use Rattle.divisor.specs.Models.Table.{TableReady, empty-table, solved}
+use Rattle.divisor.specs.Models.TableMeaning.{added, rows-of, Says}
+use Rattle.divisor.specs.Laws.TableKept.{empty-ready}
+use Rattle.divisor.specs.Laws.TableAnswer.{added-ready, table-answers, solved-below, solved-length}
 use Rattle.divisor.specs.Models.Checks.{of-skeleton}
 use Rattle.divisor.specs.Models.Rows.{all-rows}
 use Rattle.divisor.specs.Models.Sorting.{Within, sizes-of, least, alike, kept-of}

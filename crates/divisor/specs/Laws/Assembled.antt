@@ -28,7 +28,7 @@ use Rattle.divisor.specs.declared.table.Row.{Row}
 use Rattle.divisor.specs.declared.table.Kind.the-variants.{None, One, Several}
 use Rattle.divisor.specs.Rule.{report, Kept, Sorted, Unknowns, Solution, OnlySolution, without-zeros, made-monic, divisor, Verdict, none, several, rejected, accepted, all-bad, some-good}
 use Rattle.divisor.specs.Candidate.{Call, table, points-of, prime, Numbers, A, B, monomials, lent-points, Result, Candidate, answered}
-use Rattle.divisor.specs.TableMeaning.{entries, rows-of, Says}
+use Rattle.divisor.specs.Models.TableMeaning.{entries, rows-of, Says}
 use Rattle.divisor.specs.Models.Rows.{all-rows}
 use Rattle.divisor.specs.Models.Sorting.{sizes-of, alike, kept-of}
 use Rattle.divisor.specs.Models.Monic.{monic-terms}

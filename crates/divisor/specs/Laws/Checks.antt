@@ -1,12 +1,12 @@
 -- The checks of skeleton, points and rooms: what the searches settle, line by line; and what inputs that pass have. Assumes nothing.
-use mathlib.Core.Path.{_≡_, refl, ap}
+use mathlib.Core.Path.{_≡_, ap}
 use mathlib.Core.Logic.{_⊎_, inl, inr}
 use mathlib.Core.List.{List}
-use Prim.Native.Nat.{ℕ, zero, suc, _+_, _*_, _/_, _%_, _≤_, _<_}
+use Prim.Native.Nat.{ℕ, _+_, _*_, _/_, _%_, _≤_, _<_}
 use native.Mathlib.Decide.{ℕ-discrete, decLe}
 use native.Mathlib.Omega.{arith}
 use lib.ListN.{length, getD}
-use Rattle.field.specs.Numbers.{SKELETON_COUNT, SKELETON_KEY, POINTS_COUNT, POINT_NUMBER}
+use Rattle.field.specs.Numbers.{SKELETON_KEY, POINT_NUMBER}
 use Rattle.field.specs.Refusal.{fault, none, Passes, Tested}
 use Rattle.field.specs.RefusalLaws.{placed-never, never-placed, tested-line, tested-past, tested-end}
 use Rattle.field.specs.declared.Fault.{Fault}

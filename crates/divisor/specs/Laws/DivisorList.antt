@@ -17,8 +17,9 @@ use Rattle.field.specs.Modulo.{Modulo}
 use Rattle.poly.specs.Keys.{exponents, keys}
 use Rattle.poly.specs.Terms.{Polynomial, key-of, coefficient-of, terms-of}
 use Rattle.poly.specs.Value.{value}
-use Rattle.poly.specs.Laws.Lists.{FallFrom, Falling}
-use Rattle.divisor.specs.Rule.{Kept, Solution, without-zeros, made-monic, divisor}
+use Rattle.poly.specs.Lists.{Falling}
+use Rattle.poly.specs.Laws.Lists.{FallFrom}
+use Rattle.divisor.specs.Rule.{Kept, Solution, without-zeros, made-monic}
 use Rattle.divisor.specs.Models.Monic.{leading, scaled-terms, monic-terms}
 use Rattle.divisor.specs.Laws.Monic.{value-without-zeros, inv-nonzero}
 use Rattle.divisor.specs.Laws.Degree.{solution-at-first}

@@ -23,8 +23,8 @@ use Rattle.poly.specs.Models.Powers.{powers}
 use Rattle.poly.specs.Laws.Powers.{powers-el}
 use Rattle.poly.specs.Laws.ValueMeaning.{at-numbers}
 use Rattle.divisor.specs.declared.table.Row.{Row}
-use Rattle.divisor.specs.TableModel.{cell, RowReady}
-use Rattle.divisor.specs.TableMeaning.{entries, row-of}
+use Rattle.divisor.specs.Models.Table.{cell, RowReady}
+use Rattle.divisor.specs.Models.TableMeaning.{entries, row-of}
 use Rattle.divisor.specs.Models.Rows.{monomial-at, only-at, row}
 use Rattle.divisor.specs.Models.Equation.{monomial-number, IsEquation}
 

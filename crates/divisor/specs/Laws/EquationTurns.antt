@@ -8,7 +8,7 @@ use lib.ListN.{length, getD, set, replicate, length-set, length-replicate, getD-
 use lib.Seq.{getD-set-same, getD-set-other}
 use Rattle.poly.specs.Keys.{exponents}
 use Rattle.divisor.specs.declared.table.Row.{Row}
-use Rattle.divisor.specs.TableModel.{COLUMNS, cell}
+use Rattle.divisor.specs.Models.Table.{COLUMNS, cell}
 use Rattle.divisor.specs.Models.Equation.{monomial-number, IsEquation}
 use Rattle.divisor.specs.Laws.EquationRow.{number-here, number-there}
 

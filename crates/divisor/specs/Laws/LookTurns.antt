@@ -15,9 +15,9 @@ use Rattle.poly.specs.Keys.{exponents}
 use Rattle.divisor.specs.declared.table.Row.{Row}
 use Rattle.divisor.specs.declared.table.Table.{Table}
 use Rattle.divisor.specs.Rule.{Kept}
-use Rattle.divisor.specs.TableModel.{TableReady, empty-table}
-use Rattle.divisor.specs.TableMeaning.{added, row-of, rows-of, AllReady}
-use Rattle.divisor.specs.TableAnswer.{added-append, added-ready, added-columns}
+use Rattle.divisor.specs.Models.Table.{TableReady, empty-table}
+use Rattle.divisor.specs.Models.TableMeaning.{added, row-of, rows-of, AllReady}
+use Rattle.divisor.specs.Laws.TableAnswer.{added-append, added-ready, added-columns}
 use Rattle.divisor.specs.Models.Rows.{rows-at, rows-from}
 use Rattle.divisor.specs.Models.Sorting.{alike}
 use Rattle.divisor.specs.Models.Equation.{kept-numbers, Equations-to}

@@ -18,9 +18,9 @@ use Rattle.poly.specs.Coefficients.{series}
 use Rattle.divisor.specs.declared.table.Row.{Row}
 use Rattle.divisor.specs.declared.table.Table.{Table}
 use Rattle.divisor.specs.Rule.{Kept}
-use Rattle.divisor.specs.TableModel.{TableReady, RowReady, with-row}
-use Rattle.divisor.specs.TableMeaning.{row-of, rows-of, added, AllReady}
-use Rattle.divisor.specs.TableAnswer.{added-append, added-ready, added-columns}
+use Rattle.divisor.specs.Models.Table.{TableReady, RowReady, with-row}
+use Rattle.divisor.specs.Models.TableMeaning.{row-of, rows-of, added, AllReady}
+use Rattle.divisor.specs.Laws.TableAnswer.{added-append, added-ready}
 use Rattle.divisor.specs.Models.Rows.{row, rows-at}
 use Rattle.divisor.specs.Models.Equation.{IsEquation, Equations-to, kept-numbers}
 use Rattle.divisor.specs.Laws.EquationRow.{equation-ready, equation-row}
@@ -56,9 +56,6 @@ module _ (p : ℕ) (t : Table) (ks point image : List ℕ) (column : ℕ) where
   -- the table is ready for the next equation
   pub point-ready : (j : ℕ) (r : Table) → TableReady p t → Equations-to j p t ks point image column r → TableReady p r
   point-ready j r ready h = subst (TableReady p) (sym (h .adds)) (added-ready p t (h .rows) ready (h .ready))
-
-  pub point-columns : (j : ℕ) (r : Table) → Equations-to j p t ks point image column r → r .columns ≡ t .columns
-  point-columns j r h = ap (λ (s : Table). s .columns) (h .adds) ∙ added-columns p t (h .rows) (h .ready)
 
   -- one more power of x
   pub point-next : (j : ℕ) (r : Table) (u : ℕ) (e : Row) (s : Table) → 0 < p → getD image j 0 < p → u ≡ (p - getD image j 0) % p

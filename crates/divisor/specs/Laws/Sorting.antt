@@ -18,7 +18,7 @@ use Rattle.poly.specs.Coefficients.{series}
 use Rattle.poly.specs.Image.{Image}
 use Rattle.poly.specs.ImageCall.{PointAnswer, bad, good}
 use Rattle.divisor.specs.Rule.{Kept, Sorted, AllBad, done, bad as bad-point, unlucky, keep}
-use Rattle.divisor.specs.Models.Sorting.{size-of, sizes-of, lesser, least-from, least, alike, kept-of}
+use Rattle.divisor.specs.Models.Sorting.{size-of, sizes-of, lesser, least-from, alike, kept-of}
 
 -- what the lesser of two sizes is
 pub data Lesser (a b : ℕ) : ℕ → Type 0 where

@@ -12,7 +12,7 @@ use Rattle.field.specs.Numbers.{NO_SOLUTION, SEVERAL_SOLUTIONS, DOES_NOT_DIVIDE
 use Rattle.poly.specs.Room.{work-room, written, cleared}
 use Rattle.poly.specs.TrialDivision.{CanDivide, TrialDivision}
 use Rattle.poly.specs.Keys.{keys}
-use Rattle.poly.specs.Laws.Lists.{Falling}
+use Rattle.poly.specs.Lists.{Falling}
 use Rattle.poly.specs.Laws.Room.{zeroed-length, zeroed-beyond, zeroed-same}
 use Rattle.divisor.specs.declared.monic.Divisor.{Divisor}
 use Rattle.divisor.specs.declared.table.Kind.the-variants.{None, One, Several}

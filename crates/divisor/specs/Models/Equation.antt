@@ -14,8 +14,8 @@ use Rattle.poly.specs.ImageCall.{point-of}
 use Rattle.divisor.specs.declared.table.Row.{Row}
 use Rattle.divisor.specs.declared.table.Table.{Table}
 use Rattle.divisor.specs.Rule.{Kept}
-use Rattle.divisor.specs.TableModel.{COLUMNS, cell, TableReady}
-use Rattle.divisor.specs.TableMeaning.{added, rows-of, AllReady}
+use Rattle.divisor.specs.Models.Table.{COLUMNS, cell, TableReady}
+use Rattle.divisor.specs.Models.TableMeaning.{added, rows-of, AllReady}
 use Rattle.divisor.specs.Models.Rows.{rows-at}
 
 -- the coefficient of x^i of the monomial with the key k, where the powers of y, z and w are given

@@ -21,8 +21,8 @@ use Rattle.poly.specs.Models.Image.{image-of}
 use Rattle.divisor.specs.declared.table.Row.{Row}
 use Rattle.divisor.specs.declared.table.Table.{Table}
 use Rattle.divisor.specs.Rule.{Kept}
-use Rattle.divisor.specs.TableModel.{COLUMNS, empty-table}
-use Rattle.divisor.specs.TableMeaning.{added, rows-of, AllReady}
+use Rattle.divisor.specs.Models.Table.{COLUMNS, empty-table}
+use Rattle.divisor.specs.Models.TableMeaning.{added, rows-of, AllReady}
 use Rattle.divisor.specs.Models.Rows.{rows-at, rows-from}
 use Rattle.divisor.specs.Models.Sorting.{size-of, alike}
 use Rattle.divisor.specs.Models.Equation.{kept-numbers}

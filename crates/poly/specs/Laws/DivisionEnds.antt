@@ -25,7 +25,7 @@ use Rattle.poly.specs.Keys.{exponents, keys}
 use Rattle.poly.specs.Terms.{key-of, coefficient-of, term-of, terms-of, poly}
 use Rattle.poly.specs.Image.{Divides}
 use Rattle.poly.specs.Laws.KeyDifference.{at-most-says, at-most-of, exponents-difference}
-use Rattle.poly.specs.Laws.Lists.{Falling}
+use Rattle.poly.specs.Lists.{Falling}
 use Rattle.poly.specs.Laws.Falling.{falling-keys}
 use Rattle.poly.specs.Laws.Terms.{poly-lead}
 use Rattle.poly.specs.Laws.GreatestExponents.{most-exponents, sizes}
@@ -164,13 +164,3 @@ module _ (p : ℕ) (P : Prime p) (word : p ≤ 65536) where
           division = divided-division f g sf hf sg hg no-cells [] no-cells-empty;
           few = let e = length-map (found p f g no-cells) (term-of p P) in let m = found-terms-few f g no-cells in omega arith;
         }
-
-    pub divides-decided : Dec (Divides (Modulo p P) (poly p P g) (poly p P f))
-    divides-decided = go (divided p f g no-cells [] .whole) refl
-      where
-        says : (divided p f g no-cells [] .whole ≡ true) ↔ Divides (Modulo p P) (poly p P g) (poly p P f)
-        says = divided-says f g sf hf sg hg no-cells [] no-cells-empty
-
-        go : (a : Bool) → divided p f g no-cells [] .whole ≡ a → Dec (Divides (Modulo p P) (poly p P g) (poly p P f))
-        go true e = yes (says .0 e)
-        go false e = no (λ d. let y = says .1 d in let z : _≡_ {A = ℕ} 0 1 = cc in omega arith)

@@ -27,7 +27,7 @@ use Rattle.poly.specs.Keys.{exponents, keys}
 use Rattle.poly.specs.Terms.{key-of, coefficient-of, term-of, terms-of, poly}
 use Rattle.poly.specs.Laws.Keys.{exponents-add, exponents-order}
 use Rattle.poly.specs.Laws.KeyDifference.{and-left, and-right, and-both, at-most-says, at-most-of, exponents-difference, difference-only}
-use Rattle.poly.specs.Laws.Lists.{Falling}
+use Rattle.poly.specs.Lists.{Falling}
 use Rattle.poly.specs.Laws.Falling.{falling-keys}
 use Rattle.poly.specs.Laws.Terms.{poly-head}
 use Rattle.poly.specs.Laws.Dense.{Reduced, MovesUp, dense, dense-at, dense-zero, dense-lead, less-dense, less-reduced, less-length}

@@ -5,10 +5,9 @@ use native.Mathlib.Omega.{arith}
 use lib.ListN.{length, getD}
 use Rattle.poly.specs.Keys.{keys}
 use Rattle.poly.specs.Terms.{key-of, coefficient-of}
-use Rattle.poly.specs.Lists.{WrongModulo}
+use Rattle.poly.specs.Lists.{WrongModulo, Falling}
 use Rattle.poly.specs.Models.Lists.{key-before}
 use Rattle.poly.specs.Models.Division.{KeysBelow}
-use Rattle.poly.specs.Laws.Lists.{Falling}
 use Rattle.poly.specs.Laws.ListCheck.{wrong-within, term-is-right}
 use Rattle.poly.specs.Laws.RightLists.{falling-key, falling-coefficient}
 

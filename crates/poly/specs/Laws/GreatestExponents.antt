@@ -15,7 +15,7 @@ use Rattle.field.specs.Modulo.{Modulo}
 use Rattle.poly.specs.Keys.{key, exponents, keys}
 use Rattle.poly.specs.Terms.{key-of, coefficient-of, poly}
 use Rattle.poly.specs.Laws.Keys.{exponents-injective, exponents-of-key}
-use Rattle.poly.specs.Laws.Lists.{Falling}
+use Rattle.poly.specs.Lists.{Falling}
 use Rattle.poly.specs.Laws.Terms.{poly-lead}
 use Rattle.poly.specs.Models.Division.{KeysBelow, most, most-of, most-key}
 

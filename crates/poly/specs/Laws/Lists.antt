@@ -11,7 +11,7 @@ use Rattle.field.specs.Refusal.{first}
 use Rattle.poly.specs.Keys.{keys}
 use Rattle.poly.specs.Terms.{key-of, coefficient-of, terms-of}
 use Rattle.poly.specs.Value.{x-degree}
-use Rattle.poly.specs.Lists.{WrongKey, above, not-below, wrong-key, coefficient-zero, WrongModulo, wrong-term, coefficient-large}
+use Rattle.poly.specs.Lists.{Falling, WrongKey, above, not-below, wrong-key, coefficient-zero, WrongModulo, wrong-term, coefficient-large}
 use Rattle.poly.specs.Laws.Value.{WithinX}
 
 -- no first wrong place: no wrong place
@@ -52,11 +52,6 @@ pub keys-fall : (ks : List ℕ) → ((i : ℕ) → ¬ WrongKey ks i) → FallFro
 keys-fall [] none = tt
 keys-fall (k ∷ ks) none =
     fall-from keys (k ∷ ks) (elim (decLe keys k) [ yes l ↦ absurd (none 0 (above (omega arith) l)) | no q ↦ omega arith ]) none
-
--- keys strictly falling from below b, coefficients 1 to p - 1
-abbrev pub Falling : ℕ → ℕ → List ℕ → Type 0
-Falling p b [] = Unit {0}
-Falling p b (t ∷ ts) = (key-of t < b) × (0 < coefficient-of t) × (coefficient-of t < p) × Falling p (key-of t) ts
 
 falling-of : (p b : ℕ) (ts : List ℕ) → FallFrom b (map key-of ts) → ((i : ℕ) → ¬ WrongModulo p ts i) → Falling p b ts
 falling-of p b [] h none = tt

@@ -20,11 +20,10 @@ use Rattle.field.specs.RefusalLaws.{OnePlaceEach, placed-one-place, first-one-p
 use Rattle.poly.specs.Keys.{exponents, keys}
 use Rattle.poly.specs.Terms.{key-of, poly}
 use Rattle.poly.specs.Image.{Divides}
-use Rattle.poly.specs.Lists.{of-lists}
+use Rattle.poly.specs.Lists.{of-lists, Falling}
 use Rattle.poly.specs.Room.{written, cleared}
 use Rattle.poly.specs.Quotient.{QuotientCall, quotient-table, IsQuotient, QuotientResult, Quotient, refused, no-quotient, quotient}
 use Rattle.poly.specs.TrialDivision.{CanDivide}
-use Rattle.poly.specs.Laws.Lists.{Falling}
 use Rattle.poly.specs.Laws.RightLists.{lists-are-right}
 use Rattle.poly.specs.Models.WorkRoom.{of-rooms}
 use Rattle.poly.specs.Laws.Terms.{poly-lead, right-lists-equal}

@@ -20,7 +20,7 @@ use Rattle.poly.specs.Keys.{exponents, keys}
 use Rattle.poly.specs.Terms.{key-of, coefficient-of, terms-of, poly}
 use Rattle.poly.specs.Quotient.{IsQuotient}
 use Rattle.poly.specs.Laws.Keys.{key-order-of}
-use Rattle.poly.specs.Laws.Lists.{Falling}
+use Rattle.poly.specs.Lists.{Falling}
 use Rattle.poly.specs.Laws.Falling.{falling-right}
 use Rattle.poly.specs.Laws.Terms.{poly-determines}
 use Rattle.poly.specs.Laws.Spread.{key-of-term, coefficient-of-term, gather-falling, gather-dense}

@@ -12,9 +12,9 @@ use Rattle.field.specs.Refusal.{Passes}
 use Rattle.field.specs.RefusalLaws.{never-placed}
 use Rattle.poly.specs.Keys.{keys}
 use Rattle.poly.specs.Terms.{key-of, coefficient-of}
-use Rattle.poly.specs.Lists.{most-terms, of-lists}
+use Rattle.poly.specs.Lists.{most-terms, of-lists, Falling}
 use Rattle.poly.specs.Models.Lists.{of-terms}
-use Rattle.poly.specs.Laws.Lists.{Falling, terms-fall}
+use Rattle.poly.specs.Laws.Lists.{terms-fall}
 
 pub falling-key : (p b : ℕ) (ts : List ℕ) → Falling p b ts → (i : ℕ) → i < length ts → key-of (getD ts i 0) < b
 falling-key p b [] h i l = absurd (omega arith)

@@ -17,7 +17,7 @@ use Rattle.field.specs.PrimeLaws.{prime-positive}
 use Rattle.field.specs.Modulo.{Modulo}
 use Rattle.poly.specs.Keys.{exponents}
 use Rattle.poly.specs.Terms.{key-of, coefficient-of, poly}
-use Rattle.poly.specs.Laws.Lists.{Falling}
+use Rattle.poly.specs.Lists.{Falling}
 use Rattle.poly.specs.Laws.Dense.{Reduced, dense, dense-set, dense-zero, set-reduced}
 use Rattle.poly.specs.Models.Spread.{spread, gathered}
 

@@ -15,9 +15,9 @@ use Rattle.field.specs.FpLaws.{el-below-inj, el-nonzero}
 use Rattle.field.specs.Modulo.{Modulo}
 use Rattle.poly.specs.Keys.{keys, exponents}
 use Rattle.poly.specs.Terms.{key-of, coefficient-of, term-of, poly}
-use Rattle.poly.specs.Lists.{WrongModulo}
+use Rattle.poly.specs.Lists.{WrongModulo, Falling}
 use Rattle.poly.specs.Laws.Keys.{exponents-order, exponents-injective, key-order-of}
-use Rattle.poly.specs.Laws.Lists.{Falling, terms-fall}
+use Rattle.poly.specs.Laws.Lists.{terms-fall}
 
 -- a term is known by its key and its coefficient
 pub same-term : (t u : ℕ) → key-of t ≡ key-of u → coefficient-of t ≡ coefficient-of u → t ≡ u

@@ -1,7 +1,6 @@
 -- `console::print::line` is safe and ends. The index stays within the numbers; the measure is how many are left. Assumes nothing.
 use Prim.Native.Nat.{_≤_, _-_}
 use lib.ListN.{length}
-use native.Mathlib.Omega.{arith}
 use borrow.Author.Needs.{needs}
 use Rattle.console.proofs.print.line.Statement.{statement}
 use Rattle.console.proofs.print.line.Tie as tie

@@ -8,7 +8,7 @@ use native.Mathlib.Omega.{arith}
 use lib.ListN.{length, take, drop}
 use Rattle.field.specs.Prime.{Prime}
 use Rattle.poly.specs.Coefficients.{Eight}
-use Rattle.divisor.specs.TableKept.{empty-ready}
+use Rattle.divisor.specs.Laws.TableKept.{empty-ready}
 use Rattle.divisor.specs.Models.Sorting.{alike}
 use Rattle.divisor.specs.Models.Looks.{kept-before, Equations-before}
 use Rattle.divisor.specs.Laws.Turns.{alike-same, alike-other}

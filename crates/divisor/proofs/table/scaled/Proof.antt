@@ -6,8 +6,8 @@ use Rattle.field.specs.Fp.{el, inv}
 use Rattle.field.specs.Link.{inverse-val}
 use mathlib.Core.Path.{_≡_, sym, ap, _∙_}
 use Prim.Native.Nat.{ℕ, _+_, _-_, _*_, _%_, _≤_}
-use Rattle.divisor.specs.TableModel.{cell, altered}
-use Rattle.divisor.specs.TableTurns.{altered-turn, altered-end}
+use Rattle.divisor.specs.Models.Table.{cell, altered}
+use Rattle.divisor.specs.Laws.TableTurns.{altered-turn, altered-end}
 use borrow.Author.Needs.{needs}
 use Rattle.divisor.proofs.table.scaled.Statement.{statement}
 use Rattle.divisor.proofs.table.scaled.Tie as tie

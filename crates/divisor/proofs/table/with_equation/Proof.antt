@@ -6,9 +6,9 @@ use Prim.Native.Nat.{ℕ, _+_, _-_, _<_, _≤_}
 use native.Mathlib.Nat.{sub-zero}
 use native.Mathlib.Omega.{arith}
 use lib.ListN.{set}
-use Rattle.divisor.specs.TableModel.{cell, row-at, insert, with-row, minus, Column}
-use Rattle.divisor.specs.TableTurns.{insert-skip, insert-kept, insert-minus, insert-end}
-use Rattle.divisor.specs.TableRows.{minus-below}
+use Rattle.divisor.specs.Models.Table.{cell, row-at, insert, with-row, minus, Column}
+use Rattle.divisor.specs.Laws.TableTurns.{insert-skip, insert-kept, insert-minus, insert-end}
+use Rattle.divisor.specs.Laws.TableRows.{minus-below}
 use borrow.Author.Needs.{needs}
 use Rattle.divisor.proofs.table.with_equation.Statement.{statement}
 use Rattle.divisor.proofs.table.with_equation.Tie as tie

@@ -11,7 +11,7 @@ use borrow.Author.Tests.{eq-eqb, ne-eqb}
 use Rattle.divisor.specs.declared.table.Row.{Row}
 use Rattle.divisor.specs.declared.table.Table.{Table}
 use Rattle.divisor.specs.declared.table.Kind.the-variants.{None, One, Several}
-use Rattle.divisor.specs.TableModel.{row-at, cell, diagonal, altered, minus, kept, insert, kind-from, kind, total, value, back}
+use Rattle.divisor.specs.Models.Table.{row-at, cell, diagonal, altered, minus, kept, insert, kind-from, kind, total, value, back}
 
 -- what is left of n turns at turn i
 more : (i n : ℕ) → i < n → n - i ≡ suc (n - (i + 1))

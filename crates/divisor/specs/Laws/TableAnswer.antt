@@ -20,12 +20,12 @@ use Rattle.divisor.specs.declared.table.Row.{Row}
 use Rattle.divisor.specs.declared.table.Table.{Table}
 use Rattle.divisor.specs.declared.table.Kind.{Kind}
 use Rattle.divisor.specs.declared.table.Kind.the-variants.{None, One, Several}
-use Rattle.divisor.specs.TableModel.{COLUMNS, row-at, diagonal, empty-table, with-row, kind-from, kind, back, zeros, solved-as, solved, TableReady}
-use Rattle.divisor.specs.TableMeaning.{entries, column, last-column, columns-of, table-of, added, rows-of, AllReady, Says}
-use Rattle.divisor.specs.TableStep.{column-free, column-pivot, last-solvable, table-step}
-use Rattle.divisor.specs.TableKept.{empty-cell, empty-ready, with-row-ready, with-row-columns}
-use Rattle.divisor.specs.TableSolution.{values-solve, values-below}
-use Rattle.divisor.specs.TableRows.{replicate-all}
+use Rattle.divisor.specs.Models.Table.{COLUMNS, row-at, diagonal, empty-table, with-row, kind-from, kind, back, zeros, solved-as, solved, TableReady}
+use Rattle.divisor.specs.Models.TableMeaning.{entries, column, last-column, columns-of, table-of, added, rows-of, AllReady, Says}
+use Rattle.divisor.specs.Laws.TableStep.{column-free, column-pivot, last-solvable, table-step}
+use Rattle.divisor.specs.Laws.TableKept.{empty-cell, empty-ready, with-row-ready, with-row-columns}
+use Rattle.divisor.specs.Laws.TableSolution.{values-solve, values-below}
+use Rattle.divisor.specs.Laws.TableRows.{replicate-all}
 
 -- the empty table is that of no equation
 empty-columns : (p columns i n : ℕ) → columns-of p (empty-table columns) i n ≡ fresh n

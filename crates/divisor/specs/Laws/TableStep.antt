@@ -15,12 +15,12 @@ use Rattle.field.specs.Fp.{Fp, el, neg, inv}
 use Rattle.field.specs.Modulo.{Modulo}
 use Rattle.divisor.specs.declared.table.Row.{Row}
 use Rattle.divisor.specs.declared.table.Table.{Table}
-use Rattle.divisor.specs.TableModel.{COLUMNS, no-row, row-at, cell, diagonal, minus, scaled-row, kept, insert, with-row, RowReady, TableReady}
-use Rattle.divisor.specs.TableRows.{minus-ready}
-use Rattle.divisor.specs.TableKept.{insert-all}
-use Rattle.divisor.specs.TableTurns.{insert-at-zero, insert-at-free, insert-at-kept}
-use Rattle.divisor.specs.TableEntries.{el-zero, minus-entries, scaled-entries, scaled-diagonal, zero-times}
-use Rattle.divisor.specs.TableMeaning.{entries, column, last-column, columns-of, row-of, table-of}
+use Rattle.divisor.specs.Models.Table.{COLUMNS, no-row, row-at, cell, diagonal, minus, scaled-row, kept, insert, with-row, RowReady, TableReady}
+use Rattle.divisor.specs.Laws.TableRows.{minus-ready}
+use Rattle.divisor.specs.Laws.TableKept.{insert-all}
+use Rattle.divisor.specs.Laws.TableTurns.{insert-at-zero, insert-at-free, insert-at-kept}
+use Rattle.divisor.specs.Laws.TableEntries.{el-zero, minus-entries, scaled-entries, scaled-diagonal, zero-times}
+use Rattle.divisor.specs.Models.TableMeaning.{entries, column, last-column, columns-of, row-of, table-of}
 
 -- the columns of a table, by the diagonal
 module _ (p : ℕ) (t : Table) (i : ℕ) where

@@ -13,7 +13,7 @@ use Rattle.divisor.specs.declared.table.Row.{Row}
 use Rattle.divisor.specs.declared.table.Table.{Table}
 use Rattle.divisor.specs.declared.table.Kind.{Kind}
 use Rattle.divisor.specs.declared.table.Kind.the-variants.{None, One, Several}
-use Rattle.divisor.specs.TableModel.{row-at, diagonal, with-row, RowReady}
+use Rattle.divisor.specs.Models.Table.{row-at, diagonal, with-row, RowReady}
 
 -- n numbers from place i on
 unfoldable pub entries : (p : ℕ) → List ℕ → ℕ → ℕ → List (Fp p)

@@ -21,11 +21,11 @@ use Rattle.field.specs.Link.{plus-times-el, opposite-el}
 use Rattle.field.specs.Modulo.{Modulo}
 use Rattle.divisor.specs.declared.table.Row.{Row}
 use Rattle.divisor.specs.declared.table.Table.{Table}
-use Rattle.divisor.specs.TableModel.{COLUMNS, row-at, cell, diagonal, total, value, back, values, zeros, TableReady}
-use Rattle.divisor.specs.TableEntries.{entries-set}
-use Rattle.divisor.specs.TableRows.{replicate-all, set-all}
-use Rattle.divisor.specs.TableMeaning.{entries, last-column, columns-of, table-of}
-use Rattle.divisor.specs.TableStep.{column-pivot}
+use Rattle.divisor.specs.Models.Table.{COLUMNS, row-at, cell, diagonal, total, value, back, values, zeros, TableReady}
+use Rattle.divisor.specs.Laws.TableEntries.{entries-set}
+use Rattle.divisor.specs.Laws.TableRows.{replicate-all, set-all}
+use Rattle.divisor.specs.Models.TableMeaning.{entries, last-column, columns-of, table-of}
+use Rattle.divisor.specs.Laws.TableStep.{column-pivot}
 
 total-below : (p : ℕ) → 0 < p → (n k : ℕ) (e : Row) (v : List ℕ) (a : ℕ) → a < p → total n k p e v a < p
 unfolding total

@@ -16,9 +16,9 @@ use Rattle.field.specs.FpLaws.{el-inj, el-val}
 use Rattle.field.specs.Link.{product-el, plus-times-el, opposite-el}
 use Rattle.field.specs.Modulo.{Modulo}
 use Rattle.divisor.specs.declared.table.Row.{Row}
-use Rattle.divisor.specs.TableModel.{COLUMNS, cell, minus, scaled-row}
-use Rattle.divisor.specs.TableRows.{altered-at}
-use Rattle.divisor.specs.TableMeaning.{entries}
+use Rattle.divisor.specs.Models.Table.{COLUMNS, cell, minus, scaled-row}
+use Rattle.divisor.specs.Laws.TableRows.{altered-at}
+use Rattle.divisor.specs.Models.TableMeaning.{entries}
 
 -- below p only 0 is 0
 pub el-zero : (p c : ℕ) → c < p → el p c ≡ el p 0 → c ≡ 0

@@ -8,7 +8,7 @@ use native.Mathlib.Omega.{arith}
 use lib.ListN.{length, getD, set, replicate, length-set}
 use lib.Seq.{getD-set-same, getD-set-other}
 use Rattle.divisor.specs.declared.table.Row.{Row}
-use Rattle.divisor.specs.TableModel.{cell, altered, minus, scaled-row, RowReady}
+use Rattle.divisor.specs.Models.Table.{cell, altered, minus, scaled-row, RowReady}
 
 pub set-all : {A : Type 0} (P : A → Type 0) (l : List A) (i k : ℕ) (a d : A) → P a → P (getD l k d) → P (getD (set l i a) k d)
 set-all P [] i k a d new old = old
