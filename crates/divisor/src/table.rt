@@ -80,18 +80,19 @@ fn scaled(row: Row, j: usize, columns: usize, p: Number) -> Row
 }
 
 // One more equation: column after column the kept row is taken off, and the equation is kept in the first column where none is and its cell is not 0.
+// The table is copied once, at the top: with a copy where a row is kept there would be two tables to hand back, and each way out would copy again.
 pub fn with_equation(t: Table, e: Row, p: Number) -> Table
     requires { ⌜ Ready p t e ⌝ }
     ensures { λ r. ⌜ r ≡ with-row p t e ⌝ }
 {
     let columns = t.columns;
+    let mut s = t;
     let mut row = e;
     let mut j: usize = 0;
     while j < columns {
         if row.cells[j] != 0 {
-            let pivot = t.rows[j];
+            let pivot = s.rows[j];
             if pivot.cells[j] == 0 {
-                let mut s = t;
                 s.rows[j] = scaled(row, j, columns, p);
                 return s;
             }
@@ -99,7 +100,7 @@ pub fn with_equation(t: Table, e: Row, p: Number) -> Table
         }
         j += 1;
     }
-    t
+    s
 }
 
 // The same on a table that is lent.
