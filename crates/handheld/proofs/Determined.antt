@@ -20,7 +20,7 @@ use Rattle.case_file.specs.Reading.{read}
 use Rattle.case_file.specs.Handed.{contents}
 use Rattle.handheld.specs.Layout.{Laid, laid, of-fault, of-answer, of-quotient, of-candidate, of-image, of-contents}
 
--- two layouts of what one promise holds of are equal
+-- two results that meet one contract are equal
 abbrev pub Determined : {Found Left : Type 0} → (Found → Left) → (Found → Type 0) → Type 0
 Determined {Left = Left} layout Promise = (l m : Left) → Laid layout Promise l → Laid layout Promise m → l ≡ m
 
