@@ -1,0 +1,143 @@
+/* Asks each service of the library where it answers and where it refuses, and prints the records with what is left in the buffers.
+ * A = x^2 y - y and B = x + 1 modulo 17: A over B is xy - y. */
+#include "balungkiro.h"
+
+#include <stdio.h>
+#include <string.h>
+
+enum { X = 512, Y = 64, P = 17 };
+
+#define TERM(key, coefficient) ((uint32_t)(key) * 65536 + (coefficient))
+#define COUNT(list) (sizeof(list) / sizeof *(list))
+
+static const uint32_t A[] = { TERM(2 * X + Y, 1), TERM(Y, 16) };
+static const uint32_t B[] = { TERM(X, 1), TERM(0, 1) };
+
+static void print_record(const char *call, const size_t *record, size_t count)
+{
+    size_t i;
+    printf("%s:", call);
+    for (i = 0; i < count; i++)
+        printf(" %zu", record[i]);
+    printf("\n");
+}
+
+/* The image at a point; the eight numbers are 9 before the call. */
+static void image(const char *call, const uint16_t *point, size_t count)
+{
+    uint16_t u[BALUNGKIRO_COEFFICIENTS] = { 9, 9, 9, 9, 9, 9, 9, 9 };
+    size_t record[3], i;
+    balungkiro_image(P, A, COUNT(A), B, COUNT(B), point, count, u, record);
+    print_record(call, record, COUNT(record));
+    for (i = 0; i < COUNT(u); i++)
+        printf("%s%u", i == 0 ? "  coefficients " : " ", u[i]);
+    printf("\n");
+}
+
+/* First over second, in an output and a work room whose numbers are 9 before the call, with one number more than is used. */
+static void quotient(const char *call, const uint32_t *first, size_t m, const uint32_t *second, size_t n, size_t room)
+{
+    static uint32_t out[BALUNGKIRO_QUOTIENT + 1];
+    static uint16_t work[BALUNGKIRO_WORK + 1];
+    size_t record[3], i, left = 0, nonzero = 0;
+    for (i = 0; i < COUNT(out); i++)
+        out[i] = 9;
+    for (i = 0; i < COUNT(work); i++)
+        work[i] = 9;
+    balungkiro_quotient(P, first, m, second, n, out, COUNT(out), work, room, record);
+    print_record(call, record, COUNT(record));
+    for (i = 0; i < record[2]; i++)
+        printf("  term %lu\n", (unsigned long)out[i]);
+    for (i = record[2]; i < COUNT(out); i++)
+        left += out[i] == 9;
+    for (i = 0; i < COUNT(work); i++)
+        nonzero += work[i] != 0;
+    printf("  %zu left in the output, %zu not 0 in the work room\n", left, nonzero);
+}
+
+/* The common divisor of A and B in the monomials x and 1, in an output whose two numbers are 9 before the call. */
+static void candidate(const char *call, size_t room)
+{
+    static const uint16_t skeleton[] = { X, 0 }, points[] = { 0, 0, 0, 1, 0, 0 };
+    static uint16_t work[BALUNGKIRO_WORK];
+    uint32_t out[2] = { 9, 9 };
+    size_t record[7];
+    balungkiro_candidate(P, A, COUNT(A), B, COUNT(B), skeleton, COUNT(skeleton), points, COUNT(points),
+                         out, room, work, COUNT(work), record);
+    print_record(call, record, COUNT(record));
+    printf("  output %lu %lu\n", (unsigned long)out[0], (unsigned long)out[1]);
+}
+
+static void list(const char *call, const uint32_t *terms, size_t count)
+{
+    size_t record[2];
+    balungkiro_check_list(terms, count, record);
+    print_record(call, record, COUNT(record));
+    printf("  leading part %zu\n", balungkiro_leading_part(terms, count));
+}
+
+static void arithmetic(uint16_t modulus, uint16_t value, uint16_t other_modulus, uint16_t other_value)
+{
+    size_t record[4];
+    printf("%u and %u modulo %u and %u\n", value, other_value, modulus, other_modulus);
+    balungkiro_sum(modulus, value, other_modulus, other_value, record);
+    print_record("  sum", record, COUNT(record));
+    balungkiro_difference(modulus, value, other_modulus, other_value, record);
+    print_record("  difference", record, COUNT(record));
+    balungkiro_product(modulus, value, other_modulus, other_value, record);
+    print_record("  product", record, COUNT(record));
+    balungkiro_inverse(modulus, value, record);
+    print_record("  inverse", record, COUNT(record));
+}
+
+/* Reads a part of a case file with modulus 17 and the one term x^2, and a byte after the end, into arrays whose numbers are not 0 before the call. */
+static void file(const char *call, size_t count)
+{
+    static const uint8_t bytes[] = { 1, 17, 0, 2, 1, 0, 0, 4, 6, 0 };
+    uint32_t first[BALUNGKIRO_TERMS], second[BALUNGKIRO_TERMS];
+    uint16_t skeleton[BALUNGKIRO_KEYS], points[BALUNGKIRO_POINT_NUMBERS];
+    size_t record[7], i, nonzero = 0;
+    memset(first, 9, sizeof first);
+    memset(second, 9, sizeof second);
+    memset(skeleton, 9, sizeof skeleton);
+    memset(points, 9, sizeof points);
+    balungkiro_read(bytes, count, first, second, skeleton, points, record);
+    print_record(call, record, COUNT(record));
+    for (i = 0; i < COUNT(first); i++)
+        nonzero += (first[i] != 0) + (second[i] != 0);
+    for (i = 0; i < COUNT(skeleton); i++)
+        nonzero += skeleton[i] != 0;
+    for (i = 0; i < COUNT(points); i++)
+        nonzero += points[i] != 0;
+    printf("  first term %lu, %zu not 0 in the arrays\n", (unsigned long)first[0], nonzero);
+}
+
+int main(void)
+{
+    static const uint16_t good[] = { 1, 0, 0 }, bad[] = { 0, 0, 0 }, large[] = { 1, P, 0 };
+    static const uint32_t rising[] = { TERM(0, 1), TERM(X, 1) };
+    static const uint32_t three[] = { TERM(2 * X + Y, 1), TERM(2 * X, 65535), TERM(X, 1) };
+    image("image at y=1", good, COUNT(good));
+    image("image at y=0, a bad point", bad, COUNT(bad));
+    image("image at two numbers", good, 2);
+    image("image at z=17", large, COUNT(large));
+    quotient("A over B", A, COUNT(A), B, COUNT(B), BALUNGKIRO_WORK + 1);
+    quotient("B over A", B, COUNT(B), A, COUNT(A), BALUNGKIRO_WORK);
+    quotient("A over B in a short work room", A, COUNT(A), B, COUNT(B), BALUNGKIRO_WORK - 1);
+    quotient("A over no list", A, COUNT(A), B, 0, BALUNGKIRO_WORK);
+    candidate("candidate of A and B", 2);
+    candidate("candidate in a short output", 1);
+    list("list of three terms", three, COUNT(three));
+    list("list with rising keys", rising, COUNT(rising));
+    list("list without terms", rising, 0);
+    arithmetic(17, 5, 17, 9);
+    arithmetic(65521, 65520, 65521, 65520);
+    arithmetic(7, 0, 13, 3);
+    arithmetic(7, 7, 7, 3);
+    arithmetic(15, 2, 15, 3);
+    file("case file", 9);
+    file("case file with a byte after the end", 10);
+    file("case file without its end", 8);
+    file("case file cut in the term", 7);
+    return 0;
+}

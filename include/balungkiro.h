@@ -1,0 +1,122 @@
+/* Balungkiro: common divisors of polynomials in x, y, z, w modulo a small prime, and what the rule is built of.
+ *
+ * Link libhandheld.a, which `rt staticlib handheld` proves and writes to target/staticlib (x86-64).
+ * The library keeps no state, allocates nothing, prints nothing, and returns from every call.
+ *
+ * Modulus      one of 7, 13, 17, 101, 32003, 65521; below it is p.
+ * Key          of the monomial x^a y^b z^c w^d, each exponent 0 to 7: 512a + 64b + 8c + d.
+ * Term         key times 65536, plus the coefficient, 1 to p-1.
+ * List         a polynomial: 1 to 256 terms, keys strictly falling.
+ * Skeleton     1 to 32 keys, strictly falling.
+ * Points       1 to 32 triples y, z, w, flat, each number below p.
+ *
+ * A list is lent as a pointer and how many numbers it has. No input is asked to be right: what is wrong is refused by number.
+ * What is asked of every pointer, also beside a length 0: it is not null, it is aligned for its type, and that many numbers stand behind it.
+ * What a call may change (no `const`) overlaps nothing else that is lent to the call.
+ *
+ * Every record begins with number and place. Acceptance is 0, 0. A refusal has the first number of this table that applies:
+ *
+ *    1       modulus not in the list                                             place 0
+ *    2, 4    first, second list has 0 or more than 256 terms                     place 0
+ *    3, 5    a term of first, second has key above 4095, coefficient 0 or
+ *            at least p, or a key not below the one before                       first such term
+ *    6       skeleton has 0 or more than 32 keys                                 place 0
+ *    7       skeleton key above 4095 or not below the one before                 first such key
+ *    8       point numbers: none, more than 96, or not a multiple of 3           place 0
+ *    9       a point number is at least p                                        first such number
+ *    10      output too short                                                    place 0
+ *    11      work room shorter than 8192 numbers                                 place 0
+ *    12      no good point                                                       place 0
+ *    13, 14  equations have no solution, more than one                           place 0
+ *    15      does not divide                                                     place 0
+ *    17      arithmetic operand at least p, or another modulus (before 16)       0 first operand, 1 second
+ *    16      inverse of 0                                                        place 0
+ *    20..25  the case file; see balungkiro_read
+ */
+#ifndef BALUNGKIRO_H
+#define BALUNGKIRO_H
+
+#include <stddef.h>
+#include <stdint.h>
+
+#ifdef __cplusplus
+extern "C" {
+#endif
+
+enum {
+    BALUNGKIRO_TERMS = 256,          /* the most terms of a list */
+    BALUNGKIRO_KEYS = 32,            /* the most keys of a skeleton */
+    BALUNGKIRO_POINT_NUMBERS = 96,   /* the most numbers of points */
+    BALUNGKIRO_COEFFICIENTS = 8,     /* of an image, x^0 to x^7 */
+    BALUNGKIRO_QUOTIENT = 4096,      /* the terms that a quotient's output has room for */
+    BALUNGKIRO_WORK = 8192,          /* the numbers of the work room */
+    BALUNGKIRO_FILE = 4096           /* as many bytes of a case file settle what is read: no need to lend more */
+};
+
+/* The common divisor of first and second that the images at the points fix, in the monomials of the skeleton.
+ * Record: number, place, d (the least degree of an image), bad, unlucky, kept (numbers of points), count of terms.
+ * Numbers 1 to 15. With 1 to 11 the last five are 0; with 12 bad is the number of points and the rest 0; with 13 to 15 the count of terms is 0.
+ * out, at least as long as the skeleton (10): acceptance writes the terms first in it and leaves the rest; a refusal leaves it unchanged.
+ * work, at least 8192 (11): unchanged with 1 to 11, otherwise its first 8192 numbers are 0 and the rest unchanged. */
+void balungkiro_candidate(uint16_t modulus,
+                          const uint32_t *first, size_t first_count,
+                          const uint32_t *second, size_t second_count,
+                          const uint16_t *skeleton, size_t skeleton_count,
+                          const uint16_t *points, size_t points_count,
+                          uint32_t *out, size_t out_count,
+                          uint16_t *work, size_t work_count,
+                          size_t record[7]);
+
+/* First over second, exact.
+ * Record: number, place, count of terms (0 on refusal). Numbers 1 to 5, 10, 11, 15.
+ * out, at least 4096 (10), and work, at least 8192 (11): as in balungkiro_candidate. */
+void balungkiro_quotient(uint16_t modulus,
+                         const uint32_t *first, size_t first_count,
+                         const uint32_t *second, size_t second_count,
+                         uint32_t *out, size_t out_count,
+                         uint16_t *work, size_t work_count,
+                         size_t record[3]);
+
+/* The image at one point: the monic greatest common divisor of first and second there, as polynomials in x.
+ * Record: number, place, degree (0 on refusal). Numbers 1 to 5, 8 (the point is not three numbers), 9, 12.
+ * coefficients: written in every case, x^0 first; all 0 on refusal. */
+void balungkiro_image(uint16_t modulus,
+                      const uint32_t *first, size_t first_count,
+                      const uint32_t *second, size_t second_count,
+                      const uint16_t *point, size_t point_count,
+                      uint16_t coefficients[BALUNGKIRO_COEFFICIENTS],
+                      size_t record[3]);
+
+/* The leading part, all terms with the highest power of x: the head of the caller's own list, which has so many terms as this hands back.
+ * 0 where balungkiro_check_list refuses the list, and only there. */
+size_t balungkiro_leading_part(const uint32_t *terms, size_t count);
+
+/* The check of a list without a modulus.
+ * Record: number, place. Numbers 2, 3 (of a coefficient only that it is not 0). */
+void balungkiro_check_list(const uint32_t *terms, size_t count, size_t record[2]);
+
+/* Arithmetic. An operand is a modulus and a value.
+ * Record: number, place, modulus, value; on refusal the first operand's modulus as it came, and 0.
+ * Numbers 1 (the first operand's modulus), 17; the inverse 1, 17, 16. */
+void balungkiro_sum(uint16_t modulus, uint16_t value, uint16_t other_modulus, uint16_t other_value, size_t record[4]);
+void balungkiro_difference(uint16_t modulus, uint16_t value, uint16_t other_modulus, uint16_t other_value, size_t record[4]);
+void balungkiro_product(uint16_t modulus, uint16_t value, uint16_t other_modulus, uint16_t other_value, size_t record[4]);
+void balungkiro_inverse(uint16_t modulus, uint16_t value, size_t record[4]);
+
+/* Reads a case file: its modulus and its four lists. It checks no values: the candidate does.
+ * Record: number, place, modulus, how many numbers first, second, skeleton and points have (three for each point).
+ * Numbers: 20 kind unknown, 22 order, 21 body cut, 25 too many records of a kind, each with the offset of the record's kind byte as its place;
+ * 23 bytes after the end, place the first such byte; 24 no end record, place the length of the file.
+ * The four arrays are written whole in every case, zeros beyond each count; on refusal modulus, counts and arrays are all 0. */
+void balungkiro_read(const uint8_t *bytes, size_t count,
+                     uint32_t first[BALUNGKIRO_TERMS],
+                     uint32_t second[BALUNGKIRO_TERMS],
+                     uint16_t skeleton[BALUNGKIRO_KEYS],
+                     uint16_t points[BALUNGKIRO_POINT_NUMBERS],
+                     size_t record[7]);
+
+#ifdef __cplusplus
+}
+#endif
+
+#endif
