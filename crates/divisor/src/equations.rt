@@ -6,6 +6,7 @@ ghost use lib.ListN.{length};
 ghost use Rattle.divisor.specs.Models.Equation.{EquationReady, IsEquation, PointReady, Equations-to};
 ghost use Rattle.divisor.specs.Models.Looks.{next-column, ColumnReady, EquationsReady, Equations-before};
 use crate::sorting::Sizes;
+use crate::table::COLUMNS;
 use crate::table::Row;
 use crate::table::Table;
 use field::Number;
@@ -26,7 +27,9 @@ fn equation(
     requires { ⌜ EquationReady p ys zs ws (now skeleton) column u ⌝ }
     ensures { λ r. ⌜ IsEquation p ys zs ws (now (skeleton .entry)) i column u r ⌝ }
 {
-    let mut row = Row { cells: [0; 64] };
+    let mut row = Row {
+        cells: [0; COLUMNS],
+    };
     let mut j: usize = 0;
     while j < skeleton.len() {
         let key = Key { bits: skeleton[j] };
@@ -60,7 +63,10 @@ fn point_equations(
     while i < 8 {
         let u = (p - image[i]) % p;
         let e = equation(p, ys, zs, ws, skeleton, i as u16, column, u);
-        s = crate::table::with_added(s, e, p);
+        // An equation without entries says nothing: adding it would only copy the table.
+        if crate::table::first_entry(e) < COLUMNS {
+            s = crate::table::with_added(s, e, p);
+        }
         i += 1;
     }
     s

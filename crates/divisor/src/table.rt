@@ -1,7 +1,8 @@
 // The equation table: at most 63 unknowns and a last one that is fixed at 1, so 64 columns. A row that is kept stands at the index of its pivot column,
 // where its cell is 1; where no row is kept the cell on the diagonal is 0. A row kept in the last column says 1 = 0: there is no solution.
 ghost use mathlib.Core.Path.{_≡_};
-ghost use Rattle.divisor.specs.Models.Table.{Columns, Column, Back, TableReady, Ready, empty-table, minus, scaled-row, with-row, kind, value, values, solved};
+ghost use Rattle.poly.specs.Models.Search.{Searched};
+ghost use Rattle.divisor.specs.Models.Table.{COLUMNS as columns-most, Entry, Columns, Column, Back, TableReady, Ready, empty-table, minus, scaled-row, with-row, kind, value, values, solved};
 use field::Element;
 use field::Number;
 
@@ -42,6 +43,20 @@ impl Table {
             columns,
         }
     }
+}
+
+// The first column whose cell is not 0, or the number of columns where there is none.
+pub fn first_entry(row: Row) -> usize
+    ensures { λ r. ⌜ Searched (Entry row) columns-most r ⌝ }
+{
+    let mut j: usize = 0;
+    while j < COLUMNS {
+        if row.cells[j] != 0 {
+            return j;
+        }
+        j += 1;
+    }
+    j
 }
 
 // The row less the multiple of the pivot's row that makes its cell in column j 0. Before column j both have zeros, and nothing changes there.

@@ -1,17 +1,19 @@
 -- The table's models one turn at a time, as the loops of the code move. Assumes nothing.
-use mathlib.Core.Path.{_≡_, sym, ap, _∙_}
+use mathlib.Core.Path.{_≡_, refl, sym, ap, _∙_}
 use mathlib.Core.Bool.{Bool, true, false}
 use mathlib.Core.List.{List}
-use Prim.Native.Nat.{ℕ, suc, _+_, _-_, _*_, _%_, _<_, _≤_}
+use Prim.Native.Nat.{ℕ, zero, suc, _+_, _-_, _*_, _%_, _<_, _≤_}
 use native.Mathlib.Numerals.{add-one}
+use native.Mathlib.Decide.{ℕ-discrete}
 use native.Mathlib.Omega.{arith}
 use lib.Dec.{eqb}
 use lib.ListN.{getD, set}
 use borrow.Author.Tests.{eq-eqb, ne-eqb}
+use Rattle.poly.specs.Models.Search.{Searched}
 use Rattle.divisor.specs.declared.table.Row.{Row}
 use Rattle.divisor.specs.declared.table.Table.{Table}
 use Rattle.divisor.specs.declared.table.Kind.the-variants.{None, One, Several}
-use Rattle.divisor.specs.Models.Table.{row-at, cell, diagonal, altered, minus, kept, insert, kind-from, kind, total, value, back}
+use Rattle.divisor.specs.Models.Table.{COLUMNS, row-at, cell, Entry, diagonal, altered, minus, kept, insert, with-row, kind-from, kind, total, value, back}
 
 -- what is left of n turns at turn i
 more : (i n : ℕ) → i < n → n - i ≡ suc (n - (i + 1))
@@ -76,6 +78,14 @@ module _ (p : ℕ) (t : Table) (e : Row) (j : ℕ) where
   pub insert-end : t .columns ≤ j → insert (t .columns - j) j p t e ≡ t
   unfolding insert
   insert-end h = ap (λ n. insert n j p t e) (over j (t .columns) h)
+
+-- an equation without entries adds nothing
+insert-blank : (p : ℕ) (t : Table) (e : Row) (n j : ℕ) → ((k : ℕ) → k < j + n → cell e k ≡ 0) → insert n j p t e ≡ t
+insert-blank p t e zero j z = (unfold insert in refl)
+insert-blank p t e (suc n) j z = insert-at-zero p t e j n (z j (omega arith)) ∙ insert-blank p t e n (suc j) (λ k l. z k (omega arith))
+
+pub blank-adds-nothing : (p : ℕ) (t : Table) (e : Row) → t .columns ≤ COLUMNS → (place : ℕ) → COLUMNS ≤ place → Searched (Entry e) COLUMNS place → with-row p t e ≡ t
+blank-adds-nothing p t e most place past searched = insert-blank p t e (t .columns) 0 (λ k l. elim (ℕ-discrete (cell e k) 0) [ yes q ↦ q | no q ↦ absurd (searched .before k (omega arith) q) ])
 
 module _ (t : Table) where
   pub kind-none : (diagonal t (t .columns - 1) ≡ 0 → ⊥) → kind t ≡ None

@@ -23,6 +23,10 @@ no-row = record { cells = [] }
 abbrev pub cell : Row → ℕ → ℕ
 cell e k = getD (e .cells) k 0
 
+-- the row has an entry in column k
+abbrev pub Entry : Row → ℕ → Type 0
+Entry e k = ¬ (cell e k ≡ 0)
+
 abbrev pub row-at : Table → ℕ → Row
 row-at t j = getD (t .rows) j no-row
 

@@ -7,18 +7,14 @@ use Rattle.divisor.specs.Models.Checks.{of-skeleton, of-points, of-rooms
 use borrow.Author.Needs.{needs}
 use Rattle.divisor.proofs.checks.candidate_fault.Statement.{statement}
 use Rattle.divisor.proofs.checks.candidate_fault.Tie as tie
-use Rattle.divisor.proofs.checks.candidate_fault.Reads as reads
-use Rattle.divisor.proofs.checks.candidate_fault.Lts as lts
 use Rattle.divisor.proofs.checks.points_fault.Reads as points-fault-reads
 use Rattle.divisor.proofs.checks.rooms_fault.Reads as rooms-fault-reads
 use Rattle.divisor.proofs.checks.skeleton_fault.Reads as skeleton-fault-reads
 use Rattle.poly.proofs.list.lists_fault.Reads as lists-fault-reads
 
--- src/checks.rt:95:9
 lists-fault-requires : tie.Need-lists-fault-requires
 lists-fault-requires c κs = search needs
 
--- src/checks.rt:97:9
 returns : tie.Need-returns
 returns c =
     let a = c .before .before .before .before .before .before .before .args in
@@ -28,11 +24,9 @@ returns c =
     let of-last = of-rooms (a .output) (length (a .skeleton .now)) (a .work) in
     tested-stops of-first (of-second ++ (of-third ++ of-last)) (c .before .before .lists-fault .result) (c .before .before .lists-fault .ensures) (c .if1 .taken)
 
--- src/checks.rt:99:9
 skeleton-fault-requires : tie.Need-skeleton-fault-requires
 skeleton-fault-requires c κs = search needs
 
--- src/checks.rt:101:9
 returns-2 : tie.Need-returns-2
 returns-2 c =
     let a = c .before .before .before .before .before .before .before .before .before .before .args in
@@ -45,11 +39,9 @@ returns-2 c =
     tested-goes-on of-first (of-second ++ (of-third ++ of-last)) (lists .result) (lists .ensures) tt (c .before .before .before .if1 .left)
     (tested-stops of-second (of-third ++ of-last) (keys .result) (keys .ensures) (c .if2 .taken))
 
--- src/checks.rt:103:9
 points-fault-requires : tie.Need-points-fault-requires
 points-fault-requires c κs = search needs
 
--- src/checks.rt:105:9
 returns-3 : tie.Need-returns-3
 returns-3 c =
     let a = c .before .before .before .before .before .before .before .before .before .before .before .before .before .args in
@@ -64,11 +56,9 @@ returns-3 c =
     (tested-goes-on of-second (of-third ++ of-last) (keys .result) (keys .ensures) tt (c .before .before .before .if2 .left)
     (tested-stops of-third of-last (numbers .result) (numbers .ensures) (c .if3 .taken)))
 
--- src/checks.rt:107:5
 rooms-fault-requires : tie.Need-rooms-fault-requires
 rooms-fault-requires c κs = search needs
 
--- src/checks.rt:84:1
 returns-4 : tie.Need-returns-4
 returns-4 c =
     let a = c .before .before .before .before .before .before .before .before .before .before .before .before .before .before .args in

@@ -5,8 +5,6 @@ use Rattle.divisor.specs.Laws.Checks.{KeysSo, keys-start, keys-stop, key
 use borrow.Author.Needs.{needs}
 use Rattle.divisor.proofs.checks.first_wrong_key.Statement.{statement}
 use Rattle.divisor.proofs.checks.first_wrong_key.Tie as tie
-use Rattle.divisor.proofs.checks.first_wrong_key.Reads as reads
-use Rattle.divisor.proofs.checks.first_wrong_key.Lts as lts
 
 abbrev Inv-loop : tie.InvT-loop
 Inv-loop skeleton before₀ i₀ before i = KeysSo skeleton before i
@@ -14,43 +12,33 @@ Inv-loop skeleton before₀ i₀ before i = KeysSo skeleton before i
 abbrev μ-loop : tie.MeasureT-loop
 μ-loop skeleton before₀ i₀ before i = length skeleton - i
 
--- src/checks.rt:26:5
 loop-holds : tie.Need-loop-holds Inv-loop μ-loop
 loop-holds c = keys-start _
 
--- src/checks.rt:27:12
 mul-if1 : tie.Need-mul-if1 Inv-loop μ-loop
 mul-if1 c = search needs
 
--- src/checks.rt:27:12
 shared-slice-read-if1 : tie.Need-shared-slice-read-if1 Inv-loop μ-loop
 shared-slice-read-if1 c = search needs
 
--- src/checks.rt:28:13
 returns : tie.Need-returns Inv-loop μ-loop
 returns c = keys-stop _ _ _ (c .before .before .before .loop .inv) (c .before .before .loop-test .taken) (c .if1 .taken)
 
--- src/checks.rt:30:18
 mul-before : tie.Need-mul-before Inv-loop μ-loop
 mul-before c = search needs
 
--- src/checks.rt:30:18
 shared-slice-read-before : tie.Need-shared-slice-read-before Inv-loop μ-loop
 shared-slice-read-before c = search needs
 
--- src/checks.rt:31:9
 add-i : tie.Need-add-i Inv-loop μ-loop
 add-i c = search needs
 
--- src/checks.rt:26:5
 loop-less : tie.Need-loop-less Inv-loop μ-loop
 loop-less c = search needs
 
--- src/checks.rt:26:5
 loop-again : tie.Need-loop-again Inv-loop μ-loop
 loop-again c = keys-next _ _ _ (c .before .before .before .before .loop .inv) (c .before .before .before .loop-test .taken) (c .before .if1 .left)
 
--- src/checks.rt:21:1
 returns-2 : tie.Need-returns-2 Inv-loop μ-loop
 returns-2 c = keys-end _ _ _ (c .before .loop .inv) (c .loop-test .left)
 

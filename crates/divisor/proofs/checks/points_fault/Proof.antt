@@ -7,55 +7,42 @@ use borrow.Author.Needs.{needs}
 use borrow.Author.Needs.{needs}
 use Rattle.divisor.proofs.checks.points_fault.Statement.{statement}
 use Rattle.divisor.proofs.checks.points_fault.Tie as tie
-use Rattle.divisor.proofs.checks.points_fault.Reads as reads
-use Rattle.divisor.proofs.checks.points_fault.Lts as lts
 use Rattle.field.proofs.Fault.at.Reads as at-reads
 use Rattle.field.proofs.Fault.none.Reads as none-reads
 use Rattle.poly.proofs.image.first_large.Reads as first-large-reads
 
--- src/checks.rt:56:9
 at-requires : tie.Need-at-requires
 at-requires c κs = search needs
 
--- src/checks.rt:56:9
 returns : tie.Need-returns
 returns c = tested-line 0 (inl (inl (c .before .if1 .taken)), refl) (c .at .ensures)
 
--- src/checks.rt:59:9
 at-requires-2 : tie.Need-at-requires-2
 at-requires-2 c κs = search needs
 
--- src/checks.rt:59:9
 returns-2 : tie.Need-returns-2
 returns-2 c = tested-line 0 (inl (inr (c .before .if2 .taken)), refl) (c .at2 .ensures)
 
--- src/checks.rt:62:9
 at-requires-3 : tie.Need-at-requires-3
 at-requires-3 c κs = search needs
 
--- src/checks.rt:62:9
 returns-3 : tie.Need-returns-3
 returns-3 c = tested-line 0 (inr (c .before .if3 .taken), refl) (c .at3 .ensures)
 
--- src/checks.rt:64:9
 first-large-requires : tie.Need-first-large-requires
 first-large-requires c κs = search needs
 
--- src/checks.rt:66:9
 at-requires-4 : tie.Need-at-requires-4
 at-requires-4 c κs = search needs
 
--- src/checks.rt:66:9
 returns-4 : tie.Need-returns-4
 returns-4 c =
     let else3 = c .before .before .before in
     points-wrong _ _ (else3 .before .before .if1 .left) (else3 .before .if2 .left) (else3 .if3 .left) _ (c .before .before .first-large .ensures) (c .before .if4 .taken) (c .at4 .ensures)
 
--- src/checks.rt:68:5
 none-requires : tie.Need-none-requires
 none-requires c κs = search needs
 
--- src/checks.rt:52:1
 returns-5 : tie.Need-returns-5
 returns-5 c =
     let else3 = c .before .before .before in

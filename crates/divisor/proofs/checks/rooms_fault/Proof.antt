@@ -6,32 +6,24 @@ use borrow.Author.Needs.{needs}
 use borrow.Author.Needs.{needs}
 use Rattle.divisor.proofs.checks.rooms_fault.Statement.{statement}
 use Rattle.divisor.proofs.checks.rooms_fault.Tie as tie
-use Rattle.divisor.proofs.checks.rooms_fault.Reads as reads
-use Rattle.divisor.proofs.checks.rooms_fault.Lts as lts
 use Rattle.field.proofs.Fault.at.Reads as at-reads
 use Rattle.field.proofs.Fault.none.Reads as none-reads
 
--- src/checks.rt:76:9
 at-requires : tie.Need-at-requires
 at-requires c κs = search needs
 
--- src/checks.rt:76:9
 returns : tie.Need-returns
 returns c = tested-line 0 (c .before .if1 .taken, refl) (c .at .ensures)
 
--- src/checks.rt:79:9
 at-requires-2 : tie.Need-at-requires-2
 at-requires-2 c κs = search needs
 
--- src/checks.rt:79:9
 returns-2 : tie.Need-returns-2
 returns-2 c = tested-past (placed-never (λ l. let m = c .before .before .if1 .left in omega arith)) (tested-line 0 (c .before .if2 .taken, refl) (c .at2 .ensures))
 
--- src/checks.rt:81:5
 none-requires : tie.Need-none-requires
 none-requires c κs = search needs
 
--- src/checks.rt:72:1
 returns-3 : tie.Need-returns-3
 returns-3 c =
     tested-past (placed-never (λ l. let m = c .before .before .if1 .left in omega arith))

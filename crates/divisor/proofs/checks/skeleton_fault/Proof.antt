@@ -7,47 +7,36 @@ use borrow.Author.Needs.{needs}
 use borrow.Author.Needs.{needs}
 use Rattle.divisor.proofs.checks.skeleton_fault.Statement.{statement}
 use Rattle.divisor.proofs.checks.skeleton_fault.Tie as tie
-use Rattle.divisor.proofs.checks.skeleton_fault.Reads as reads
-use Rattle.divisor.proofs.checks.skeleton_fault.Lts as lts
 use Rattle.divisor.proofs.checks.first_wrong_key.Reads as first-wrong-key-reads
 use Rattle.field.proofs.Fault.at.Reads as at-reads
 use Rattle.field.proofs.Fault.none.Reads as none-reads
 
--- src/checks.rt:40:9
 at-requires : tie.Need-at-requires
 at-requires c κs = search needs
 
--- src/checks.rt:40:9
 returns : tie.Need-returns
 returns c = tested-line 0 (inl (c .before .if1 .taken), refl) (c .at .ensures)
 
--- src/checks.rt:43:9
 at-requires-2 : tie.Need-at-requires-2
 at-requires-2 c κs = search needs
 
--- src/checks.rt:43:9
 returns-2 : tie.Need-returns-2
 returns-2 c = tested-line 0 (inr (c .before .if2 .taken), refl) (c .at2 .ensures)
 
--- src/checks.rt:45:9
 first-wrong-key-requires : tie.Need-first-wrong-key-requires
 first-wrong-key-requires c κs = search needs
 
--- src/checks.rt:47:9
 at-requires-3 : tie.Need-at-requires-3
 at-requires-3 c κs = search needs
 
--- src/checks.rt:47:9
 returns-3 : tie.Need-returns-3
 returns-3 c =
     let else2 = c .before .before .before in
     skeleton-wrong _ (else2 .before .if1 .left) (else2 .if2 .left) _ (c .before .before .first-wrong-key .ensures) (c .before .if3 .taken) (c .at3 .ensures)
 
--- src/checks.rt:49:5
 none-requires : tie.Need-none-requires
 none-requires c κs = search needs
 
--- src/checks.rt:36:1
 returns-4 : tie.Need-returns-4
 returns-4 c =
     let else2 = c .before .before .before in

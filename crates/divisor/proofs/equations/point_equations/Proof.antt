@@ -1,6 +1,7 @@
 -- `divisor::equations::point_equations` meets its contract. The invariant: the table has the equations of the powers passed. Assumes nothing.
 use borrow.Author.Needs.{needs}
-use mathlib.Core.Path.{_≡_, refl, sym, subst}
+use mathlib.Core.Path.{_≡_, refl, sym, _∙_, subst}
+use mathlib.Core.Logic.{⊎-elim}
 use Prim.Native.Nat.{ℕ, _-_, _≤_}
 use native.Mathlib.Omega.{arith}
 use native.Mathlib.Nat.{mod-lt}
@@ -8,7 +9,9 @@ use Rattle.field.specs.ModuliLaws.{listed-above, listed-positive}
 use Rattle.poly.specs.Coefficients.{Eight}
 use Rattle.poly.specs.Models.Powers.{powers}
 use Rattle.poly.specs.Laws.Powers.{powers-eight}
+use Rattle.divisor.specs.Models.Table.{with-row, TableReady}
 use Rattle.divisor.specs.Models.Equation.{Equations-to}
+use Rattle.divisor.specs.Laws.TableTurns.{blank-adds-nothing}
 use Rattle.divisor.specs.Laws.EquationRow.{equation-ready}
 use Rattle.divisor.specs.Laws.PointTurns.{equation-with, point-start, point-ready, point-next}
 use Rattle.divisor.proofs.equations.point_equations.Statement.{statement}
@@ -72,15 +75,27 @@ equation-requires c κs =
       below = mod-lt _ (listed-positive (s .pre .table .listed));
     }
 
-with-added-requires : tie.Need-with-added-requires Inv-loop μ-loop
-with-added-requires c κs =
+first-entry-requires : tie.Need-first-entry-requires Inv-loop μ-loop
+first-entry-requires c κs = search needs
+
+-- the table so far is ready
+ready : (c : tie.After-equation Inv-loop μ-loop) → TableReady (c .before .before .before .before .before .before .before .before .before .before .before .before .before .args .p) (c .before .before .before .loop .s)
+ready c =
     let s = c .before .before .before .before .before .before .before .before .before .before .before .before .before in
     let a = s .args in
     let l = c .before .before .before .loop in
+    point-ready (a .p) (a .t) (a .skeleton .now) (a .point .now) (a .image .now) (a .column) (l .i) (l .s) (s .pre .table) (l .inv .1)
+
+with-added-requires : tie.Need-with-added-requires Inv-loop μ-loop
+with-added-requires c κs =
+    let e = c .before .before in
+    let s = e .before .before .before .before .before .before .before .before .before .before .before .before .before in
+    let a = s .args in
+    let l = e .before .before .before .loop in
     record {
-      table = point-ready (a .p) (a .t) (a .skeleton .now) (a .point .now) (a .image .now) (a .column) (l .i) (l .s) (s .pre .table) (l .inv .1);
-      row = equation-ready (a .p) (listed-positive (s .pre .table .listed)) _ _ _ (a .skeleton .now) (l .i) (a .column) _ (c .equation .result)
-          (mod-lt _ (listed-positive (s .pre .table .listed))) (c .equation .ensures);
+      table = ready e;
+      row = equation-ready (a .p) (listed-positive (s .pre .table .listed)) _ _ _ (a .skeleton .now) (l .i) (a .column) _ (e .equation .result)
+          (mod-lt _ (listed-positive (s .pre .table .listed))) (e .equation .ensures);
     }
 
 add-i : tie.Need-add-i Inv-loop μ-loop
@@ -89,19 +104,27 @@ add-i c = search needs
 loop-less : tie.Need-loop-less Inv-loop μ-loop
 loop-less c = search needs
 
+-- either way the table has the equation
+added : (c : tie.Joined1 Inv-loop μ-loop)
+    → let e = c .before .before in c .if1 .s ≡ with-row (e .before .before .before .before .before .before .before .before .before .before .before .before .before .args .p) (e .before .before .before .loop .s) (e .equation .result)
+added c =
+    let e = c .before .before in
+    ⊎-elim (λ w. w .2 ∙ w .1 .ensures) (λ w. w .1 ∙ sym (blank-adds-nothing _ _ (e .equation .result) (ready e .columns .most) _ (w .0 .left) (c .before .first-entry .ensures))) (c .if1 .came)
+
 loop-again : tie.Need-loop-again Inv-loop μ-loop
 loop-again c =
-    let s = c .before .before .before .before .before .before .before .before .before .before .before .before .before .before in
+    let e = c .before .before in
+    let s = e .before .before .before .before .before .before .before .before .before .before .before .before .before in
     let a = s .args in
-    let l = c .before .before .before .before .loop in
-    let y = c .before .before .before .before .before .before .before .before .before .powers .ensures in
-    let z = c .before .before .before .before .before .before .before .powers2 .ensures in
-    let w = c .before .before .before .before .before .powers3 .ensures in (
+    let l = e .before .before .before .loop in
+    let y = e .before .before .before .before .before .before .before .before .powers .ensures in
+    let z = e .before .before .before .before .before .before .powers2 .ensures in
+    let w = e .before .before .before .before .powers3 .ensures in (
       omega arith,
-      point-next (a .p) (a .t) (a .skeleton .now) (a .point .now) (a .image .now) (a .column) (l .i) (l .s) _ (c .before .equation .result) (c .with-added .result)
+      point-next (a .p) (a .t) (a .skeleton .now) (a .point .now) (a .image .now) (a .column) (l .i) (l .s) _ (e .equation .result) (c .if1 .s)
           (listed-positive (s .pre .table .listed)) (s .pre .eight .below (l .i)) refl
-          (equation-with y z w (c .before .equation .ensures))
-          (l .inv .1) (c .with-added .ensures),
+          (equation-with y z w (e .equation .ensures))
+          (l .inv .1) (added c),
     )
 
 returns : tie.Need-returns Inv-loop μ-loop
@@ -131,6 +154,7 @@ point-equations-spec =
     rem-u
     cast-equation
     equation-requires
+    first-entry-requires
     with-added-requires
     add-i
     loop-less

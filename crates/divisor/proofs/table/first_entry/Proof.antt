@@ -1,0 +1,53 @@
+-- `divisor::table::first_entry` meets its contract. The loop keeps that no cell before j is other than 0. Assumes nothing.
+use Prim.Native.Nat.{_-_}
+use Rattle.poly.specs.Models.Search.{Searching}
+use Rattle.poly.specs.Laws.Search.{search-begins, search-goes-on, search-stops, search-ends}
+use Rattle.divisor.specs.Models.Table.{COLUMNS, Entry}
+use borrow.Author.Needs.{needs}
+use Rattle.divisor.proofs.table.first_entry.Statement.{statement}
+use Rattle.divisor.proofs.table.first_entry.Tie as tie
+
+abbrev Inv-loop : tie.InvT-loop
+Inv-loop row j₀ j = Searching (Entry row) COLUMNS j
+
+abbrev μ-loop : tie.MeasureT-loop
+μ-loop row j₀ j = COLUMNS - j
+
+loop-holds : tie.Need-loop-holds Inv-loop μ-loop
+loop-holds c = search-begins
+
+mul-if1 : tie.Need-mul-if1 Inv-loop μ-loop
+mul-if1 c = search needs
+
+element-copy-out-if1 : tie.Need-element-copy-out-if1 Inv-loop μ-loop
+element-copy-out-if1 c = search needs
+
+returns : tie.Need-returns Inv-loop μ-loop
+returns c = search-stops (c .before .before .before .loop .inv) (c .if1 .taken)
+
+add-j : tie.Need-add-j Inv-loop μ-loop
+add-j c = search needs
+
+loop-less : tie.Need-loop-less Inv-loop μ-loop
+loop-less c = search needs
+
+loop-again : tie.Need-loop-again Inv-loop μ-loop
+loop-again c = search-goes-on (c .before .before .before .loop .inv) (c .before .before .loop-test .taken) (λ n. n (c .if1 .left))
+
+returns-2 : tie.Need-returns-2 Inv-loop μ-loop
+returns-2 c = search-ends (c .before .loop .inv) (c .loop-test .left)
+
+pub first-entry-spec : {M : Type 1} → statement M
+first-entry-spec =
+    tie.close
+    (tie.spec
+    Inv-loop
+    μ-loop
+    loop-holds
+    mul-if1
+    element-copy-out-if1
+    returns
+    add-j
+    loop-less
+    loop-again
+    returns-2)
