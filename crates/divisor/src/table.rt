@@ -9,8 +9,10 @@ use field::Number;
 // 63 unknowns and the last one.
 pub const COLUMNS: usize = 64;
 
+pub type Cells = [Number; COLUMNS];
+
 pub struct Row {
-    pub cells: [Number; COLUMNS],
+    pub cells: Cells,
 }
 
 // `columns` is one more than the number of unknowns.
@@ -28,7 +30,7 @@ pub enum Kind {
 // The values of the unknowns where there is one solution, and zeros behind them; zeros otherwise.
 pub struct Solved {
     pub kind: Kind,
-    pub values: [Number; COLUMNS],
+    pub values: Cells,
 }
 
 impl Table {
@@ -60,18 +62,16 @@ pub fn first_entry(row: Row) -> usize
 }
 
 // The row less the multiple of the pivot's row that makes its cell in column j 0. Before column j both have zeros, and nothing changes there.
-fn subtract(row: Row, pivot: Row, j: usize, columns: usize, p: Number) -> Row
-    requires { ⌜ Column p row j columns ⌝ }
-    ensures { λ r. ⌜ r ≡ minus p row pivot j columns ⌝ }
+fn subtract(row: &mut Cells, pivot: Row, j: usize, columns: usize, p: Number)
+    requires { ⌜ Column p (record { cells = now row }) j columns ⌝ }
+    ensures { λ _. ⌜ record { cells = now (row .exit) } ≡ minus p (record { cells = now (row .entry) }) pivot j columns ⌝ }
 {
-    let mut r = row;
-    let factor = p - r.cells[j];
+    let factor = p - row[j];
     let mut i = j;
     while i < columns {
-        r.cells[i] = field::plus_times(p, r.cells[i], factor, pivot.cells[i]);
+        row[i] = field::plus_times(p, row[i], factor, pivot.cells[i]);
         i += 1;
     }
-    r
 }
 
 // The row times the inverse of its cell in column j, which becomes 1.
@@ -111,7 +111,7 @@ pub fn with_equation(t: Table, e: Row, p: Number) -> Table
                 s.rows[j] = scaled(row, j, columns, p);
                 return s;
             }
-            row = subtract(row, pivot, j, columns, p);
+            subtract(&mut row.cells, pivot, j, columns, p);
         }
         j += 1;
     }
@@ -158,7 +158,7 @@ fn kind_of(t: Table) -> Kind
 }
 
 // The unknown of column j, by its row, from the values of those behind it; the last one is 1.
-fn value_at(row: Row, values: [Number; COLUMNS], j: usize, last: usize, p: Number) -> Number
+fn value_at(row: Row, values: Cells, j: usize, last: usize, p: Number) -> Number
     requires { ⌜ Back p row j last ⌝ }
     ensures { λ r. ⌜ r ≡ value p row values j last ⌝ }
 {
@@ -172,12 +172,12 @@ fn value_at(row: Row, values: [Number; COLUMNS], j: usize, last: usize, p: Numbe
 }
 
 // Back substitution, from the last unknown to the first.
-fn values_of(t: Table, p: Number) -> [Number; COLUMNS]
+fn values_of(t: Table, p: Number) -> Cells
     requires { ⌜ TableReady p t ⌝ }
     ensures { λ r. ⌜ r ≡ values p t ⌝ }
 {
     let last = t.columns - 1;
-    let mut values: [Number; COLUMNS] = [0; COLUMNS];
+    let mut values: Cells = [0; COLUMNS];
     let mut j = last;
     while j > 0 {
         j -= 1;
@@ -192,7 +192,7 @@ pub fn solution(t: Table, p: Number) -> Solved
     ensures { λ r. ⌜ r ≡ solved p t ⌝ }
 {
     let kind = kind_of(t);
-    let zeros: [Number; COLUMNS] = [0; COLUMNS];
+    let zeros: Cells = [0; COLUMNS];
     match kind {
         Kind::None => Solved {
             kind: Kind::None,
