@@ -9,6 +9,7 @@ use lib.ListN.{length, getD, take}
 use lib.Seq.{length-take-le, getD-take}
 use Rattle.field.specs.Moduli.{Listed}
 use Rattle.field.specs.Prime.{Prime}
+use Rattle.field.specs.Fp.{Fp}
 use Rattle.field.specs.Numbers.{NO_GOOD_POINT}
 use Rattle.field.specs.Refusal.{fault, Passes}
 use Rattle.field.specs.declared.Fault.{Fault}
@@ -203,17 +204,19 @@ module _ (c : Call) (pass : Passes (table c)) where
             ∙ ap (λ (x : ℕ). rows-so (Numbers c listed) (monomials c listed) x (kept-before P m (c .points) sizes after n)) b
             ∙ ap (rows-so (Numbers c listed) (monomials c listed) (length ks)) (kept-are ∙ kept-is)
 
-        says : Says p P (length (c .skeleton) + length ks) (made .rows) (solved p t .kind) (solved p t .values)
+        -- what the kind and the values say of the equations of the rule
+        says : Says p P (length (c .skeleton) + length ks) (all-rows (Numbers c listed) (monomials c listed) k ks) (solved p t .kind) (solved p t .values)
         says =
             let e = count-is in
             let l = columns-most in
             let a : length (c .skeleton) + kept ≡ suc (length (c .skeleton) + length ks) = omega arith in
-            subst (λ (u : Table). Says p P (length (c .skeleton) + length ks) (made .rows) (solved p u .kind) (solved p u .values))
+            subst (λ (rs : List (List (Fp p))). Says p P (length (c .skeleton) + length ks) rs (solved p t .kind) (solved p t .values)) means
+            (subst (λ (u : Table). Says p P (length (c .skeleton) + length ks) (rows-of p (length (c .skeleton) + length ks) (made .rows)) (solved p u .kind) (solved p u .values))
             (sym (made .adds ∙ ap (λ (x : ℕ). added p (empty-table x) (made .rows)) a))
-            (table-answers p P (length (c .skeleton) + length ks) (omega arith) (made .rows) listed (made .ready))
+            (table-answers p P (length (c .skeleton) + length ks) (omega arith) (made .rows) listed (made .ready)))
 
-        says-as : (x : Kind) → solved p t .kind ≡ x → Says p P (length (c .skeleton) + length ks) (made .rows) x (solved p t .values)
-        says-as x e = subst (λ (y : Kind). Says p P (length (c .skeleton) + length ks) (made .rows) y (solved p t .values)) e says
+        says-as : (x : Kind) → solved p t .kind ≡ x → Says p P (length (c .skeleton) + length ks) (all-rows (Numbers c listed) (monomials c listed) k ks) x (solved p t .values)
+        says-as x e = subst (λ (y : Kind). Says p P (length (c .skeleton) + length ks) (all-rows (Numbers c listed) (monomials c listed) k ks) y (solved p t .values)) e says
 
         long : length (c .skeleton) ≤ length (solved p t .values)
         long = let e = solved-length p t in let l = keys-most in omega arith
@@ -223,7 +226,7 @@ module _ (c : Call) (pass : Passes (table c)) where
 
         makes : solved p t .kind ≡ One → MakesDivisor p (c .skeleton) (take (length (c .skeleton)) (solved p t .values))
         makes e =
-            let g = assembled.list c pass listed looks looked d at-least k ks kept-is (made .rows) means (solved p t .values) (says-as One e) long below in
+            let g = assembled.list c pass listed looks looked d at-least k ks kept-is (solved p t .values) (says-as One e) long below in
             record { led = let q = g .led in omega arith; some = g .some; falls = g .falls }
 
         pub verdict-ready : VerdictReady (c .modulus) (c .first-list) (c .second-list) (c .skeleton) (solved (c .modulus) t) (c .output) after
@@ -232,10 +235,10 @@ module _ (c : Call) (pass : Passes (table c)) where
         -- what is settled is the rule's verdict
         settles : (number : ℕ) (terms : List ℕ) → Settles p (c .first-list) (c .second-list) (c .skeleton) (solved p t) number terms
             → Candidate c (assembled.result c pass listed looks looked d at-least k ks kept-is number terms)
-        settles number terms (none e) = assembled.answer-none c pass listed looks looked d at-least k ks kept-is (made .rows) means (solved p t .values) (says-as None e)
-        settles number terms (several e) = assembled.answer-several c pass listed looks looked d at-least k ks kept-is (made .rows) means (solved p t .values) (says-as Several e)
-        settles number terms (rejected e h) = assembled.answer-rejected c pass listed looks looked d at-least k ks kept-is (made .rows) means (solved p t .values) (says-as One e) long below (h P)
-        settles number terms (accepted e h) = assembled.answer-accepted c pass listed looks looked d at-least k ks kept-is (made .rows) means (solved p t .values) (says-as One e) long below (h P .0) (h P .1)
+        settles number terms (none e) = assembled.answer-none c pass listed looks looked d at-least k ks kept-is (says-as None e)
+        settles number terms (several e) = assembled.answer-several c pass listed looks looked d at-least k ks kept-is (says-as Several e .0) (says-as Several e .1) (says-as Several e .2)
+        settles number terms (rejected e h) = assembled.answer-rejected c pass listed looks looked d at-least k ks kept-is (solved p t .values) (says-as One e) long below (h P)
+        settles number terms (accepted e h) = assembled.answer-accepted c pass listed looks looked d at-least k ks kept-is (solved p t .values) (says-as One e) long below (h P .0) (h P .1)
 
         pub finished : (output work : List ℕ) (v : Verdict) → Settled (c .modulus) (c .first-list) (c .second-list) (c .skeleton) (solved (c .modulus) t) (c .output) output after work v
             → Candidate c (record {
