@@ -1,0 +1,75 @@
+-- What the rule answers, computed by the models, with the division of short lists; and the test of a row.
+use mathlib.Core.Bool.{Bool, true, false, _&&_}
+use mathlib.Core.List.{List, [], _∷_, map}
+use Prim.Native.Nat.{ℕ, zero, suc, _+_, _-_, _/_}
+use lib.Dec.{eqb}
+use lib.ListN.{length, take}
+use Rattle.algebra.specs.Linear.{Answer, none, one, several, solve}
+use Rattle.field.specs.Prime.{Prime}
+use Rattle.field.specs.Moduli.{Listed}
+use Rattle.field.specs.ModuliLaws.{listed-prime, listed-decided}
+use Rattle.field.specs.Fp.{Fp}
+use Rattle.field.specs.Modulo.{Modulo}
+use Rattle.field.specs.Numbers.{NO_GOOD_POINT, NO_SOLUTION, SEVERAL_SOLUTIONS, DOES_NOT_DIVIDE}
+use Rattle.poly.specs.declared.ImageRecord.{ImageRecord}
+use Rattle.poly.specs.Keys.{exponents}
+use Rattle.poly.specs.Terms.{terms-of}
+use Rattle.divisor.specs.Rule.{Kept}
+use Rattle.divisor.specs.Candidate.{points-of}
+use Rattle.divisor.specs.Models.Rows.{all-rows}
+use Rattle.divisor.specs.Models.Sorting.{sizes-of, least, alike, kept-of}
+use Rattle.divisor.specs.Models.Monic.{monic-terms}
+use Rattle.divisor.specs.Laws.Seen.{looks-from}
+use Rattle.proved_table.specs.Row.{Row}
+use Rattle.proved_table.specs.TermDivision.{Outcome, divides, does-not, open-still, division}
+
+-- what the kept points settle: the number, and the terms to be handed out
+pub data Verdict : Type 0 where
+  unsettled : Verdict
+  settled : ℕ → List ℕ → Verdict
+
+-- the record's numbers but the place, which is 0, and the count; and the terms
+pub data Computed : Type 0 where
+  unanswered : Computed
+  answered : (number degree bad unlucky kept : ℕ) → List ℕ → Computed
+
+-- how many steps a division is given
+abbrev steps : ℕ
+steps = 64
+
+-- what the two divisions settle
+unfoldable pub tried : List ℕ → Outcome → Outcome → Verdict
+tried G divides divides = settled 0 G
+tried G divides does-not = settled DOES_NOT_DIVIDE []
+tried G divides open-still = unsettled
+tried G does-not o = settled DOES_NOT_DIVIDE []
+tried G open-still o = unsettled
+
+module _ (p : ℕ) (P : Prime p) (A B skeleton points : List ℕ) where
+  unfoldable pub by-division : List ℕ → Verdict
+  by-division G = tried G (division (Modulo p P) 64 (terms-of p P A) (terms-of p P G)) (division (Modulo p P) 64 (terms-of p P B) (terms-of p P G))
+
+  unfoldable pub by-answer : Answer (Fp p) → Verdict
+  by-answer none = settled NO_SOLUTION []
+  by-answer (several v w) = settled SEVERAL_SOLUTIONS []
+  by-answer (one v) = by-division (monic-terms p skeleton (take (length skeleton) (map (λ (x : Fp p). x .val) v)))
+
+  unfoldable pub with-counts : ℕ → List ℕ → Verdict → Computed
+  with-counts d sizes unsettled = unanswered
+  with-counts d sizes (settled number terms) =
+      answered number d (alike 0 sizes) (length points / 3 - alike 0 sizes - alike (suc d) sizes) (alike (suc d) sizes) terms
+
+  unfoldable pub by-kept : ℕ → List ℕ → List (Kept (Modulo p P)) → Computed
+  by-kept d sizes [] = unanswered
+  by-kept d sizes (k ∷ ks) =
+      with-counts d sizes (by-answer (solve (Modulo p P) (length skeleton + length ks) (all-rows (Modulo p P) (map exponents skeleton) k ks)))
+
+  unfoldable pub by-least : List ImageRecord → ℕ → Computed
+  by-least looks zero = answered NO_GOOD_POINT 0 (length points / 3) 0 0 []
+  by-least looks (suc d) = by-kept d (sizes-of looks) (kept-of P (suc d) (points-of p P points) looks)
+
+  unfoldable pub by-looks : List ImageRecord → Computed
+  by-looks looks = by-least looks (least (sizes-of looks))
+
+  unfoldable pub computed : Computed
+  computed = by-looks (looks-from p A B points 0 (length points / 3))

@@ -1,0 +1,75 @@
+-- Division of short lists of terms, over any field, computed: it says of a list that the divisor divides, or that it does not, or leaves it open.
+use mathlib.Core.Bool.{Bool, true, false, _&&_}
+use mathlib.Core.List.{List, [], _∷_}
+use Prim.Native.Nat.{ℕ, zero, suc, _-_}
+use lib.Dec.{leb}
+use Rattle.algebra.specs.Ring.{CommRing}
+use Rattle.algebra.specs.Four.{Exponents, _⊞_}
+use Rattle.algebra.specs.Monomial.{Term}
+use Rattle.algebra.specs.Field.{Field}
+use Rattle.poly.specs.Terms.{Polynomial}
+use Rattle.proved_table.specs.Order.{before, same, after, order}
+
+pub data Outcome : Type 0 where
+  divides : Outcome
+  does-not : Outcome
+  open-still : Outcome
+
+-- each exponent at most the other's
+unfoldable pub at-most : Exponents → Exponents → Bool
+at-most e f = leb (e .x) (f .x) && leb (e .y) (f .y) && leb (e .z) (f .z) && leb (e .w) (f .w)
+
+abbrev pub over : Exponents → Exponents → Exponents
+over e f = record { x = e .x - f .x; y = e .y - f .y; z = e .z - f .z; w = e .w - f .w }
+
+module _ (K : Field) where
+  open Field K using (ring as R)
+  open CommRing R using (add as _+_, mul as _*_, neg)
+
+  infixl 60 _+_
+  infixl 70 _*_
+  -- a term and a list added; two terms of one monomial become one, or none
+  unfoldable pub plus : Term R → Polynomial K → Polynomial K
+  plus t [] = t ∷ []
+  plus t (u ∷ us) =
+      elim (order (t .exponents) (u .exponents)) [
+        | before ↦ t ∷ u ∷ us
+        | same ↦ elim (K .decide (t .coefficient + u .coefficient)) [
+          | yes e ↦ us
+          | no n ↦ record { exponents = u .exponents; coefficient = t .coefficient + u .coefficient } ∷ us
+        ]
+        | after ↦ u ∷ plus t us
+      ]
+
+  -- - t u
+  abbrev pub less-product : Term R → Term R → Term R
+  less-product t u = record { exponents = t .exponents ⊞ u .exponents; coefficient = neg (t .coefficient * u .coefficient) }
+
+  -- f - t g
+  unfoldable pub less : Polynomial K → Term R → Polynomial K → Polynomial K
+  less f t [] = f
+  less f t (u ∷ us) = less (plus (less-product t u) f) t us
+
+  -- a term that is not 0, before all terms of a list
+  unfoldable pub before-all : Exponents → Polynomial K → Bool
+  before-all e [] = true
+  before-all e (u ∷ us) = elim (order e (u .exponents)) [ before ↦ before-all e us | same ↦ false | after ↦ false ]
+
+  unfoldable pub leads : Term R → Polynomial K → Bool
+  leads t f = elim (K .decide (t .coefficient)) [ yes e ↦ false | no n ↦ before-all (t .exponents) f ]
+
+  -- the remainder t ∷ f by g, which begins with the term l; the number of steps is bounded
+  unfoldable pub divided : Term R → Polynomial K → ℕ → Polynomial K → Outcome
+  divided l g zero [] = divides
+  divided l g zero (t ∷ f) = open-still
+  divided l g (suc n) [] = divides
+  divided l g (suc n) (t ∷ f) =
+      elim (at-most (l .exponents) (t .exponents)) [
+        | true ↦ divided l g n (less (t ∷ f) (record { exponents = over (t .exponents) (l .exponents); coefficient = t .coefficient * K .inv (l .coefficient) }) g)
+        | false ↦ elim (leads t f) [ true ↦ does-not | false ↦ open-still ]
+      ]
+
+  -- f by g, in at most n steps
+  unfoldable pub division : ℕ → Polynomial K → Polynomial K → Outcome
+  division n f [] = open-still
+  division n f (l ∷ g) = divided l (l ∷ g) n f
