@@ -4,5 +4,4 @@ pub mod Table
 pub mod Order
 pub mod TermDivision
 pub mod Computed
-pub mod OrderLaws
 pub mod TermDivisionLaws

@@ -1,24 +1,20 @@
 -- Division of short lists of terms, over any field, computed: it says of a list that the divisor divides, or that it does not, or leaves it open.
-use mathlib.Core.Bool.{Bool, true, false, _&&_}
+use mathlib.Core.Bool.{Bool, true, false}
 use mathlib.Core.List.{List, [], _∷_}
 use Prim.Native.Nat.{ℕ, zero, suc, _-_}
-use lib.Dec.{leb}
 use Rattle.algebra.specs.Ring.{CommRing}
 use Rattle.algebra.specs.Four.{Exponents, _⊞_}
 use Rattle.algebra.specs.Monomial.{Term}
 use Rattle.algebra.specs.Field.{Field}
 use Rattle.poly.specs.Terms.{Polynomial}
-use Rattle.proved_table.specs.Order.{before, same, after, order}
+use Rattle.proved_table.specs.Order.{before, same, after, order, each-at-most}
 
 pub data Outcome : Type 0 where
   divides : Outcome
   does-not : Outcome
   open-still : Outcome
 
--- each exponent at most the other's
-unfoldable pub at-most : Exponents → Exponents → Bool
-at-most e f = leb (e .x) (f .x) && leb (e .y) (f .y) && leb (e .z) (f .z) && leb (e .w) (f .w)
-
+-- e less f in each exponent
 abbrev pub over : Exponents → Exponents → Exponents
 over e f = record { x = e .x - f .x; y = e .y - f .y; z = e .z - f .z; w = e .w - f .w }
 
@@ -33,9 +29,9 @@ module _ (K : Field) where
   plus t [] = t ∷ []
   plus t (u ∷ us) =
       elim (order (t .exponents) (u .exponents)) [
-        | before ↦ t ∷ u ∷ us
-        | same ↦ elim (K .decide (t .coefficient + u .coefficient)) [
-          | yes e ↦ us
+        | before l ↦ t ∷ u ∷ us
+        | same e ↦ elim (K .decide (t .coefficient + u .coefficient)) [
+          | yes z ↦ us
           | no n ↦ record { exponents = u .exponents; coefficient = t .coefficient + u .coefficient } ∷ us
         ]
         | after ↦ u ∷ plus t us
@@ -50,11 +46,12 @@ module _ (K : Field) where
   less f t [] = f
   less f t (u ∷ us) = less (plus (less-product t u) f) t us
 
-  -- a term that is not 0, before all terms of a list
+  -- before all terms of a list
   unfoldable pub before-all : Exponents → Polynomial K → Bool
   before-all e [] = true
-  before-all e (u ∷ us) = elim (order e (u .exponents)) [ before ↦ before-all e us | same ↦ false | after ↦ false ]
+  before-all e (u ∷ us) = elim (order e (u .exponents)) [ before l ↦ before-all e us | same q ↦ false | after ↦ false ]
 
+  -- a term that is not 0 and before all that follow
   unfoldable pub leads : Term R → Polynomial K → Bool
   leads t f = elim (K .decide (t .coefficient)) [ yes e ↦ false | no n ↦ before-all (t .exponents) f ]
 
@@ -62,11 +59,11 @@ module _ (K : Field) where
   unfoldable pub divided : Term R → Polynomial K → ℕ → Polynomial K → Outcome
   divided l g zero [] = divides
   divided l g zero (t ∷ f) = open-still
-  divided l g (suc n) [] = divides
-  divided l g (suc n) (t ∷ f) =
-      elim (at-most (l .exponents) (t .exponents)) [
-        | true ↦ divided l g n (less (t ∷ f) (record { exponents = over (t .exponents) (l .exponents); coefficient = t .coefficient * K .inv (l .coefficient) }) g)
-        | false ↦ elim (leads t f) [ true ↦ does-not | false ↦ open-still ]
+  divided l g (suc k) [] = divides
+  divided l g (suc k) (t ∷ f) =
+      elim (each-at-most (l .exponents) (t .exponents)) [
+        | yes h ↦ divided l g k (less (t ∷ f) (record { exponents = over (t .exponents) (l .exponents); coefficient = t .coefficient * K .inv (l .coefficient) }) g)
+        | no n ↦ elim (leads t f) [ true ↦ does-not | false ↦ open-still ]
       ]
 
   -- f by g, in at most n steps
