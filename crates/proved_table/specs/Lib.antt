@@ -5,3 +5,4 @@ pub mod Order
 pub mod TermDivision
 pub mod Computed
 pub mod TermDivisionLaws
+pub mod Decisions
