@@ -1,13 +1,9 @@
--- What the rule answers, computed by the models, with the division of short lists; and the test of a row.
-use mathlib.Core.Bool.{Bool, true, false, _&&_}
+-- What the rule answers, computed: images, sorting, equations and the divisor by the models, the divisions on short lists.
 use mathlib.Core.List.{List, [], _∷_, map}
 use Prim.Native.Nat.{ℕ, zero, suc, _+_, _-_, _/_}
-use lib.Dec.{eqb}
 use lib.ListN.{length, take}
 use Rattle.algebra.specs.Linear.{Answer, none, one, several, solve}
 use Rattle.field.specs.Prime.{Prime}
-use Rattle.field.specs.Moduli.{Listed}
-use Rattle.field.specs.ModuliLaws.{listed-prime, listed-decided}
 use Rattle.field.specs.Fp.{Fp}
 use Rattle.field.specs.Modulo.{Modulo}
 use Rattle.field.specs.Numbers.{NO_GOOD_POINT, NO_SOLUTION, SEVERAL_SOLUTIONS, DOES_NOT_DIVIDE}
@@ -20,7 +16,6 @@ use Rattle.divisor.specs.Models.Rows.{all-rows}
 use Rattle.divisor.specs.Models.Sorting.{sizes-of, least, alike, kept-of}
 use Rattle.divisor.specs.Models.Monic.{monic-terms}
 use Rattle.divisor.specs.Laws.Seen.{looks-from}
-use Rattle.proved_table.specs.Row.{Row}
 use Rattle.proved_table.specs.TermDivision.{Outcome, divides, does-not, open-still, division}
 
 -- what the kept points settle: the number, and the terms to be handed out
@@ -33,10 +28,6 @@ pub data Computed : Type 0 where
   unanswered : Computed
   answered : (number degree bad unlucky kept : ℕ) → List ℕ → Computed
 
--- how many steps a division is given
-abbrev steps : ℕ
-steps = 64
-
 -- what the two divisions settle
 unfoldable pub tried : List ℕ → Outcome → Outcome → Verdict
 tried G divides divides = settled 0 G
@@ -45,9 +36,13 @@ tried G divides open-still = unsettled
 tried G does-not o = settled DOES_NOT_DIVIDE []
 tried G open-still o = unsettled
 
+-- f by G; the table's divisions take fewer steps
+unfoldable pub divided-by : (p : ℕ) → Prime p → List ℕ → List ℕ → Outcome
+divided-by p P G f = division (Modulo p P) 64 (terms-of p P f) (terms-of p P G)
+
 module _ (p : ℕ) (P : Prime p) (A B skeleton points : List ℕ) where
-  unfoldable pub by-division : List ℕ → Verdict
-  by-division G = tried G (division (Modulo p P) 64 (terms-of p P A) (terms-of p P G)) (division (Modulo p P) 64 (terms-of p P B) (terms-of p P G))
+  abbrev pub by-division : List ℕ → Verdict
+  by-division G = tried G (divided-by p P G A) (divided-by p P G B)
 
   unfoldable pub by-answer : Answer (Fp p) → Verdict
   by-answer none = settled NO_SOLUTION []

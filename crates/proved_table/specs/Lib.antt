@@ -6,3 +6,4 @@ pub mod TermDivision
 pub mod Computed
 pub mod TermDivisionLaws
 pub mod Decisions
+pub mod ComputedLaws
