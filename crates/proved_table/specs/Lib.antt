@@ -7,3 +7,6 @@ pub mod Computed
 pub mod TermDivisionLaws
 pub mod Decisions
 pub mod ComputedLaws
+pub mod Test
+pub mod TestLaws
+pub mod Proved

@@ -1,0 +1,42 @@
+-- The test of a row, computed: no line refuses its inputs, and what the rule answers is the row's record and terms. The test of a table.
+use mathlib.Core.Bool.{Bool, true, false, _&&_}
+use mathlib.Core.List.{List, [], _∷_}
+use Prim.Native.Nat.{ℕ}
+use lib.Dec.{eqb}
+use lib.ListN.{length}
+use Rattle.field.specs.Moduli.{Listed}
+use Rattle.field.specs.ModuliLaws.{listed-prime, listed-decided}
+use Rattle.field.specs.RefusalDecision.{decided}
+use Rattle.divisor.specs.declared.CandidateRecord.{CandidateRecord}
+use Rattle.divisor.specs.Rule.{report}
+use Rattle.proved_table.specs.Row.{Row}
+use Rattle.proved_table.specs.Decisions.{lines, checks}
+use Rattle.proved_table.specs.Computed.{Computed, unanswered, answered, computed}
+
+unfoldable pub same-numbers : List ℕ → List ℕ → Bool
+same-numbers [] [] = true
+same-numbers [] (n ∷ ns) = false
+same-numbers (m ∷ ms) [] = false
+same-numbers (m ∷ ms) (n ∷ ns) = eqb m n && same-numbers ms ns
+
+-- the numbers of a record, and terms behind them
+abbrev pub numbers : CandidateRecord → List ℕ → List ℕ
+numbers r terms = r .fault .number ∷ r .fault .place ∷ r .degree ∷ r .bad ∷ r .unlucky ∷ r .kept ∷ r .terms ∷ terms
+
+unfoldable pub agrees : Computed → CandidateRecord → List ℕ → Bool
+agrees unanswered found terms = false
+agrees (answered number degree bad unlucky kept ts) found terms = same-numbers (numbers (report number degree bad unlucky kept (length ts)) ts) (numbers found terms)
+
+module _ (r : Row) where
+  unfoldable pub passes : Bool
+  passes = eqb (decided (lines (r .modulus) (r .first-list) (r .second-list) (r .skeleton) (r .points)) (checks (r .modulus) (r .first-list) (r .second-list) (r .skeleton) (r .points)) .number) 0
+
+  unfoldable pub answers : Listed (r .modulus) → Bool
+  answers h = agrees (computed (r .modulus) (listed-prime h) (r .first-list) (r .second-list) (r .skeleton) (r .points)) (r .found) (r .terms)
+
+  unfoldable pub test : Bool
+  test = passes && (elim (listed-decided (r .modulus)) [ yes h ↦ answers h | no n ↦ false ])
+
+unfoldable pub test-all : List Row → Bool
+test-all [] = true
+test-all (r ∷ rows) = test r && test-all rows
