@@ -7,6 +7,7 @@ use native.Mathlib.Decide.{ℕ-discrete, decLt}
 use lib.ListN.{length}
 use Rattle.algebra.specs.Mono.{mono}
 use Rattle.algebra.specs.Divides.{pow}
+use Rattle.field.specs.Prime.{Prime}
 use Rattle.field.specs.Moduli.{listed}
 use Rattle.field.specs.ModuliLaws.{listed-decided}
 use Rattle.field.specs.Fp.{el, add, mul, neg, chase, inv}
@@ -27,20 +28,26 @@ use Rattle.case_file.specs.Reading.{fault-number, reading, read-one, alone, rea
 use Rattle.case_file.specs.Examples.{example}
 use Rattle.console.specs.OfFile.{asked}
 use Rattle.console.specs.CandidateOfFile.{CandidateOfFile}
+use Rattle.proved_table.specs.Row.{Holds, Multiplies, Each}
 use Rattle.proved_table.specs.Order.{order-by, order, each-at-most}
-use Rattle.proved_table.specs.TermDivision.{plus, less, before-all, leads, divided, division}
+use Rattle.proved_table.specs.TermDivision.{plus, less, less-all, before-all, leads, divided, division}
 use Rattle.proved_table.specs.Computed.{tried, divided-by, by-answer, with-counts, by-kept, by-least, by-looks, computed}
 use Rattle.proved_table.specs.Decisions.{count-decided, not-below-decided, key-decided, term-decided, number-decided, checks}
-use Rattle.proved_table.specs.Test.{same-numbers, agrees, passes, answers, test, test-all}
-use Rattle.proved_table.specs.TestLaws.{AllHold, all-tested}
-use Rattle.proved_table.specs.Table.{p1, table}
+use Rattle.proved_table.specs.Test.{same-numbers, agrees, passes, answers, test, multiplies, each}
+use Rattle.proved_table.specs.TestLaws.{tested, multiplied, each-tested}
+use Rattle.proved_table.specs.Table.{products, p1, table}
 
-pub table-passes : test-all table ≡ true
-unfolding ℕ-discrete decLt mono pow listed listed-decided el add mul neg chase inv Fp-discrete at-most-decided placed-check look first-check decided cells power powers plus-term value-from value-of size-to scaled monic less-at subtract remainder euclid gcd value-at image-of-values image-of points-of size-of lesser least-from alike kept-of leading scaled-terms order-by order each-at-most plus less before-all leads divided division tried divided-by by-answer with-counts by-kept by-least by-looks computed count-decided not-below-decided key-decided term-decided number-decided checks same-numbers agrees passes answers test test-all
+pub table-passes : each test table ≡ true
+unfolding ℕ-discrete decLt mono pow listed listed-decided el add mul neg chase inv Fp-discrete at-most-decided placed-check look first-check decided cells power powers plus-term value-from value-of size-to scaled monic less-at subtract remainder euclid gcd value-at image-of-values image-of points-of size-of lesser least-from alike kept-of leading scaled-terms order-by order each-at-most plus less before-all leads divided division tried divided-by by-answer with-counts by-kept by-least by-looks computed count-decided not-below-decided key-decided term-decided number-decided checks same-numbers agrees passes answers test each
 table-passes = refl
 
-pub table-holds : AllHold table
-table-holds = all-tested table table-passes
+pub table-holds : Each Holds table
+table-holds = each-tested test Holds tested table table-passes
+
+-- the lists that are given as products are those
+pub products-hold : (P : Prime 17) → Each (Multiplies 17 P) products
+unfolding decLt el add mul neg Fp-discrete order-by order plus less less-all multiplies each
+products-hold P = each-tested (multiplies 17 P) (Multiplies 17 P) (multiplied 17 P) products refl
 
 -- the candidate of the case file of document 01 is P1's record, with P1's terms first in the output
 pub example-answered : (output work : List ℕ) → length (p1 .skeleton) ≤ length output → work-room ≤ length work

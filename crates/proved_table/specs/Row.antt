@@ -1,7 +1,13 @@
--- A row of the proved table: what is asked, and the record and the terms that are to be found. What it means that a row holds.
-use mathlib.Core.List.{List}
+-- A row of the proved table: what is asked, and the record and the terms that are to be found; and lists that are products.
+-- What it means that they hold.
+use mathlib.Core.Path.{_≡_}
+use mathlib.Core.List.{List, [], _∷_}
 use Prim.Native.Nat.{ℕ, _≤_}
 use lib.ListN.{length}
+use Rattle.algebra.specs.Series.{S4}
+use Rattle.field.specs.Prime.{Prime}
+use Rattle.field.specs.Modulo.{Modulo}
+use Rattle.poly.specs.Terms.{poly}
 use Rattle.poly.specs.Room.{work-room, written, cleared}
 use Rattle.divisor.specs.declared.CandidateRecord.{CandidateRecord}
 use Rattle.divisor.specs.Candidate.{Call, Candidate}
@@ -33,3 +39,18 @@ abbrev pub Holds : Row → Type 0
 Holds r =
     (output work : List ℕ) → length (r .skeleton) ≤ length output → work-room ≤ length work
     → Candidate (call r output work) (record { found = r .found; output = written (r .terms) output; work = cleared work })
+
+-- a list of terms, and two of which it is the product
+pub record Product : Type 0 where
+  pub whole : List ℕ
+  pub first : List ℕ
+  pub second : List ℕ
+
+-- as polynomials modulo p
+abbrev pub Multiplies : (p : ℕ) → Prime p → Product → Type 0
+Multiplies p P q = poly p P (q .whole) ≡ S4 (Modulo p P .ring) .mul (poly p P (q .first)) (poly p P (q .second))
+
+-- each of a list
+abbrev pub Each : {X : Type 0} → (X → Type 0) → List X → Type 0
+Each F [] = Unit {0}
+Each F (x ∷ xs) = F x × Each F xs

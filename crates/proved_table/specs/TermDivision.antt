@@ -46,6 +46,11 @@ module _ (K : Field) where
   less f t [] = f
   less f t (u ∷ us) = less (plus (less-product t u) f) t us
 
+  -- f - q g
+  unfoldable pub less-all : Polynomial K → Polynomial K → Polynomial K → Polynomial K
+  less-all f [] g = f
+  less-all f (t ∷ ts) g = less-all (less f t g) ts g
+
   -- before all terms of a list
   unfoldable pub before-all : Exponents → Polynomial K → Bool
   before-all e [] = true

@@ -16,7 +16,7 @@ use Rattle.algebra.specs.Field.{Field, domain}
 use Rattle.poly.specs.Terms.{Polynomial}
 use Rattle.poly.specs.Image.{Divides}
 use Rattle.proved_table.specs.Order.{Order, before, same, after, order, not-both-below, each-at-most}
-use Rattle.proved_table.specs.TermDivision.{Outcome, divides, does-not, open-still, over, plus, less-product, less, before-all, leads, divided, division}
+use Rattle.proved_table.specs.TermDivision.{Outcome, divides, does-not, open-still, over, plus, less-product, less, less-all, before-all, leads, divided, division}
 
 module _ (K : Field) where
   open Field K using (ring as R)
@@ -68,6 +68,22 @@ module _ (K : Field) where
       less-means (plus K (less-product K t u) f) t us
       ∙ ap (λ (h : Poly). S4 R .add h (S4 R .neg (S4 R .mul (term R t) (polynomial R us)))) (plus-means (less-product K t u) f ∙ ap (λ (h : Poly). S4 R .add h (polynomial R f)) (less-product-means t u))
       ∙ ring4 (S4 R) (λ t u f g. (⊝ (t ⊗ u) ⊕ f) ⊖ t ⊗ g ≗ f ⊖ t ⊗ (u ⊕ g)) tt (term R t) (term R u) (polynomial R f) (polynomial R us)
+
+  pub less-all-means : (f q g : Polynomial K) → polynomial R (less-all K f q g) ≡ S4 R .add (polynomial R f) (S4 R .neg (S4 R .mul (polynomial R q) (polynomial R g)))
+  unfolding polynomial less-all
+  less-all-means f [] g = ring2 (S4 R) (λ f g. f ≗ f ⊖ k0 ⊗ g) tt (polynomial R f) (polynomial R g)
+  less-all-means f (t ∷ ts) g =
+      less-all-means (less K f t g) ts g
+      ∙ ap (λ (h : Poly). S4 R .add h (S4 R .neg (S4 R .mul (polynomial R ts) (polynomial R g)))) (less-means f t g)
+      ∙ ring4 (S4 R) (λ f t q g. (f ⊖ t ⊗ g) ⊖ q ⊗ g ≗ f ⊖ (t ⊕ q) ⊗ g) tt (polynomial R f) (term R t) (polynomial R ts) (polynomial R g)
+
+  -- where nothing is left, f is the product
+  pub nothing-left-means : (f q g : Polynomial K) → less-all K f q g ≡ [] → polynomial R f ≡ S4 R .mul (polynomial R q) (polynomial R g)
+  unfolding polynomial
+  nothing-left-means f q g e =
+      ring3 (S4 R) (λ f q g. f ≗ (f ⊖ q ⊗ g) ⊕ q ⊗ g) tt (polynomial R f) (polynomial R q) (polynomial R g)
+      ∙ ap (λ (h : Poly). S4 R .add h (S4 R .mul (polynomial R q) (polynomial R g))) (sym (less-all-means f q g) ∙ ap (polynomial R) e)
+      ∙ zero-add (S4 R) _
 
   -- where m stands before all terms of a list, the list has no coefficient at m or above
   none-from : (m e : Exponents) (f : Polynomial K) → before-all K m f ≡ true → (m ≡ e) ⊎ (m ≺ e) → coef R (polynomial R f) e ≡ 𝟘

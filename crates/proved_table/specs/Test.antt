@@ -1,15 +1,20 @@
--- The test of a row, computed: no line refuses its inputs, and what the rule answers is the row's record and terms. The test of a table.
+-- The test of a row, computed: no line refuses its inputs, and what the rule answers is the row's record and terms.
+-- The test of a product.
 use mathlib.Core.Bool.{Bool, true, false, _&&_}
 use mathlib.Core.List.{List, [], _∷_}
 use Prim.Native.Nat.{ℕ}
 use lib.Dec.{eqb}
 use lib.ListN.{length}
+use Rattle.field.specs.Prime.{Prime}
 use Rattle.field.specs.Moduli.{Listed}
 use Rattle.field.specs.ModuliLaws.{listed-prime, listed-decided}
+use Rattle.field.specs.Modulo.{Modulo}
 use Rattle.field.specs.RefusalDecision.{decided}
+use Rattle.poly.specs.Terms.{terms-of}
 use Rattle.divisor.specs.declared.CandidateRecord.{CandidateRecord}
 use Rattle.divisor.specs.Rule.{report}
-use Rattle.proved_table.specs.Row.{Row}
+use Rattle.proved_table.specs.Row.{Row, Product}
+use Rattle.proved_table.specs.TermDivision.{less-all}
 use Rattle.proved_table.specs.Decisions.{lines, checks}
 use Rattle.proved_table.specs.Computed.{Computed, unanswered, answered, computed}
 
@@ -37,6 +42,11 @@ module _ (r : Row) where
   unfoldable pub test : Bool
   test = passes && (elim (listed-decided (r .modulus)) [ yes h ↦ answers h | no n ↦ false ])
 
-unfoldable pub test-all : List Row → Bool
-test-all [] = true
-test-all (r ∷ rows) = test r && test-all rows
+-- f less the product of the two leaves nothing
+unfoldable pub multiplies : (p : ℕ) → Prime p → Product → Bool
+multiplies p P q = elim (less-all (Modulo p P) (terms-of p P (q .whole)) (terms-of p P (q .first)) (terms-of p P (q .second))) [ [] ↦ true | t ∷ ts ↦ false ]
+
+-- the test of each of a list
+unfoldable pub each : {X : Type 0} → (X → Bool) → List X → Bool
+each f [] = true
+each f (x ∷ xs) = f x && each f xs

@@ -1,4 +1,4 @@
--- A row that passes the test holds, and so does each row of a table that does. Assumes nothing.
+-- A row that passes the test holds, and so does a product; and each of a list does. Assumes nothing.
 use mathlib.Core.Path.{_≡_, refl, sym, ap₂, subst}
 use mathlib.Core.Bool.{Bool, true, false, _&&_, false≢true}
 use mathlib.Core.List.{List, [], _∷_}
@@ -7,22 +7,26 @@ use native.Mathlib.Omega.{arith}
 use lib.Dec.{eqb}
 use lib.ListN.{length, getD, drop}
 use borrow.Author.Tests.{eqb-true}
+use Rattle.field.specs.Prime.{Prime}
 use Rattle.field.specs.Moduli.{Listed}
 use Rattle.field.specs.ModuliLaws.{listed-prime, listed-decided}
+use Rattle.field.specs.Modulo.{Modulo}
 use Rattle.field.specs.Refusal.{Passes}
 use Rattle.field.specs.RefusalLaws.{placed-never, passes-append}
 use Rattle.field.specs.RefusalDecision.{decided, decided-passes}
+use Rattle.poly.specs.Terms.{Polynomial, terms-of}
 use Rattle.poly.specs.Room.{work-room, written, cleared}
 use Rattle.poly.specs.Laws.KeyDifference.{and-left, and-right}
 use Rattle.divisor.specs.declared.CandidateRecord.{CandidateRecord}
 use Rattle.divisor.specs.Rule.{report}
 use Rattle.divisor.specs.Candidate.{Call, table, Candidate}
 use Rattle.divisor.specs.Models.Checks.{of-rooms}
-use Rattle.proved_table.specs.Row.{Row, call, Holds}
+use Rattle.proved_table.specs.Row.{Row, call, Holds, Product, Multiplies, Each}
+use Rattle.proved_table.specs.TermDivisionLaws.{nothing-left-means}
 use Rattle.proved_table.specs.Decisions.{lines, checks}
 use Rattle.proved_table.specs.Computed.{Computed, unanswered, answered, computed}
 use Rattle.proved_table.specs.ComputedLaws.{Sound, computed-sound}
-use Rattle.proved_table.specs.Test.{same-numbers, numbers, agrees, passes, answers, test, test-all}
+use Rattle.proved_table.specs.Test.{same-numbers, numbers, agrees, passes, answers, test, multiplies, each}
 
 same-is : (ms ns : List ℕ) → same-numbers ms ns ≡ true → ms ≡ ns
 unfolding same-numbers
@@ -80,11 +84,16 @@ module _ (r : Row) (output work : List ℕ) (long : length (r .skeleton) ≤ len
 pub tested : (r : Row) → test r ≡ true → Holds r
 tested r h output work long room = tested-here r output work long room h
 
-abbrev pub AllHold : List Row → Type 0
-AllHold [] = Unit {0}
-AllHold (r ∷ rows) = Holds r × AllHold rows
+pub multiplied : (p : ℕ) (P : Prime p) (q : Product) → multiplies p P q ≡ true → Multiplies p P q
+unfolding multiplies
+multiplied p P q h = nothing-left-means (Modulo p P) (terms-of p P (q .whole)) (terms-of p P (q .first)) (terms-of p P (q .second)) (go _ h)
+  where
+    go : (l : Polynomial (Modulo p P)) → elim l as (λ _. Bool) [ [] ↦ true | t ∷ ts ↦ false ] ≡ true → l ≡ []
+    go [] h = refl
+    go (t ∷ ts) h = absurd (false≢true h)
 
-pub all-tested : (rows : List Row) → test-all rows ≡ true → AllHold rows
-unfolding test-all
-all-tested [] h = tt
-all-tested (r ∷ rows) h = (tested r (and-left (test r) (test-all rows) h), all-tested rows (and-right (test r) (test-all rows) h))
+-- what follows from a test follows for each of a list
+pub each-tested : {X : Type 0} (f : X → Bool) (F : X → Type 0) → ((x : X) → f x ≡ true → F x) → (xs : List X) → each f xs ≡ true → Each F xs
+unfolding each
+each-tested f F law [] h = tt
+each-tested f F law (x ∷ xs) h = (law x (and-left (f x) (each f xs) h), each-tested f F law xs (and-right (f x) (each f xs) h))
