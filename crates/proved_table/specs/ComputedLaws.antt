@@ -1,10 +1,10 @@
 -- What is computed for a call whose inputs pass meets the promise of the call. Assumes nothing.
 use mathlib.Core.Path.{_≡_, refl, sym, _∙_, ap, ap₂, subst}
 use mathlib.Core.List.{List, [], _∷_, map}
-use Prim.Native.Nat.{ℕ, zero, suc, _+_, _*_, _/_, _≤_, _<_}
+use Prim.Native.Nat.{ℕ, zero, suc, _+_, _/_, _≤_, _<_}
 use native.Mathlib.Omega.{arith}
 use lib.ListN.{length, getD, take, length-map}
-use Rattle.algebra.specs.Linear.{Answer, none, one, several, solve, Meets}
+use Rattle.algebra.specs.Linear.{Answer, none, one, several, Meets}
 use Rattle.algebra.specs.Linear as linear
 use Rattle.algebra.specs.LinearLaws.{solve-meets}
 use Rattle.field.specs.Prime.{Prime}
@@ -31,7 +31,7 @@ use Rattle.divisor.specs.Laws.Sorting.{Looked, Least, AtLeast, least-is}
 use Rattle.divisor.specs.Laws.Seen.{looks-from, seen}
 use Rattle.divisor.specs.Laws.Answer.{look-ready}
 use Rattle.divisor.specs.Laws.Assembled as assembled
-use Rattle.proved_table.specs.TermDivision.{Outcome, divides, does-not, open-still, division}
+use Rattle.proved_table.specs.TermDivision.{Outcome, divides, does-not, open-still}
 use Rattle.proved_table.specs.TermDivisionLaws.{Means, division-means}
 use Rattle.proved_table.specs.Computed.{Verdict, unsettled, settled, Computed, unanswered, answered, tried, divided-by, by-division, by-answer, with-counts, by-kept, by-least, by-looks, computed}
 

@@ -1,4 +1,4 @@
--- The lines of modulus, lists, skeleton and points, each decided by computing. Assumes nothing.
+-- The lines of the candidate's inputs and of the image's, each decided by computing. Assumes nothing.
 use mathlib.Core.Path.{_≡_, refl, subst}
 use mathlib.Core.Logic.{_⊎_, inl, inr}
 use mathlib.Core.List.{List, [], _∷_, _++_, map}
@@ -12,7 +12,9 @@ use Rattle.field.specs.Refusal.{Line}
 use Rattle.field.specs.RefusalDecision.{not-decided, both-decided, either-decided, at-most-decided, Checks, placed-check, first-check}
 use Rattle.poly.specs.Keys.{keys}
 use Rattle.poly.specs.Terms.{key-of, coefficient-of}
-use Rattle.poly.specs.Lists.{most-terms, Count, WrongKey, above, not-below, WrongTerm, wrong-key, coefficient-zero, WrongModulo, wrong-term, coefficient-large, WrongNumber, of-lists}
+use Rattle.poly.specs.Lists.{most-terms, Count, WrongKey, above, not-below, wrong-key, coefficient-zero, WrongModulo, wrong-term, coefficient-large, WrongNumber, of-lists}
+use Rattle.poly.specs.ImageCall.{ImageCall, of-point, image-table}
+use Rattle.poly.specs.Laws.PointCheck.{numbers-end}
 use Rattle.divisor.specs.Candidate.{most-keys, most-point-numbers}
 use Rattle.divisor.specs.Models.Checks.{of-skeleton, of-points}
 
@@ -83,36 +85,48 @@ module _ (p : ℕ) (ts : List ℕ) where
   number-decided i = decided-as (λ (h : (i < length ts) × (p ≤ getD ts i 0)). record { there = h .0; large = h .1 }) (λ w. (w .there, w .large))
       (both-decided (decLt i (length ts)) (at-most-decided p (getD ts i 0)))
 
-  pub no-number-beyond : (i : ℕ) → length ts ≤ i → ¬ WrongNumber p ts i
-  no-number-beyond i l w = let h = w .there in omega arith
+-- checks of two tables, one behind the other
+unfoldable pub checks-append : (front back : List Line) → Checks front → Checks back → Checks (front ++ back)
+checks-append [] back cs ds = ds
+checks-append (l ∷ front) back cs ds = (cs .0, checks-append front back (cs .1) ds)
 
--- the lines that do not concern the rooms
-abbrev pub lines : ℕ → List ℕ → List ℕ → List ℕ → List ℕ → List Line
-lines p A B skeleton points = of-lists p A B ++ (of-skeleton skeleton ++ of-points p points)
-
-unfoldable pub checks : (p : ℕ) (A B skeleton points : List ℕ) → Checks (lines p A B skeleton points)
-checks p A B skeleton points = (
+unfoldable pub list-checks : (p : ℕ) (A B : List ℕ) → Checks (of-lists p A B)
+list-checks p A B = (
   placed-check MODULUS 0 _ (not-decided (listed-decided p)),
   (
     placed-check FIRST_COUNT 0 _ (count-decided most-terms A),
     (
       first-check FIRST_TERM _ (term-decided p A) (length A) (no-term-beyond p A),
-      (
-        placed-check SECOND_COUNT 0 _ (count-decided most-terms B),
-        (
-          first-check SECOND_TERM _ (term-decided p B) (length B) (no-term-beyond p B),
-          (
-            placed-check SKELETON_COUNT 0 _ (count-decided most-keys skeleton),
-            (
-              first-check SKELETON_KEY _ (key-decided skeleton) (length skeleton) (no-key-beyond skeleton),
-              (
-                placed-check POINTS_COUNT 0 _ (either-decided (count-decided most-point-numbers points) (not-decided (ℕ-discrete (length points % 3) 0))),
-                (first-check POINT_NUMBER _ (number-decided p points) (length points) (no-number-beyond p points), tt),
-              ),
-            ),
-          ),
-        ),
-      ),
+      (placed-check SECOND_COUNT 0 _ (count-decided most-terms B), (first-check SECOND_TERM _ (term-decided p B) (length B) (no-term-beyond p B), tt)),
     ),
   ),
 )
+
+unfoldable pub skeleton-checks : (skeleton : List ℕ) → Checks (of-skeleton skeleton)
+skeleton-checks skeleton =
+    (placed-check SKELETON_COUNT 0 _ (count-decided most-keys skeleton), (first-check SKELETON_KEY _ (key-decided skeleton) (length skeleton) (no-key-beyond skeleton), tt))
+
+unfoldable pub points-checks : (p : ℕ) (points : List ℕ) → Checks (of-points p points)
+points-checks p points = (
+  placed-check POINTS_COUNT 0 _ (either-decided (count-decided most-point-numbers points) (not-decided (ℕ-discrete (length points % 3) 0))),
+  (first-check POINT_NUMBER _ (number-decided p points) (length points) (numbers-end p points), tt),
+)
+
+unfoldable pub point-checks : (p : ℕ) (point : List ℕ) → Checks (of-point p point)
+point-checks p point =
+    (placed-check POINTS_COUNT 0 _ (not-decided (ℕ-discrete (length point) 3)), (first-check POINT_NUMBER _ (number-decided p point) (length point) (numbers-end p point), tt))
+
+-- the candidate's lines but those of the rooms
+abbrev pub lines : ℕ → List ℕ → List ℕ → List ℕ → List ℕ → List Line
+lines p A B skeleton points = of-lists p A B ++ (of-skeleton skeleton ++ of-points p points)
+
+unfoldable pub checks : (p : ℕ) (A B skeleton points : List ℕ) → Checks (lines p A B skeleton points)
+checks p A B skeleton points =
+    checks-append (of-lists p A B) (of-skeleton skeleton ++ of-points p points) (list-checks p A B)
+    (checks-append (of-skeleton skeleton) (of-points p points) (skeleton-checks skeleton) (points-checks p points))
+
+-- the image's lines
+unfoldable pub image-checks : (c : ImageCall) → Checks (image-table c)
+image-checks c =
+    checks-append (of-lists (c .modulus) (c .first-list) (c .second-list)) (of-point (c .modulus) (c .point))
+    (list-checks (c .modulus) (c .first-list) (c .second-list)) (point-checks (c .modulus) (c .point))

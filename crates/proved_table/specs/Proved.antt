@@ -28,21 +28,26 @@ use Rattle.case_file.specs.Reading.{fault-number, reading, read-one, alone, rea
 use Rattle.case_file.specs.Examples.{example}
 use Rattle.console.specs.OfFile.{asked}
 use Rattle.console.specs.CandidateOfFile.{CandidateOfFile}
-use Rattle.proved_table.specs.Row.{Holds, Multiplies, Each}
+use Rattle.proved_table.specs.Row.{Holds, Shows, Multiplies, Each}
 use Rattle.proved_table.specs.Order.{order-by, order, each-at-most}
 use Rattle.proved_table.specs.TermDivision.{plus, less, less-all, before-all, leads, divided, division}
 use Rattle.proved_table.specs.Computed.{tried, divided-by, by-answer, with-counts, by-kept, by-least, by-looks, computed}
-use Rattle.proved_table.specs.Decisions.{count-decided, not-below-decided, key-decided, term-decided, number-decided, checks}
-use Rattle.proved_table.specs.Test.{same-numbers, agrees, passes, answers, test, multiplies, each}
-use Rattle.proved_table.specs.TestLaws.{tested, multiplied, each-tested}
-use Rattle.proved_table.specs.Table.{products, p1, table}
+use Rattle.proved_table.specs.Decisions.{count-decided, not-below-decided, key-decided, term-decided, number-decided, checks-append, list-checks, skeleton-checks, points-checks, point-checks, checks, image-checks}
+use Rattle.proved_table.specs.Test.{same-numbers, agrees, passes, answers, test, image-passes, image-agrees, image-test, multiplies, each}
+use Rattle.proved_table.specs.TestLaws.{tested, image-tested, multiplied, each-tested}
+use Rattle.proved_table.specs.Table.{images, products, p1, table}
 
 pub table-passes : each test table ≡ true
-unfolding ℕ-discrete decLt mono pow listed listed-decided el add mul neg chase inv Fp-discrete at-most-decided placed-check look first-check decided cells power powers plus-term value-from value-of size-to scaled monic less-at subtract remainder euclid gcd value-at image-of-values image-of points-of size-of lesser least-from alike kept-of leading scaled-terms order-by order each-at-most plus less before-all leads divided division tried divided-by by-answer with-counts by-kept by-least by-looks computed count-decided not-below-decided key-decided term-decided number-decided checks same-numbers agrees passes answers test each
+unfolding ℕ-discrete decLt mono pow listed listed-decided el add mul neg chase inv Fp-discrete at-most-decided placed-check look first-check decided cells power powers plus-term value-from value-of size-to scaled monic less-at subtract remainder euclid gcd value-at image-of-values image-of points-of size-of lesser least-from alike kept-of leading scaled-terms order-by order each-at-most plus less before-all leads divided division tried divided-by by-answer with-counts by-kept by-least by-looks computed count-decided not-below-decided key-decided term-decided number-decided checks-append list-checks skeleton-checks points-checks checks same-numbers agrees passes answers test each
 table-passes = refl
 
 pub table-holds : Each Holds table
 table-holds = each-tested test Holds tested table table-passes
+
+-- the images that the rows name are those
+pub images-hold : Each Shows images
+unfolding ℕ-discrete decLt listed listed-decided el add mul neg chase inv at-most-decided placed-check look first-check decided cells power powers plus-term value-from value-of size-to scaled monic less-at subtract remainder euclid gcd value-at image-of-values image-of count-decided not-below-decided key-decided term-decided number-decided checks-append list-checks point-checks image-checks same-numbers image-passes image-agrees image-test each
+images-hold = each-tested image-test Shows image-tested images refl
 
 -- the lists that are given as products are those
 pub products-hold : (P : Prime 17) → Each (Multiplies 17 P) products

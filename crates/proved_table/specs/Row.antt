@@ -1,5 +1,5 @@
--- A row of the proved table: what is asked, and the record and the terms that are to be found; and lists that are products.
--- What it means that they hold.
+-- A row of the proved table: what is asked, and the record and the terms that are to be found. Beside the rows, images and products.
+-- What it means that each holds.
 use mathlib.Core.Path.{_≡_}
 use mathlib.Core.List.{List, [], _∷_}
 use Prim.Native.Nat.{ℕ, _≤_}
@@ -7,7 +7,9 @@ use lib.ListN.{length}
 use Rattle.algebra.specs.Series.{S4}
 use Rattle.field.specs.Prime.{Prime}
 use Rattle.field.specs.Modulo.{Modulo}
+use Rattle.poly.specs.declared.ImageRecord.{ImageRecord}
 use Rattle.poly.specs.Terms.{poly}
+use Rattle.poly.specs.ImageCall.{ImageCall, ImageAnswer}
 use Rattle.poly.specs.Room.{work-room, written, cleared}
 use Rattle.divisor.specs.declared.CandidateRecord.{CandidateRecord}
 use Rattle.divisor.specs.Candidate.{Call, Candidate}
@@ -39,6 +41,14 @@ abbrev pub Holds : Row → Type 0
 Holds r =
     (output work : List ℕ) → length (r .skeleton) ≤ length output → work-room ≤ length work
     → Candidate (call r output work) (record { found = r .found; output = written (r .terms) output; work = cleared work })
+
+-- an image that a row names
+pub record ImageRow : Type 0 where
+  pub call : ImageCall
+  pub found : ImageRecord
+
+abbrev pub Shows : ImageRow → Type 0
+Shows r = ImageAnswer (r .call) (r .found)
 
 -- a list of terms, and two of which it is the product
 pub record Product : Type 0 where

@@ -1,10 +1,12 @@
 -- P1 to P12 of document 01, as it gives them: modulo 17 unless said, z = w = 0.
 use mathlib.Core.List.{List, [], _∷_}
 use Prim.Native.Nat.{ℕ, _+_, _*_}
+use Rattle.field.specs.Refusal.{none}
 use Rattle.poly.specs.Keys.{key}
+use Rattle.poly.specs.Models.Image.{image-call}
 use Rattle.divisor.specs.declared.CandidateRecord.{CandidateRecord}
 use Rattle.divisor.specs.Rule.{report}
-use Rattle.proved_table.specs.Row.{Row, Product}
+use Rattle.proved_table.specs.Row.{Row, ImageRow, Product}
 
 -- the key of x^a y^b, and the term c x^a y^b
 abbrev pub monomial : ℕ → ℕ → ℕ
@@ -60,6 +62,19 @@ products =
     ∷ record { whole = H; first = term 1 1 0 ∷ term 1 0 1 ∷ term 1 0 0 ∷ []; second = E }
     ∷ record { whole = A₂; first = term 3 1 1 ∷ term 1 0 0 ∷ []; second = term 1 1 0 ∷ term 16 0 1 ∷ [] }
     ∷ record { whole = B₂; first = term 3 1 1 ∷ term 1 0 0 ∷ []; second = term 1 1 0 ∷ term 1 0 1 ∷ term 1 0 0 ∷ [] }
+    ∷ []
+
+-- the images that it names: x of P4; x³ + 12, x³ + 7 and x³ + 2 of P6
+abbrev pub image : List ℕ → List ℕ → ℕ → ℕ → List ℕ → ImageRow
+image A B y degree coefficients =
+    record { call = image-call 17 A B (at (y ∷ [])); found = record { fault = none; coefficients = coefficients; degree = degree } }
+
+abbrev pub images : List ImageRow
+images =
+    image A₄ B₄ 0 1 (0 ∷ 1 ∷ 0 ∷ 0 ∷ 0 ∷ 0 ∷ 0 ∷ 0 ∷ [])
+    ∷ image K K 1 3 (12 ∷ 0 ∷ 0 ∷ 1 ∷ 0 ∷ 0 ∷ 0 ∷ 0 ∷ [])
+    ∷ image K K 2 3 (7 ∷ 0 ∷ 0 ∷ 1 ∷ 0 ∷ 0 ∷ 0 ∷ 0 ∷ [])
+    ∷ image K K 3 3 (2 ∷ 0 ∷ 0 ∷ 1 ∷ 0 ∷ 0 ∷ 0 ∷ 0 ∷ [])
     ∷ []
 
 -- modulus, two lists, skeleton, points; the record's number, d, bad, unlucky, kept and count of terms; the terms

@@ -1,6 +1,6 @@
 -- Division of short lists of terms, over any field, computed: it says of a list that the divisor divides, or that it does not, or leaves it open.
 use mathlib.Core.Bool.{Bool, true, false}
-use mathlib.Core.List.{List, [], _∷_}
+use mathlib.Core.List.{[], _∷_}
 use Prim.Native.Nat.{ℕ, zero, suc, _-_}
 use Rattle.algebra.specs.Ring.{CommRing}
 use Rattle.algebra.specs.Four.{Exponents, _⊞_}

@@ -2,13 +2,13 @@
 use mathlib.Core.Path.{_≡_, refl, sym, _∙_, ap, ap₂, subst}
 use mathlib.Core.Logic.{_⊎_, inl, inr}
 use mathlib.Core.Bool.{Bool, true, false, false≢true}
-use mathlib.Core.List.{List, [], _∷_}
+use mathlib.Core.List.{[], _∷_}
 use Prim.Native.Nat.{ℕ, zero, suc, _+_ as _+ₙ_}
 use native.Mathlib.Omega.{arith}
 use Rattle.algebra.specs.Ring.{CommRing, mul-zero, zero-add}
 use Rattle.algebra.specs.Solver.{_⊕_, _⊗_, ⊝, _⊖_, _≗_, k0, ring2, ring3, ring4}
 use Rattle.algebra.specs.Series.{S4}
-use Rattle.algebra.specs.Divides.{Div, div-refl, div-add, div-mul, div-zero, div-to}
+use Rattle.algebra.specs.Divides.{div-refl, div-add, div-mul, div-zero, div-to}
 use Rattle.algebra.specs.Four.{Exponents, _⊞_, _≼_, _≺_, below-irreflexive, coef, D4}
 use Rattle.algebra.specs.Lead.{Lead, lead-unique, lead-of-product, lead-exists, lead-nonzero}
 use Rattle.algebra.specs.Monomial.{Term, term, polynomial, monomial, monomial-at, monomial-off, monomial-above, monomial-mul, monomial-add, monomial-zero, monomial-neg, monomial-fin, polynomial-fin}

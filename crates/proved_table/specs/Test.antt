@@ -1,5 +1,5 @@
 -- The test of a row, computed: no line refuses its inputs, and what the rule answers is the row's record and terms.
--- The test of a product.
+-- The tests of an image and of a product.
 use mathlib.Core.Bool.{Bool, true, false, _&&_}
 use mathlib.Core.List.{List, [], _∷_}
 use Prim.Native.Nat.{ℕ}
@@ -10,12 +10,15 @@ use Rattle.field.specs.Moduli.{Listed}
 use Rattle.field.specs.ModuliLaws.{listed-prime, listed-decided}
 use Rattle.field.specs.Modulo.{Modulo}
 use Rattle.field.specs.RefusalDecision.{decided}
+use Rattle.poly.specs.declared.ImageRecord.{ImageRecord}
 use Rattle.poly.specs.Terms.{terms-of}
+use Rattle.poly.specs.ImageCall.{image-table}
+use Rattle.poly.specs.Models.Image.{image-of}
 use Rattle.divisor.specs.declared.CandidateRecord.{CandidateRecord}
 use Rattle.divisor.specs.Rule.{report}
-use Rattle.proved_table.specs.Row.{Row, Product}
+use Rattle.proved_table.specs.Row.{Row, ImageRow, Product}
 use Rattle.proved_table.specs.TermDivision.{less-all}
-use Rattle.proved_table.specs.Decisions.{lines, checks}
+use Rattle.proved_table.specs.Decisions.{lines, checks, image-checks}
 use Rattle.proved_table.specs.Computed.{Computed, unanswered, answered, computed}
 
 unfoldable pub same-numbers : List ℕ → List ℕ → Bool
@@ -41,6 +44,20 @@ module _ (r : Row) where
 
   unfoldable pub test : Bool
   test = passes && (elim (listed-decided (r .modulus)) [ yes h ↦ answers h | no n ↦ false ])
+
+-- the numbers of an image's record
+abbrev pub image-numbers : ImageRecord → List ℕ
+image-numbers r = r .fault .number ∷ r .fault .place ∷ r .degree ∷ r .coefficients
+
+module _ (r : ImageRow) where
+  unfoldable pub image-passes : Bool
+  image-passes = eqb (decided (image-table (r .call)) (image-checks (r .call)) .number) 0
+
+  unfoldable pub image-agrees : Bool
+  image-agrees = same-numbers (image-numbers (r .found)) (image-numbers (image-of (r .call .modulus) (r .call .first-list) (r .call .second-list) (r .call .point)))
+
+  unfoldable pub image-test : Bool
+  image-test = image-passes && image-agrees
 
 -- f less the product of the two leaves nothing
 unfoldable pub multiplies : (p : ℕ) → Prime p → Product → Bool

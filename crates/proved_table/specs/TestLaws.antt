@@ -1,32 +1,35 @@
--- A row that passes the test holds, and so does a product; and each of a list does. Assumes nothing.
-use mathlib.Core.Path.{_≡_, refl, sym, ap₂, subst}
-use mathlib.Core.Bool.{Bool, true, false, _&&_, false≢true}
+-- A row that passes the test holds, and so do an image and a product; and each of a list does. Assumes nothing.
+use mathlib.Core.Path.{_≡_, refl, ap, ap₂, subst}
+use mathlib.Core.Bool.{Bool, true, false, false≢true}
 use mathlib.Core.List.{List, [], _∷_}
-use Prim.Native.Nat.{ℕ, _≤_, _<_}
+use Prim.Native.Nat.{ℕ, _≤_}
 use native.Mathlib.Omega.{arith}
 use lib.Dec.{eqb}
 use lib.ListN.{length, getD, drop}
 use borrow.Author.Tests.{eqb-true}
 use Rattle.field.specs.Prime.{Prime}
 use Rattle.field.specs.Moduli.{Listed}
-use Rattle.field.specs.ModuliLaws.{listed-prime, listed-decided}
+use Rattle.field.specs.ModuliLaws.{listed-decided}
 use Rattle.field.specs.Modulo.{Modulo}
 use Rattle.field.specs.Refusal.{Passes}
 use Rattle.field.specs.RefusalLaws.{placed-never, passes-append}
-use Rattle.field.specs.RefusalDecision.{decided, decided-passes}
+use Rattle.field.specs.RefusalDecision.{decided, decided-tested, decided-passes}
+use Rattle.poly.specs.declared.ImageRecord.{ImageRecord}
 use Rattle.poly.specs.Terms.{Polynomial, terms-of}
+use Rattle.poly.specs.ImageCall.{image-table}
 use Rattle.poly.specs.Room.{work-room, written, cleared}
+use Rattle.poly.specs.Laws.ImageCall.{image-answered}
 use Rattle.poly.specs.Laws.KeyDifference.{and-left, and-right}
 use Rattle.divisor.specs.declared.CandidateRecord.{CandidateRecord}
 use Rattle.divisor.specs.Rule.{report}
 use Rattle.divisor.specs.Candidate.{Call, table, Candidate}
 use Rattle.divisor.specs.Models.Checks.{of-rooms}
-use Rattle.proved_table.specs.Row.{Row, call, Holds, Product, Multiplies, Each}
+use Rattle.proved_table.specs.Row.{Row, call, Holds, ImageRow, Shows, Product, Multiplies, Each}
 use Rattle.proved_table.specs.TermDivisionLaws.{nothing-left-means}
-use Rattle.proved_table.specs.Decisions.{lines, checks}
-use Rattle.proved_table.specs.Computed.{Computed, unanswered, answered, computed}
+use Rattle.proved_table.specs.Decisions.{lines, checks, image-checks}
+use Rattle.proved_table.specs.Computed.{Computed, unanswered, answered}
 use Rattle.proved_table.specs.ComputedLaws.{Sound, computed-sound}
-use Rattle.proved_table.specs.Test.{same-numbers, numbers, agrees, passes, answers, test, multiplies, each}
+use Rattle.proved_table.specs.Test.{same-numbers, numbers, agrees, passes, answers, test, image-numbers, image-passes, image-agrees, image-test, multiplies, each}
 
 same-is : (ms ns : List ℕ) → same-numbers ms ns ≡ true → ms ≡ ns
 unfolding same-numbers
@@ -83,6 +86,18 @@ module _ (r : Row) (output work : List ℕ) (long : length (r .skeleton) ≤ len
 -- the test turned into the contract
 pub tested : (r : Row) → test r ≡ true → Holds r
 tested r h output work long room = tested-here r output work long room h
+
+pub image-tested : (r : ImageRow) → image-test r ≡ true → Shows r
+unfolding image-test image-passes image-agrees
+image-tested r h =
+    image-answered (r .call .modulus) (r .call .first-list) (r .call .second-list) (r .call .point) (decided (image-table (r .call)) (image-checks (r .call))) (decided-tested (image-table (r .call)) (image-checks (r .call)))
+    (eqb-true _ 0 (and-left (image-passes r) (image-agrees r) h)) (image-known (r .found) _ (same-is _ _ (and-right (image-passes r) (image-agrees r) h)))
+  where
+    record-of : List ℕ → ImageRecord
+    record-of l = record { fault = record { number = getD l 0 0; place = getD l 1 0 }; degree = getD l 2 0; coefficients = drop 3 l }
+
+    image-known : (q s : ImageRecord) → image-numbers q ≡ image-numbers s → q ≡ s
+    image-known q s e = ap record-of e
 
 pub multiplied : (p : ℕ) (P : Prime p) (q : Product) → multiplies p P q ≡ true → Multiplies p P q
 unfolding multiplies
