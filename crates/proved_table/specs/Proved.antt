@@ -13,7 +13,7 @@ use Rattle.field.specs.ModuliLaws.{listed-decided}
 use Rattle.field.specs.Fp.{el, add, mul, neg, chase, inv}
 use Rattle.field.specs.FpLaws.{Fp-discrete}
 use Rattle.field.specs.RefusalDecision.{at-most-decided, placed-check, look, first-check, decided}
-use Rattle.poly.specs.Room.{work-room, written, cleared}
+use Rattle.poly.specs.Room.{work-room}
 use Rattle.poly.specs.Models.Cells.{cells}
 use Rattle.poly.specs.Models.Powers.{power, powers}
 use Rattle.poly.specs.Models.Value.{plus-term, value-from, value-of}
@@ -28,7 +28,7 @@ use Rattle.case_file.specs.Reading.{fault-number, reading, read-one, alone, rea
 use Rattle.case_file.specs.Examples.{example}
 use Rattle.console.specs.OfFile.{asked}
 use Rattle.console.specs.CandidateOfFile.{CandidateOfFile}
-use Rattle.proved_table.specs.Row.{Holds, Shows, Multiplies, Each}
+use Rattle.proved_table.specs.Row.{result, Holds, Shows, Multiplies, Each}
 use Rattle.proved_table.specs.Order.{order-by, order, each-at-most}
 use Rattle.proved_table.specs.TermDivision.{plus, less, less-all, before-all, leads, divided, division}
 use Rattle.proved_table.specs.Computed.{tried, divided-by, by-answer, with-counts, by-kept, by-least, by-looks, computed}
@@ -56,6 +56,6 @@ products-hold P = each-tested (multiplies 17 P) (Multiplies 17 P) (multiplied 17
 
 -- the candidate of the case file of document 01 is P1's record, with P1's terms first in the output
 pub example-answered : (output work : List ℕ) → length (p1 .skeleton) ≤ length output → work-room ≤ length work
-    → CandidateOfFile output work example (record { found = p1 .found; output = written (p1 .terms) output; work = cleared work })
+    → CandidateOfFile output work example (result p1 output work)
 unfolding read read-one reading alone fault-number added flat follows numbers little
 example-answered output work long room = asked refl _ (table-holds .0 output work long room)

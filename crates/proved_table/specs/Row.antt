@@ -12,7 +12,7 @@ use Rattle.poly.specs.Terms.{poly}
 use Rattle.poly.specs.ImageCall.{ImageCall, ImageAnswer}
 use Rattle.poly.specs.Room.{work-room, written, cleared}
 use Rattle.divisor.specs.declared.CandidateRecord.{CandidateRecord}
-use Rattle.divisor.specs.Candidate.{Call, Candidate}
+use Rattle.divisor.specs.Candidate.{Call, Result, Candidate}
 
 pub record Row : Type 0 where
   pub modulus : ℕ
@@ -36,11 +36,13 @@ call r output work =
       work = work;
     }
 
--- in every output and work room that are long enough the candidate is the row's record, with the row's terms first in the output
+-- the row's record, the output with the row's terms first in it, and the work room cleared
+abbrev pub result : Row → List ℕ → List ℕ → Result
+result r output work = record { found = r .found; output = written (r .terms) output; work = cleared work }
+
+-- in every output and work room that are long enough that is the candidate
 abbrev pub Holds : Row → Type 0
-Holds r =
-    (output work : List ℕ) → length (r .skeleton) ≤ length output → work-room ≤ length work
-    → Candidate (call r output work) (record { found = r .found; output = written (r .terms) output; work = cleared work })
+Holds r = (output work : List ℕ) → length (r .skeleton) ≤ length output → work-room ≤ length work → Candidate (call r output work) (result r output work)
 
 -- an image that a row names
 pub record ImageRow : Type 0 where

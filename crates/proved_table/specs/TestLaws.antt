@@ -24,7 +24,7 @@ use Rattle.divisor.specs.declared.CandidateRecord.{CandidateRecord}
 use Rattle.divisor.specs.Rule.{report}
 use Rattle.divisor.specs.Candidate.{Call, table, Candidate}
 use Rattle.divisor.specs.Models.Checks.{of-rooms}
-use Rattle.proved_table.specs.Row.{Row, call, Holds, ImageRow, Shows, Product, Multiplies, Each}
+use Rattle.proved_table.specs.Row.{Row, call, result, Holds, ImageRow, Shows, Product, Multiplies, Each}
 use Rattle.proved_table.specs.TermDivisionLaws.{nothing-left-means}
 use Rattle.proved_table.specs.Decisions.{lines, checks, image-checks}
 use Rattle.proved_table.specs.Computed.{Computed, unanswered, answered}
@@ -40,14 +40,10 @@ same-is (m ∷ ms) (n ∷ ns) h = ap₂ _∷_ (eqb-true m n (and-left (eqb m n) 
 
 -- a record and terms are known by their numbers
 numbers-settle : (X : CandidateRecord → List ℕ → Type 0) (r q : CandidateRecord) (terms ts : List ℕ) → numbers r terms ≡ numbers q ts → X r terms → X q ts
-numbers-settle X r q terms ts e x =
-    subst (λ (l : List ℕ). X (record-of l) (behind l)) e x
+numbers-settle X r q terms ts e x = subst (λ (l : List ℕ). X (record-of l) (drop 7 l)) e x
   where
     record-of : List ℕ → CandidateRecord
     record-of l = record { fault = record { number = getD l 0 0; place = getD l 1 0 }; degree = getD l 2 0; bad = getD l 3 0; unlucky = getD l 4 0; kept = getD l 5 0; terms = getD l 6 0 }
-
-    behind : List ℕ → List ℕ
-    behind l = drop 7 l
 
 module _ (r : Row) (output work : List ℕ) (long : length (r .skeleton) ≤ length output) (room : work-room ≤ length work) where
   abbrev c : Call
@@ -64,14 +60,14 @@ module _ (r : Row) (output work : List ℕ) (long : length (r .skeleton) ≤ len
 
   -- what agrees with a sound answer is the candidate's
   agrees-holds : (pass : Passes (table c)) (listed : Listed (r .modulus)) (x : Computed) → Sound c pass listed x → agrees x (r .found) (r .terms) ≡ true
-      → Candidate c (record { found = r .found; output = written (r .terms) output; work = cleared work })
+      → Candidate c (result r output work)
   unfolding agrees
   agrees-holds pass listed unanswered s h = absurd (false≢true h)
   agrees-holds pass listed (answered number degree bad unlucky kept ts) s h =
       numbers-settle (λ (found : CandidateRecord) (terms : List ℕ). Candidate c (record { found = found; output = written terms output; work = cleared work }))
       (report number degree bad unlucky kept (length ts)) (r .found) ts (r .terms) (same-is _ _ h) s
 
-  tested-here : test r ≡ true → Candidate c (record { found = r .found; output = written (r .terms) output; work = cleared work })
+  tested-here : test r ≡ true → Candidate c (result r output work)
   unfolding test
   tested-here h = go (listed-decided (r .modulus)) (and-right (passes r) _ h)
     where
@@ -79,7 +75,7 @@ module _ (r : Row) (output work : List ℕ) (long : length (r .skeleton) ≤ len
       pass = inputs-pass (and-left (passes r) _ h)
 
       go : (d : Dec (Listed (r .modulus))) → elim d as (λ _. Bool) [ yes h ↦ answers r h | no n ↦ false ] ≡ true
-          → Candidate c (record { found = r .found; output = written (r .terms) output; work = cleared work })
+          → Candidate c (result r output work)
       go (yes listed) h = (unfold answers in agrees-holds pass listed _ (computed-sound c pass listed) h)
       go (no n) h = absurd (false≢true h)
 
