@@ -33,7 +33,7 @@ use Rattle.divisor.specs.Laws.Answer.{look-ready}
 use Rattle.divisor.specs.Laws.Assembled as assembled
 use Rattle.proved_table.specs.TermDivision.{Outcome, divides, does-not, open-still}
 use Rattle.proved_table.specs.TermDivisionLaws.{Means, division-means}
-use Rattle.proved_table.specs.Computed.{Verdict, unsettled, settled, Computed, unanswered, answered, tried, divided-by, by-division, by-answer, with-counts, by-kept, by-least, by-looks, computed}
+use Rattle.proved_table.specs.Computed.{Verdict, unsettled, settled, Computed, unanswered, answered, tried, most-steps, divided-by, by-division, by-answer, with-counts, by-kept, by-least, by-looks, computed}
 
 -- the numbers of field elements
 abbrev values-of : {p : ℕ} → List (Fp p) → List ℕ
@@ -59,7 +59,7 @@ divided-by-means : (p : ℕ) (P : Prime p) (G f : List ℕ) → 0 < length G →
     → Means (Modulo p P) (poly p P f) (poly p P G) (divided-by p P G f)
 unfolding divided-by
 divided-by-means p P [] f l h = absurd (omega arith)
-divided-by-means p P (t ∷ ts) f l h = division-means (Modulo p P) 64 (terms-of p P f) (term-of p P t) (terms-of p P ts) (poly-lead p P t ts keys h)
+divided-by-means p P (t ∷ ts) f l h = division-means (Modulo p P) most-steps (terms-of p P f) (term-of p P t) (terms-of p P ts) (poly-lead p P t ts keys h)
 
 module _ (c : Call) (pass : Passes (table c)) (listed : Listed (c .modulus)) where
   abbrev p : ℕ

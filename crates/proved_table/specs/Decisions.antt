@@ -57,6 +57,7 @@ module _ (ks : List ℕ) where
   no-key-beyond i l w = let h = from-wrong i w .0 in omega arith
 
 module _ (p : ℕ) (ts : List ℕ) where
+  -- a coefficient that is 0 or at least p
   abbrev pub WrongCoefficient : ℕ → Type 0
   WrongCoefficient i = (i < length ts) × ((coefficient-of (getD ts i 0) ≡ 0) ⊎ (p ≤ coefficient-of (getD ts i 0)))
 
