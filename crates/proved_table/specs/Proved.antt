@@ -1,4 +1,5 @@
--- P1 to P12 hold: the table passes its test, by computing; and P1 is what the bytes of document 01 ask and are answered. Assumes nothing.
+-- P1 to P12 hold: the table passes its test, by computing. P1 is also what the bytes of document 01 are answered; and beside the table stand
+-- the images that its rows name and the products that give its polynomials. Assumes nothing.
 use mathlib.Core.Path.{_≡_, refl}
 use mathlib.Core.Bool.{true}
 use mathlib.Core.List.{List}
