@@ -10,10 +10,12 @@ use poly::Term;
 use poly::division::WORK_ROOM;
 use poly::key::Key;
 
-// The most keys of a skeleton, and the most point numbers.
-const KEYS: usize = 32;
+// The most keys of a skeleton, the most points, and the most point numbers.
+pub const KEYS: usize = 32;
 
-const POINT_NUMBERS: usize = 96;
+pub const POINTS: usize = 32;
+
+const POINT_NUMBERS: usize = 3 * POINTS;
 
 // The place of the first key that is wrong, or the length.
 fn first_wrong_key(skeleton: &[Number]) -> usize

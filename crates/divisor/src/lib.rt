@@ -1,6 +1,10 @@
 // Layer 3, the candidate: the common divisor that images and equations fix, or a refusal.
 ghost use Rattle.divisor.specs.Candidate.{table as table-of, Candidate};
+ghost use Rattle.divisor.specs.Models.Verdict.{NoGoodPoint};
 ghost use Rattle.field.specs.Refusal.{Passes};
+ghost use Rattle.poly.specs.Room.{work-room};
+ghost use Prim.Native.Nat.{_≤_};
+ghost use lib.ListN.{length};
 use field::Fault;
 use field::Number;
 use poly::Term;
@@ -24,6 +28,22 @@ pub struct CandidateRecord {
     pub terms: usize,
 }
 
+// 12: no point of n is good. The work room is cleared.
+fn no_good_point(n: usize, work: &mut [Number]) -> CandidateRecord
+    requires { ⌜ work-room ≤ length (now work) ⌝ }
+    ensures { λ r. ⌜ NoGoodPoint n (now (work .entry)) (now (work .exit)) r ⌝ }
+{
+    poly::division::clear(WORK_ROOM, work);
+    CandidateRecord {
+        fault: Fault::at(Fault::NO_GOOD_POINT, 0),
+        degree: 0,
+        bad: n,
+        unlucky: 0,
+        kept: 0,
+        terms: 0,
+    }
+}
+
 // The answer to inputs that pass: the points sorted by their images, the equations of those kept, and the verdict on their solution.
 fn answer(
     p: Number,
@@ -41,15 +61,7 @@ fn answer(
     let sizes = points::look(p, first, second, points, work);
     let least = sorting::least_size(sizes, n);
     if least == 0 {
-        poly::division::clear(WORK_ROOM, work);
-        return CandidateRecord {
-            fault: Fault::at(Fault::NO_GOOD_POINT, 0),
-            degree: 0,
-            bad: n,
-            unlucky: 0,
-            kept: 0,
-            terms: 0,
-        };
+        return no_good_point(n, work);
     }
     let bad = sorting::alike(sizes, n, 0);
     let kept = sorting::alike(sizes, n, least);

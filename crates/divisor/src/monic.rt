@@ -2,17 +2,23 @@
 ghost use mathlib.Core.Path.{_≡_};
 ghost use lib.ListN.{take};
 ghost use Rattle.divisor.specs.Models.Monic.{leading as leading-of, Counted, Solvable, Monic};
+use crate::checks::KEYS;
+use crate::table::Cells;
 use field::Element;
 use field::Number;
+use poly::Term;
+
+// A term for each key that a skeleton can have.
+pub type Terms = [Term; KEYS];
 
 // The terms, of which the first `count` are the divisor's.
 pub struct Divisor {
-    pub terms: [u32; 32],
+    pub terms: Terms,
     pub count: usize,
 }
 
 // The first of n coefficients that is not 0, or 0.
-fn leading(values: [Number; 64], n: usize) -> Number
+fn leading(values: Cells, n: usize) -> Number
     requires { ⌜ Counted n values ⌝ }
     ensures { λ r. ⌜ r ≡ leading-of (take n values) ⌝ }
 {
@@ -27,7 +33,7 @@ fn leading(values: [Number; 64], n: usize) -> Number
 }
 
 // The terms of the keys whose coefficient is not 0, each coefficient times the inverse of the leading one.
-pub fn made_monic(p: Number, skeleton: &[Number], values: [Number; 64]) -> Divisor
+pub fn made_monic(p: Number, skeleton: &[Number], values: Cells) -> Divisor
     requires { ⌜ Solvable p (now skeleton) values ⌝ }
     ensures { λ r. ⌜ Monic p (now (skeleton .entry)) values r ⌝ }
 {
@@ -37,7 +43,7 @@ pub fn made_monic(p: Number, skeleton: &[Number], values: [Number; 64]) -> Divis
     };
     let inverse = lead.inverse();
     let factor = inverse.value;
-    let mut terms = [0u32; 32];
+    let mut terms: Terms = [0; KEYS];
     let mut count: usize = 0;
     let mut i: usize = 0;
     while i < skeleton.len() {

@@ -4,6 +4,7 @@ ghost use Rattle.divisor.specs.Models.Sorting.{size-of};
 ghost use mathlib.Core.Path.{_≡_};
 ghost use Prim.Native.Nat.{_/_, _<_};
 ghost use lib.ListN.{length};
+use crate::checks::POINTS;
 use crate::sorting::Sizes;
 use field::Number;
 use poly::Eight;
@@ -45,7 +46,7 @@ pub fn look(
     requires { ⌜ LookReady p (now first) (now second) (now points) (now work) ⌝ }
     ensures { λ r. ⌜ Looks (length (now (points .entry)) / 3) p (now (first .entry)) (now (second .entry)) (now (points .entry)) (now (work .entry)) (now (work .exit)) r ⌝ }
 {
-    let mut sizes: Sizes = [0; 32];
+    let mut sizes: Sizes = [0; POINTS];
     let mut i: usize = 0;
     while i < points.len() / 3 {
         let at = 3 * i;

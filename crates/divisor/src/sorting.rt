@@ -2,10 +2,11 @@
 ghost use mathlib.Core.Path.{_≡_};
 ghost use lib.ListN.{take};
 ghost use Rattle.divisor.specs.Models.Sorting.{Within, lesser as lesser-of, least, alike as alike-of};
+use crate::checks::POINTS;
 use field::Number;
 
 // A size for each of at most 32 points.
-pub type Sizes = [Number; 32];
+pub type Sizes = [Number; POINTS];
 
 // The less of two sizes, of which 0 is none.
 fn lesser(a: Number, b: Number) -> Number

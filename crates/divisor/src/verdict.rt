@@ -4,6 +4,7 @@ ghost use Prim.Native.Nat.{_≤_};
 ghost use lib.ListN.{length};
 ghost use Rattle.poly.specs.Room.{work-room, written};
 ghost use Rattle.divisor.specs.Models.Verdict.{CanDivideBoth, BothDivided, Refused, only, VerdictReady, Settled};
+use crate::table::Cells;
 use crate::table::Kind;
 use crate::table::Solved;
 use field::Fault;
@@ -61,7 +62,7 @@ fn divided(
     first: &[Term],
     second: &[Term],
     skeleton: &[Number],
-    values: [Number; 64],
+    values: Cells,
     output: &mut [Term],
     work: &mut [Number],
 ) -> Verdict

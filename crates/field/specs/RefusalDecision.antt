@@ -15,6 +15,11 @@ abbrev pub not-decided : {X : Type 0} → Dec X → Dec (¬ X)
 not-decided (yes x) = no (λ n. n x)
 not-decided (no n) = yes n
 
+abbrev pub both-decided : {X Y : Type 0} → Dec X → Dec Y → Dec (X × Y)
+both-decided (yes x) (yes y) = yes (x, y)
+both-decided (yes x) (no n) = no (λ h. n (h .1))
+both-decided (no n) y = no (λ h. n (h .0))
+
 abbrev pub either-decided : {X Y : Type 0} → Dec X → Dec Y → Dec (X ⊎ Y)
 either-decided (yes x) y = yes (inl x)
 either-decided (no n) (yes y) = yes (inr y)

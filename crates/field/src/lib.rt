@@ -120,7 +120,7 @@ impl Element {
         }
     }
 
-    pub fn sum(self, other: Element) -> Element
+    pub(crate) fn sum(self, other: Element) -> Element
         requires { ⌜ Fit self other ⌝ }
         ensures { λ r. ⌜ r ≡ sum-of self other ⌝ }
     {
@@ -132,7 +132,7 @@ impl Element {
         }
     }
 
-    pub fn difference(self, other: Element) -> Element
+    pub(crate) fn difference(self, other: Element) -> Element
         requires { ⌜ Fit self other ⌝ }
         ensures { λ r. ⌜ r ≡ difference-of self other ⌝ }
     {
@@ -144,7 +144,7 @@ impl Element {
         }
     }
 
-    pub fn product(self, other: Element) -> Element
+    pub(crate) fn product(self, other: Element) -> Element
         requires { ⌜ Fit self other ⌝ }
         ensures { λ r. ⌜ r ≡ product-of self other ⌝ }
     {

@@ -30,7 +30,7 @@ impl Key {
 
     pub const COEFFICIENT_LIMIT: u32 = 1 << Key::COEFFICIENT;
 
-    pub fn pack(x: u16, y: u16, z: u16, w: u16) -> Key
+    pub(crate) fn pack(x: u16, y: u16, z: u16, w: u16) -> Key
         requires { ⌜ Packable x y z w ⌝ }
         ensures { λ r. ⌜ r .bits ≡ 512 * x + 64 * y + 8 * z + w ⌝ }
     {

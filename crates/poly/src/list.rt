@@ -12,7 +12,7 @@ use field::Fault;
 use field::Number;
 
 // The most terms that a list has.
-pub const MOST: usize = 256;
+const MOST: usize = 256;
 
 // The place of the first term that is wrong where coefficients are below the bound, or the length.
 fn first_wrong(bound: u32, terms: &[Term]) -> usize

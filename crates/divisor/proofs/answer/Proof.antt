@@ -10,65 +10,61 @@ use borrow.Author.Needs.{needs}
 use Rattle.divisor.proofs.answer.Statement.{statement}
 use Rattle.divisor.proofs.answer.Tie as tie
 
+-- the call that is answered
+abbrev question : tie.Start → Call
+question s =
+    let a = s .args in
+    record { modulus = a .p; first-list = a .first .now; second-list = a .second .now; skeleton = a .skeleton .now; points = a .points .now; output = a .out .now; work = a .work .now }
+
 look-requires : tie.Need-look-requires
 look-requires c κs =
     let s = c .before .before .before .before .before .before .before in
-    let a = s .args in
-    let q : Call = record { modulus = a .p; first-list = a .first .now; second-list = a .second .now; skeleton = a .skeleton .now; points = a .points .now; output = a .out .now; work = a .work .now } in
+    let q = question s in
     look-ready q (s .pre)
 
 least-size-requires : tie.Need-least-size-requires
 least-size-requires c κs =
     let s = c .before .before .before .before .before .before .before .before .before .before in
-    let a = s .args in
-    let q : Call = record { modulus = a .p; first-list = a .first .now; second-list = a .second .now; skeleton = a .skeleton .now; points = a .points .now; output = a .out .now; work = a .work .now } in
+    let q = question s in
     let l = c .before .before .look in
     within q (s .pre) _ (l .result) (l .ensures)
 
-clear-requires : tie.Need-clear-requires
-clear-requires c κs =
+no-good-point-requires : tie.Need-no-good-point-requires
+no-good-point-requires c κs =
     let s = c .before .before .before .before .before .before .before .before .before .before .before .before .before in
-    let a = s .args in
-    let q : Call = record { modulus = a .p; first-list = a .first .now; second-list = a .second .now; skeleton = a .skeleton .now; points = a .points .now; output = a .out .now; work = a .work .now } in
+    let q = question s in
     let l = c .before .before .before .before .before .look in
     room-after q (s .pre) _ (l .result) (l .ensures)
-
-at-requires : tie.Need-at-requires
-at-requires c κs = search needs
 
 same-length : tie.Need-same-length
 same-length c = search needs
 
 returns : tie.Need-returns
 returns c =
-    let s = c .before .before .before .before .before .before .before .before .before .before .before .before .before .before .before .before .before in
-    let a = s .args in
-    let q : Call = record { modulus = a .p; first-list = a .first .now; second-list = a .second .now; skeleton = a .skeleton .now; points = a .points .now; output = a .out .now; work = a .work .now } in
-    let l = c .before .before .before .before .before .before .before .before .before .look in
-    let m = c .before .before .before .before .before .before .least-size in
-    nothing-good q (s .pre) _ (l .result) (l .ensures) (sym (m .ensures) ∙ c .before .before .before .before .before .if1 .taken) _ (c .before .before .before .clear .ensures) (c .at .result) (c .at .ensures)
+    let s = c .before .before .before .before .before .before .before .before .before .before .before .before .before .before .before .before in
+    let q = question s in
+    let l = c .before .before .before .before .before .before .before .before .look in
+    let m = c .before .before .before .before .before .least-size in
+    nothing-good q (s .pre) _ (l .result) (l .ensures) (sym (m .ensures) ∙ c .before .before .before .before .if1 .taken) _ (c .before .before .no-good-point .result) (c .before .before .no-good-point .ensures)
 
 alike-requires : tie.Need-alike-requires
 alike-requires c κs =
     let s = c .before .before .before .before .before .before .before .before .before .before .before .before in
-    let a = s .args in
-    let q : Call = record { modulus = a .p; first-list = a .first .now; second-list = a .second .now; skeleton = a .skeleton .now; points = a .points .now; output = a .out .now; work = a .work .now } in
+    let q = question s in
     let l = c .before .before .before .before .look in
     within q (s .pre) _ (l .result) (l .ensures)
 
 alike-requires-2 : tie.Need-alike-requires-2
 alike-requires-2 c κs =
     let s = c .before .before .before .before .before .before .before .before .before .before .before .before .before in
-    let a = s .args in
-    let q : Call = record { modulus = a .p; first-list = a .first .now; second-list = a .second .now; skeleton = a .skeleton .now; points = a .points .now; output = a .out .now; work = a .work .now } in
+    let q = question s in
     let l = c .before .before .before .before .before .look in
     within q (s .pre) _ (l .result) (l .ensures)
 
 add-columns : tie.Need-add-columns
 add-columns c =
     let s = c .before .before .before .before .before .before .before .before .before .before .before .before .before .before in
-    let a = s .args in
-    let q : Call = record { modulus = a .p; first-list = a .first .now; second-list = a .second .now; skeleton = a .skeleton .now; points = a .points .now; output = a .out .now; work = a .work .now } in
+    let q = question s in
     let l = c .before .before .before .before .before .before .look in
     let m = c .before .before .before .least-size in
     let k = c .alike2 in
@@ -78,8 +74,7 @@ add-columns c =
 equations-requires : tie.Need-equations-requires
 equations-requires c κs =
     let s = c .before .before .before .before .before .before .before .before .before .before .before .before .before .before .before in
-    let a = s .args in
-    let q : Call = record { modulus = a .p; first-list = a .first .now; second-list = a .second .now; skeleton = a .skeleton .now; points = a .points .now; output = a .out .now; work = a .work .now } in
+    let q = question s in
     let l = c .before .before .before .before .before .before .before .look in
     let m = c .before .before .before .before .least-size in
     let k = c .before .alike2 in
@@ -88,8 +83,7 @@ equations-requires c κs =
 solution-requires : tie.Need-solution-requires
 solution-requires c κs =
     let s = c .before .before .before .before .before .before .before .before .before .before .before .before .before .before .before .before in
-    let a = s .args in
-    let q : Call = record { modulus = a .p; first-list = a .first .now; second-list = a .second .now; skeleton = a .skeleton .now; points = a .points .now; output = a .out .now; work = a .work .now } in
+    let q = question s in
     let l = c .before .before .before .before .before .before .before .before .look in
     let m = c .before .before .before .before .before .least-size in
     let k = c .before .before .alike2 in
@@ -99,8 +93,7 @@ solution-requires c κs =
 settle-requires : tie.Need-settle-requires
 settle-requires c κs =
     let s = c .before .before .before .before .before .before .before .before .before .before .before .before .before .before .before .before .before .before .before in
-    let a = s .args in
-    let q : Call = record { modulus = a .p; first-list = a .first .now; second-list = a .second .now; skeleton = a .skeleton .now; points = a .points .now; output = a .out .now; work = a .work .now } in
+    let q = question s in
     let l = c .before .before .before .before .before .before .before .before .before .before .before .look in
     let m = c .before .before .before .before .before .before .before .before .least-size in
     let k = c .before .before .before .before .before .alike2 in
@@ -108,20 +101,19 @@ settle-requires c κs =
     let v = c .before .before .solution in
     ready-verdict q (s .pre) _ (l .result) (l .ensures) (m .result) (m .ensures) (c .before .before .before .before .before .before .before .if1 .left) (k .result) (k .ensures) (t .result) (t .ensures) (v .result) (v .ensures)
 
-at-requires-2 : tie.Need-at-requires-2
-at-requires-2 c κs = search needs
+at-requires : tie.Need-at-requires
+at-requires c κs = search needs
 
 cast-t17 : tie.Need-cast-t17
 cast-t17 c = search needs
 
-sub-t32 : tie.Need-sub-t32
-sub-t32 c = search needs
+sub-t30 : tie.Need-sub-t30
+sub-t30 c = search needs
 
-sub-t33 : tie.Need-sub-t33
-sub-t33 c =
+sub-t31 : tie.Need-sub-t31
+sub-t31 c =
     let s = c .before .before .before .before .before .before .before .before .before .before .before .before .before .before .before .before .before .before .before .before .before .before .before .before .before in
-    let a = s .args in
-    let q : Call = record { modulus = a .p; first-list = a .first .now; second-list = a .second .now; skeleton = a .skeleton .now; points = a .points .now; output = a .out .now; work = a .work .now } in
+    let q = question s in
     let l = c .before .before .before .before .before .before .before .before .before .before .before .before .before .before .before .before .before .look in
     let m = c .before .before .before .before .before .before .before .before .before .before .before .before .before .before .least-size in
     let k = c .before .before .before .before .before .before .before .before .before .before .before .alike2 in
@@ -131,11 +123,10 @@ sub-t33 c =
     let fit = bad-fits q (s .pre) _ (l .result) (l .ensures) (m .result) (m .ensures) (c .before .before .before .before .before .before .before .before .before .before .before .before .before .if1 .left) (k .result) (k .ensures) (t .result) (t .ensures) (v .result) (v .ensures) (b .result) (b .ensures) in
     omega arith
 
-sub-t34 : tie.Need-sub-t34
-sub-t34 c =
+sub-t32 : tie.Need-sub-t32
+sub-t32 c =
     let s = c .before .before .before .before .before .before .before .before .before .before .before .before .before .before .before .before .before .before .before .before .before .before .before .before .before in
-    let a = s .args in
-    let q : Call = record { modulus = a .p; first-list = a .first .now; second-list = a .second .now; skeleton = a .skeleton .now; points = a .points .now; output = a .out .now; work = a .work .now } in
+    let q = question s in
     let l = c .before .before .before .before .before .before .before .before .before .before .before .before .before .before .before .before .before .look in
     let m = c .before .before .before .before .before .before .before .before .before .before .before .before .before .before .least-size in
     let k = c .before .before .before .before .before .before .before .before .before .before .before .alike2 in
@@ -151,16 +142,14 @@ same-length-2 c = search needs
 same-length-3 : tie.Need-same-length-3
 same-length-3 c =
     let s = c .before .before .before .before .before .before .before .before .before .before .before .before .before .before .before .before .before .before .before .before .before .before .before .before .before in
-    let a = s .args in
-    let q : Call = record { modulus = a .p; first-list = a .first .now; second-list = a .second .now; skeleton = a .skeleton .now; points = a .points .now; output = a .out .now; work = a .work .now } in
+    let q = question s in
     let l = c .before .before .before .before .before .before .before .before .before .before .before .before .before .before .before .before .before .look in
     ap length (c .before .before .before .before .before .settle .ensures .clears) ∙ zeroed-length work-room _ (room-after q (s .pre) _ (l .result) (l .ensures)) ∙ l .ensures .same-length
 
 returns-2 : tie.Need-returns-2
 returns-2 c =
     let s = c .before .before .before .before .before .before .before .before .before .before .before .before .before .before .before .before .before .before .before .before .before .before .before .before .before in
-    let a = s .args in
-    let q : Call = record { modulus = a .p; first-list = a .first .now; second-list = a .second .now; skeleton = a .skeleton .now; points = a .points .now; output = a .out .now; work = a .work .now } in
+    let q = question s in
     let l = c .before .before .before .before .before .before .before .before .before .before .before .before .before .before .before .before .before .look in
     let m = c .before .before .before .before .before .before .before .before .before .before .before .before .before .before .least-size in
     let k = c .before .before .before .before .before .before .before .before .before .before .before .alike2 in
@@ -168,7 +157,7 @@ returns-2 c =
     let v = c .before .before .before .before .before .before .before .before .solution in
     let b = c .before .before .before .before .before .before .before .before .before .before .before .before .alike in
     let w = c .before .before .before .before .before .settle in
-    answered-so q (s .pre) _ (l .result) (l .ensures) (m .result) (m .ensures) (c .before .before .before .before .before .before .before .before .before .before .before .before .before .if1 .left) (k .result) (k .ensures) (t .result) (t .ensures) (v .result) (v .ensures) (b .result) (b .ensures) (w .result) (w .ensures) (c .at2 .result) (c .at2 .ensures)
+    answered-so q (s .pre) _ (l .result) (l .ensures) (m .result) (m .ensures) (c .before .before .before .before .before .before .before .before .before .before .before .before .before .if1 .left) (k .result) (k .ensures) (t .result) (t .ensures) (v .result) (v .ensures) (b .result) (b .ensures) (w .result) (w .ensures) (c .at .result) (c .at .ensures)
 
 pub answer-spec : {M : Type 1} → statement M
 answer-spec =
@@ -176,8 +165,7 @@ answer-spec =
     (tie.spec
     look-requires
     least-size-requires
-    clear-requires
-    at-requires
+    no-good-point-requires
     same-length
     returns
     alike-requires
@@ -186,11 +174,11 @@ answer-spec =
     equations-requires
     solution-requires
     settle-requires
-    at-requires-2
+    at-requires
     cast-t17
+    sub-t30
+    sub-t31
     sub-t32
-    sub-t33
-    sub-t34
     same-length-2
     same-length-3
     returns-2)

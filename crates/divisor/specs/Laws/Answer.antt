@@ -9,6 +9,7 @@ use lib.ListN.{length, getD, take}
 use lib.Seq.{length-take-le, getD-take}
 use Rattle.field.specs.Moduli.{Listed}
 use Rattle.field.specs.Prime.{Prime}
+use Rattle.field.specs.Fp.{Fp}
 use Rattle.field.specs.Numbers.{NO_GOOD_POINT}
 use Rattle.field.specs.Refusal.{fault, Passes}
 use Rattle.field.specs.declared.Fault.{Fault}
@@ -19,6 +20,7 @@ use Rattle.poly.specs.Coefficients.{Eight}
 use Rattle.poly.specs.Room.{work-room, written, cleared}
 use Rattle.poly.specs.Laws.Room.{zeroed-same}
 use Rattle.poly.specs.Laws.RightLists.{RightLists, lists-are-right}
+use Rattle.divisor.specs.declared.CandidateRecord.{CandidateRecord}
 use Rattle.divisor.specs.declared.table.Kind.{Kind}
 use Rattle.divisor.specs.declared.table.Kind.the-variants.{None, One, Several}
 use Rattle.divisor.specs.declared.table.Solved.{Solved}
@@ -34,7 +36,7 @@ use Rattle.divisor.specs.Models.Checks.{of-skeleton}
 use Rattle.divisor.specs.Models.Rows.{all-rows}
 use Rattle.divisor.specs.Models.Sorting.{Within, sizes-of, least, alike, kept-of}
 use Rattle.divisor.specs.Models.Looks.{LookReady, Looks, kept-before, rows-so, EquationsReady, Equations-before}
-use Rattle.divisor.specs.Models.Verdict.{VerdictReady, Settles, Settled, MakesDivisor, none, several, rejected, accepted}
+use Rattle.divisor.specs.Models.Verdict.{NoGoodPoint, VerdictReady, Settles, Settled, MakesDivisor, none, several, rejected, accepted}
 use Rattle.divisor.specs.Laws.Checks.{RightPoints, points-are-right, skeleton-count, keys-small}
 use Rattle.divisor.specs.Laws.Sorting.{Looked, Least, AtLeast, least-is, kept-count}
 use Rattle.divisor.specs.Laws.MonicTerms.{AllBelow}
@@ -107,11 +109,11 @@ module _ (c : Call) (pass : Passes (table c)) where
     sizes-are = sizes-seen p (c .first-list) (c .second-list) (c .points) n (c .work) after sizes few-points look
 
     -- no point is good
-    pub nothing-good : least (take (length (c .points) / 3) sizes) ≡ 0 → (end : List ℕ) → end ≡ cleared after → (f : Fault) → f ≡ fault NO_GOOD_POINT 0
-        → Candidate c (record { found = record { fault = f; degree = 0; bad = length (c .points) / 3; unlucky = 0; kept = 0; terms = 0 }; output = c .output; work = end })
-    nothing-good e end r f q =
-        subst (λ (x : Fault). Candidate c (record { found = record { fault = x; degree = 0; bad = n; unlucky = 0; kept = 0; terms = 0 }; output = c .output; work = end })) (sym q)
-        (subst (λ (w : List ℕ). Candidate c (record { found = report NO_GOOD_POINT 0 n 0 0 0; output = c .output; work = w })) (sym (r ∙ same-room))
+    pub nothing-good : least (take (length (c .points) / 3) sizes) ≡ 0 → (end : List ℕ) (r : CandidateRecord) → NoGoodPoint (length (c .points) / 3) after end r
+        → Candidate c (record { found = r; output = c .output; work = end })
+    nothing-good e end r h =
+        subst (λ (x : CandidateRecord). Candidate c (record { found = x; output = c .output; work = end })) (sym (h .is))
+        (subst (λ (w : List ℕ). Candidate c (record { found = report NO_GOOD_POINT 0 n 0 0 0; output = c .output; work = w })) (sym (h .clears ∙ same-room))
         (assembled.answer-all-bad c pass listed looks looked (least-is 0 (sizes-of looks) .zero (ap least (sym sizes-are) ∙ e))))
 
     module _ (m : ℕ) (is-least : m ≡ least (take (length (c .points) / 3) sizes)) (some : ¬ (m ≡ 0)) where
@@ -203,17 +205,19 @@ module _ (c : Call) (pass : Passes (table c)) where
             ∙ ap (λ (x : ℕ). rows-so (Numbers c listed) (monomials c listed) x (kept-before P m (c .points) sizes after n)) b
             ∙ ap (rows-so (Numbers c listed) (monomials c listed) (length ks)) (kept-are ∙ kept-is)
 
-        says : Says p P (length (c .skeleton) + length ks) (made .rows) (solved p t .kind) (solved p t .values)
+        -- what the kind and the values say of the equations of the rule
+        says : Says p P (length (c .skeleton) + length ks) (all-rows (Numbers c listed) (monomials c listed) k ks) (solved p t .kind) (solved p t .values)
         says =
             let e = count-is in
             let l = columns-most in
             let a : length (c .skeleton) + kept ≡ suc (length (c .skeleton) + length ks) = omega arith in
-            subst (λ (u : Table). Says p P (length (c .skeleton) + length ks) (made .rows) (solved p u .kind) (solved p u .values))
+            subst (λ (rs : List (List (Fp p))). Says p P (length (c .skeleton) + length ks) rs (solved p t .kind) (solved p t .values)) means
+            (subst (λ (u : Table). Says p P (length (c .skeleton) + length ks) (rows-of p (length (c .skeleton) + length ks) (made .rows)) (solved p u .kind) (solved p u .values))
             (sym (made .adds ∙ ap (λ (x : ℕ). added p (empty-table x) (made .rows)) a))
-            (table-answers p P (length (c .skeleton) + length ks) (omega arith) (made .rows) listed (made .ready))
+            (table-answers p P (length (c .skeleton) + length ks) (omega arith) (made .rows) listed (made .ready)))
 
-        says-as : (x : Kind) → solved p t .kind ≡ x → Says p P (length (c .skeleton) + length ks) (made .rows) x (solved p t .values)
-        says-as x e = subst (λ (y : Kind). Says p P (length (c .skeleton) + length ks) (made .rows) y (solved p t .values)) e says
+        says-as : (x : Kind) → solved p t .kind ≡ x → Says p P (length (c .skeleton) + length ks) (all-rows (Numbers c listed) (monomials c listed) k ks) x (solved p t .values)
+        says-as x e = subst (λ (y : Kind). Says p P (length (c .skeleton) + length ks) (all-rows (Numbers c listed) (monomials c listed) k ks) y (solved p t .values)) e says
 
         long : length (c .skeleton) ≤ length (solved p t .values)
         long = let e = solved-length p t in let l = keys-most in omega arith
@@ -223,7 +227,7 @@ module _ (c : Call) (pass : Passes (table c)) where
 
         makes : solved p t .kind ≡ One → MakesDivisor p (c .skeleton) (take (length (c .skeleton)) (solved p t .values))
         makes e =
-            let g = assembled.list c pass listed looks looked d at-least k ks kept-is (made .rows) means (solved p t .values) (says-as One e) long below in
+            let g = assembled.list c pass listed looks looked d at-least k ks kept-is (solved p t .values) (says-as One e) long below in
             record { led = let q = g .led in omega arith; some = g .some; falls = g .falls }
 
         pub verdict-ready : VerdictReady (c .modulus) (c .first-list) (c .second-list) (c .skeleton) (solved (c .modulus) t) (c .output) after
@@ -232,10 +236,10 @@ module _ (c : Call) (pass : Passes (table c)) where
         -- what is settled is the rule's verdict
         settles : (number : ℕ) (terms : List ℕ) → Settles p (c .first-list) (c .second-list) (c .skeleton) (solved p t) number terms
             → Candidate c (assembled.result c pass listed looks looked d at-least k ks kept-is number terms)
-        settles number terms (none e) = assembled.answer-none c pass listed looks looked d at-least k ks kept-is (made .rows) means (solved p t .values) (says-as None e)
-        settles number terms (several e) = assembled.answer-several c pass listed looks looked d at-least k ks kept-is (made .rows) means (solved p t .values) (says-as Several e)
-        settles number terms (rejected e h) = assembled.answer-rejected c pass listed looks looked d at-least k ks kept-is (made .rows) means (solved p t .values) (says-as One e) long below (h P)
-        settles number terms (accepted e h) = assembled.answer-accepted c pass listed looks looked d at-least k ks kept-is (made .rows) means (solved p t .values) (says-as One e) long below (h P .0) (h P .1)
+        settles number terms (none e) = assembled.answer-none c pass listed looks looked d at-least k ks kept-is (says-as None e)
+        settles number terms (several e) = assembled.answer-several c pass listed looks looked d at-least k ks kept-is (says-as Several e .0) (says-as Several e .1) (says-as Several e .2)
+        settles number terms (rejected e h) = assembled.answer-rejected c pass listed looks looked d at-least k ks kept-is (solved p t .values) (says-as One e) long below (h P)
+        settles number terms (accepted e h) = assembled.answer-accepted c pass listed looks looked d at-least k ks kept-is (solved p t .values) (says-as One e) long below (h P .0) (h P .1)
 
         pub finished : (output work : List ℕ) (v : Verdict) → Settled (c .modulus) (c .first-list) (c .second-list) (c .skeleton) (solved (c .modulus) t) (c .output) output after work v
             → Candidate c (record {

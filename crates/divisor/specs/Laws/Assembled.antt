@@ -1,5 +1,5 @@
--- What the routine finds, put together, meets the promise of the call: from the images looked at, the rows of the equations and what the table says
--- of them, and the two trial divisions. Assumes nothing.
+-- What the routine finds, put together, meets the promise of the call: from the images looked at, what the equations have for solutions,
+-- and the two trial divisions. Assumes nothing.
 use mathlib.Core.Path.{_≡_, refl, sym, _∙_, ap, subst}
 use mathlib.Core.List.{List, [], _∷_, map}
 use Prim.Native.Nat.{ℕ, suc, _+_, _-_, _/_, _≤_, _<_}
@@ -24,11 +24,9 @@ use Rattle.poly.specs.Image.{Divides, Image}
 use Rattle.poly.specs.Lists.{WrongKey}
 use Rattle.poly.specs.Room.{written, cleared}
 use Rattle.poly.specs.Laws.Lists.{none-wrong, FallFrom, keys-fall}
-use Rattle.divisor.specs.declared.table.Row.{Row}
-use Rattle.divisor.specs.declared.table.Kind.the-variants.{None, One, Several}
 use Rattle.divisor.specs.Rule.{report, Kept, Sorted, Unknowns, Solution, OnlySolution, without-zeros, made-monic, divisor, Verdict, none, several, rejected, accepted, all-bad, some-good}
 use Rattle.divisor.specs.Candidate.{Call, table, points-of, prime, Numbers, A, B, monomials, lent-points, Result, Candidate, answered}
-use Rattle.divisor.specs.Models.TableMeaning.{entries, rows-of, Says}
+use Rattle.divisor.specs.Models.TableMeaning.{entries}
 use Rattle.divisor.specs.Models.Rows.{all-rows}
 use Rattle.divisor.specs.Models.Sorting.{sizes-of, alike, kept-of}
 use Rattle.divisor.specs.Models.Monic.{monic-terms}
@@ -136,76 +134,78 @@ module _ (c : Call) (pass : Passes (table c)) (listed : Listed (c .modulus)) (lo
     abbrev pub unknowns : ℕ
     unknowns = length (c .skeleton) + length ks
 
-    module _ (rows : List Row) (means : rows-of p (length (c .skeleton) + length ks) rows ≡ all-rows (Numbers c listed) (monomials c listed) k ks) where
-      length-monomials : length (monomials c listed) ≡ length (c .skeleton)
-      length-monomials = length-map (c .skeleton) exponents
+    abbrev equations : List (List (Fp (c .modulus)))
+    equations = all-rows (Numbers c listed) (monomials c listed) k ks
 
-      pub answer-none : (values : List ℕ) → Says p P (length (c .skeleton) + length ks) rows None values → Candidate c (result NO_SOLUTION [])
-      answer-none values says = answer-verdict NO_SOLUTION [] (none (no-solution (Numbers c listed) (monomials c listed) k ks
-          (subst (λ (n : ℕ). linear.NoSolution (Numbers c listed) (n + length ks) (all-rows (Numbers c listed) (monomials c listed) k ks)) (sym length-monomials)
-          (subst (linear.NoSolution (Numbers c listed) (length (c .skeleton) + length ks)) means says))))
+    length-monomials : length (monomials c listed) ≡ length (c .skeleton)
+    length-monomials = length-map (c .skeleton) exponents
 
-      pub answer-several : (values : List ℕ) → Says p P (length (c .skeleton) + length ks) rows Several values → Candidate c (result SEVERAL_SOLUTIONS [])
-      answer-several values says = answer-verdict SEVERAL_SOLUTIONS [] (several (several-solutions (Numbers c listed) (monomials c listed) k ks (says .0) (says .1)
-          (subst (λ (n : ℕ). linear.DifferentSolutions (Numbers c listed) (n + length ks) (all-rows (Numbers c listed) (monomials c listed) k ks) (says .0) (says .1)) (sym length-monomials)
-          (subst (λ (rs : List (List (Fp p))). linear.DifferentSolutions (Numbers c listed) (length (c .skeleton) + length ks) rs (says .0) (says .1)) means (says .2)))))
+    pub answer-none : linear.NoSolution (Numbers c listed) (length (c .skeleton) + length ks) (all-rows (Numbers c listed) (monomials c listed) k ks) → Candidate c (result NO_SOLUTION [])
+    answer-none h = answer-verdict NO_SOLUTION [] (none (no-solution (Numbers c listed) (monomials c listed) k ks
+        (subst (λ (n : ℕ). linear.NoSolution (Numbers c listed) (n + length ks) equations) (sym length-monomials) h)))
 
-      module _ (values : List ℕ) (says : Says p P (length (c .skeleton) + length ks) rows One values) (long : length (c .skeleton) ≤ length values)
-          (below : AllBelow p (take (length (c .skeleton)) values)) where
-        abbrev cs : List ℕ
-        cs = take (length (c .skeleton)) values
+    pub answer-several : (v w : List (Fp (c .modulus))) → linear.DifferentSolutions (Numbers c listed) (length (c .skeleton) + length ks) (all-rows (Numbers c listed) (monomials c listed) k ks) v w
+        → Candidate c (result SEVERAL_SOLUTIONS [])
+    answer-several v w h = answer-verdict SEVERAL_SOLUTIONS [] (several (several-solutions (Numbers c listed) (monomials c listed) k ks v w
+        (subst (λ (n : ℕ). linear.DifferentSolutions (Numbers c listed) (n + length ks) equations v w) (sym length-monomials) h)))
 
-        only : OnlySolution (Numbers c listed) (monomials c listed) (k ∷ ks) (unknowns-of (Numbers c listed) (monomials c listed) (entries p values 0 (length (c .skeleton) + length ks)))
-        only = only-solution (Numbers c listed) (monomials c listed) k ks (entries p values 0 (length (c .skeleton) + length ks))
-            (subst (λ (n : ℕ). linear.OnlySolution (Numbers c listed) (n + length ks) (all-rows (Numbers c listed) (monomials c listed) k ks) (entries p values 0 (length (c .skeleton) + length ks))) (sym length-monomials)
-            (subst (λ (rs : List (List (Fp p))). linear.OnlySolution (Numbers c listed) (length (c .skeleton) + length ks) rs (entries p values 0 (length (c .skeleton) + length ks))) means says))
+    -- the values of the only solution, of which the first are the coefficients of the skeleton
+    module _ (values : List ℕ)
+        (solves : linear.OnlySolution (Numbers c listed) (length (c .skeleton) + length ks) (all-rows (Numbers c listed) (monomials c listed) k ks) (entries (c .modulus) values 0 (length (c .skeleton) + length ks)))
+        (long : length (c .skeleton) ≤ length values) (below : AllBelow (c .modulus) (take (length (c .skeleton)) values)) where
+      abbrev cs : List ℕ
+      cs = take (length (c .skeleton)) values
 
-        abbrev found : Unknowns (Numbers c listed)
-        found = unknowns-of (Numbers c listed) (monomials c listed) (entries p values 0 (length (c .skeleton) + length ks))
+      only : OnlySolution (Numbers c listed) (monomials c listed) (k ∷ ks) (unknowns-of (Numbers c listed) (monomials c listed) (entries p values 0 (length (c .skeleton) + length ks)))
+      only = only-solution (Numbers c listed) (monomials c listed) k ks (entries p values 0 (length (c .skeleton) + length ks))
+          (subst (λ (n : ℕ). linear.OnlySolution (Numbers c listed) (n + length ks) equations (entries p values 0 (length (c .skeleton) + length ks))) (sym length-monomials) solves)
 
-        -- the skeleton polynomial of the solution
-        same-skeleton : found .skeleton ≡ skeleton-of p P (c .skeleton) cs
-        same-skeleton =
-            ap (λ (n : ℕ). with-coefficients (Numbers c listed) (monomials c listed) (entries p values 0 (n + length ks))) (sym length-monomials)
-            ∙ coefficients-first p P (monomials c listed) values 0 (length ks) (let e = length-monomials in omega arith)
-            ∙ ap (λ (n : ℕ). with-coefficients (Numbers c listed) (monomials c listed) (map (el p) (take n values))) length-monomials
+      abbrev found : Unknowns (Numbers c listed)
+      found = unknowns-of (Numbers c listed) (monomials c listed) (entries p values 0 (length (c .skeleton) + length ks))
 
-        found-is : found ≡ record { skeleton = skeleton-of p P (c .skeleton) cs; multipliers = found .multipliers }
-        found-is = λ i. record { skeleton = same-skeleton i; multipliers = found .multipliers }
+      -- the skeleton polynomial of the solution
+      same-skeleton : found .skeleton ≡ skeleton-of p P (c .skeleton) cs
+      same-skeleton =
+          ap (λ (n : ℕ). with-coefficients (Numbers c listed) (monomials c listed) (entries p values 0 (n + length ks))) (sym length-monomials)
+          ∙ coefficients-first p P (monomials c listed) values 0 (length ks) (let e = length-monomials in omega arith)
+          ∙ ap (λ (n : ℕ). with-coefficients (Numbers c listed) (monomials c listed) (map (el p) (take n values))) length-monomials
 
-        sized : length cs ≡ length (c .skeleton)
-        sized = length-take-le (length (c .skeleton)) values long
+      found-is : found ≡ record { skeleton = skeleton-of p P (c .skeleton) cs; multipliers = found .multipliers }
+      found-is = λ i. record { skeleton = same-skeleton i; multipliers = found .multipliers }
 
-        pub small : p < 65536
-        small = let b = listed-below listed in omega arith
+      sized : length cs ≡ length (c .skeleton)
+      sized = length-take-le (length (c .skeleton)) values long
 
-        pub list : GoodList p P small (c .skeleton) cs
-        list = good-list p P small (c .skeleton) cs sized below skeleton-falls ks k (found .multipliers)
-            (subst (Solution (Numbers c listed) (monomials c listed) (k ∷ ks)) found-is (only .0)) d (image .small) (image .monic .leads)
+      pub small : p < 65536
+      small = let b = listed-below listed in omega arith
 
-        -- the divisor's polynomial is that of the list
-        of-list : polynomial (Numbers c listed .ring) (divisor (Numbers c listed) found) ≡ poly p P (monic-terms p (c .skeleton) cs)
-        of-list = ap (λ (f : Polynomial (Numbers c listed)). polynomial (Numbers c listed .ring) (made-monic (Numbers c listed) (without-zeros (Numbers c listed) f))) same-skeleton
-            ∙ ap (polynomial (Numbers c listed .ring)) (sym (list .reads))
+      pub list : GoodList p P small (c .skeleton) cs
+      list = good-list p P small (c .skeleton) cs sized below skeleton-falls ks k (found .multipliers)
+          (subst (Solution (Numbers c listed) (monomials c listed) (k ∷ ks)) found-is (only .0)) d (image .small) (image .monic .leads)
 
-        of-numbers : numbers-of p P (divisor (Numbers c listed) found) ≡ monic-terms p (c .skeleton) cs
-        of-numbers = ap (λ (f : Polynomial (Numbers c listed)). numbers-of p P (made-monic (Numbers c listed) (without-zeros (Numbers c listed) f))) same-skeleton
-            ∙ divisor-numbers p P (c .skeleton) cs sized below
+      -- the divisor's polynomial is that of the list
+      of-list : polynomial (Numbers c listed .ring) (divisor (Numbers c listed) found) ≡ poly p P (monic-terms p (c .skeleton) cs)
+      of-list = ap (λ (f : Polynomial (Numbers c listed)). polynomial (Numbers c listed .ring) (made-monic (Numbers c listed) (without-zeros (Numbers c listed) f))) same-skeleton
+          ∙ ap (polynomial (Numbers c listed .ring)) (sym (list .reads))
 
-        abbrev Divides-list : List ℕ → Type 0
-        Divides-list f = Divides (Numbers c listed) (poly p P (monic-terms p (c .skeleton) cs)) (poly p P f)
+      of-numbers : numbers-of p P (divisor (Numbers c listed) found) ≡ monic-terms p (c .skeleton) cs
+      of-numbers = ap (λ (f : Polynomial (Numbers c listed)). numbers-of p P (made-monic (Numbers c listed) (without-zeros (Numbers c listed) f))) same-skeleton
+          ∙ divisor-numbers p P (c .skeleton) cs sized below
 
-        pub answer-rejected : ¬ (Divides-list (c .first-list) × Divides-list (c .second-list)) → Candidate c (result DOES_NOT_DIVIDE [])
-        answer-rejected n = answer-verdict DOES_NOT_DIVIDE [] (rejected found only
-            (λ both. n (
-              subst (λ (g : S4 (Numbers c listed .ring) .Car). Divides (Numbers c listed) g (poly p P (c .first-list))) of-list (both .0),
-              subst (λ (g : S4 (Numbers c listed .ring) .Car). Divides (Numbers c listed) g (poly p P (c .second-list))) of-list (both .1),
-            )))
+      abbrev Divides-list : List ℕ → Type 0
+      Divides-list f = Divides (Numbers c listed) (poly p P (monic-terms p (c .skeleton) cs)) (poly p P f)
 
-        pub answer-accepted : Divides-list (c .first-list) → Divides-list (c .second-list) → Candidate c (result 0 (monic-terms p (c .skeleton) cs))
-        answer-accepted first second =
-            subst (λ (ts : List ℕ). Candidate c (result 0 ts)) of-numbers
-            (answer-verdict 0 (divisor (Numbers c listed) found) (accepted found only (
-              subst (λ (g : S4 (Numbers c listed .ring) .Car). Divides (Numbers c listed) g (poly p P (c .first-list))) (sym of-list) first,
-              subst (λ (g : S4 (Numbers c listed .ring) .Car). Divides (Numbers c listed) g (poly p P (c .second-list))) (sym of-list) second,
-            )))
+      pub answer-rejected : ¬ (Divides-list (c .first-list) × Divides-list (c .second-list)) → Candidate c (result DOES_NOT_DIVIDE [])
+      answer-rejected n = answer-verdict DOES_NOT_DIVIDE [] (rejected found only
+          (λ both. n (
+            subst (λ (g : S4 (Numbers c listed .ring) .Car). Divides (Numbers c listed) g (poly p P (c .first-list))) of-list (both .0),
+            subst (λ (g : S4 (Numbers c listed .ring) .Car). Divides (Numbers c listed) g (poly p P (c .second-list))) of-list (both .1),
+          )))
+
+      pub answer-accepted : Divides-list (c .first-list) → Divides-list (c .second-list) → Candidate c (result 0 (monic-terms p (c .skeleton) cs))
+      answer-accepted first second =
+          subst (λ (ts : List ℕ). Candidate c (result 0 ts)) of-numbers
+          (answer-verdict 0 (divisor (Numbers c listed) found) (accepted found only (
+            subst (λ (g : S4 (Numbers c listed .ring) .Car). Divides (Numbers c listed) g (poly p P (c .first-list))) (sym of-list) first,
+            subst (λ (g : S4 (Numbers c listed .ring) .Car). Divides (Numbers c listed) g (poly p P (c .second-list))) (sym of-list) second,
+          )))

@@ -120,9 +120,9 @@ module _ (p : ℕ) (P : Prime p) where
 
   -- the answer of a ready table that means these equations
   ready-answers : (t : Table) → TableReady p t → (n : ℕ) → suc n ≡ t .columns → (es : List Row)
-      → table-of p n t ≡ steps K (fresh n) (rows-of p n es) → Says p P n es (solved p t .kind) (solved p t .values)
+      → table-of p n t ≡ steps K (fresh n) (rows-of p n es) → Says p P n (rows-of p n es) (solved p t .kind) (solved p t .values)
   ready-answers t ready n size es means =
-      subst (λ k. Says p P n es (solved-as k p t .kind) (solved-as k p t .values)) (sym (kind-by-columns p t n size))
+      subst (λ k. Says p P n (rows-of p n es) (solved-as k p t .kind) (solved-as k p t .values)) (sym (kind-by-columns p t n size))
       (go (has-failed T) (has-free T) refl (subst (λ u. Meets K n (rows-of p n es) (answer K u)) (sym means) (solve-meets K n (rows-of p n es))))
     where
       T : Equations (Fp p)
@@ -130,7 +130,7 @@ module _ (p : ℕ) (P : Prime p) where
 
       go : (b f : Bool) → has-free T ≡ f
           → Meets K n (rows-of p n es) (elim b [ true ↦ none | false ↦ elim f [ false ↦ one (solution K (el p 0) T) | true ↦ several (solution K (el p 0) T) (solution K (el p 1) T) ] ])
-          → Says p P n es (solved-as (kind-as b f) p t .kind) (solved-as (kind-as b f) p t .values)
+          → Says p P n (rows-of p n es) (solved-as (kind-as b f) p t .kind) (solved-as (kind-as b f) p t .values)
       go true f e m = m
       go false true e m = (solution K (el p 0) T, solution K (el p 1) T, m)
       go false false e m =
@@ -147,7 +147,7 @@ module _ (p : ℕ) (P : Prime p) where
 
   -- equations of n unknowns, one after the other, and the answer
   pub table-answers : (n : ℕ) → n < COLUMNS → (es : List Row) → Listed p → AllReady p es
-      → let s = solved p (added p (empty-table (suc n)) es) in Says p P n es (s .kind) (s .values)
+      → let s = solved p (added p (empty-table (suc n)) es) in Says p P n (rows-of p n es) (s .kind) (s .values)
   table-answers n most es listed ok =
       let ready = empty-ready p (suc n) listed (record { some = omega arith; most = omega arith }) in
       ready-answers (added p (empty-table (suc n)) es) (added-ready p (empty-table (suc n)) es ready ok) n

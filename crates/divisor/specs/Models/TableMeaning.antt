@@ -54,7 +54,7 @@ AllReady p [] = Unit {0}
 AllReady p (e ∷ es) = RowReady p e × AllReady p es
 
 -- what a kind and values say of equations of n unknowns modulo a prime
-abbrev pub Says : (p : ℕ) → Prime p → (n : ℕ) → List Row → Kind → List ℕ → Type 0
-Says p P n es None values = NoSolution (Modulo p P) n (rows-of p n es)
-Says p P n es One values = OnlySolution (Modulo p P) n (rows-of p n es) (entries p values 0 n)
-Says p P n es Several values = (v w : List (Fp p)) × DifferentSolutions (Modulo p P) n (rows-of p n es) v w
+abbrev pub Says : (p : ℕ) → Prime p → (n : ℕ) → List (List (Fp p)) → Kind → List ℕ → Type 0
+Says p P n rows None values = NoSolution (Modulo p P) n rows
+Says p P n rows One values = OnlySolution (Modulo p P) n rows (entries p values 0 n)
+Says p P n rows Several values = (v w : List (Fp p)) × DifferentSolutions (Modulo p P) n rows v w

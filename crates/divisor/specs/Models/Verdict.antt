@@ -7,7 +7,7 @@ use Prim.Native.Nat.{ℕ, _≤_, _<_}
 use lib.ListN.{length, getD, take}
 use Rattle.field.specs.Prime.{Prime}
 use Rattle.field.specs.Modulo.{Modulo}
-use Rattle.field.specs.Numbers.{NO_SOLUTION, SEVERAL_SOLUTIONS, DOES_NOT_DIVIDE}
+use Rattle.field.specs.Numbers.{NO_GOOD_POINT, NO_SOLUTION, SEVERAL_SOLUTIONS, DOES_NOT_DIVIDE}
 use Rattle.poly.specs.Keys.{keys}
 use Rattle.poly.specs.Terms.{poly}
 use Rattle.poly.specs.Image.{Divides}
@@ -15,6 +15,8 @@ use Rattle.poly.specs.Room.{work-room, written, cleared}
 use Rattle.poly.specs.TrialDivision.{CanDivide}
 use Rattle.poly.specs.Lists.{Falling}
 use Rattle.poly.specs.Laws.RightLists.{RightLists}
+use Rattle.divisor.specs.declared.CandidateRecord.{CandidateRecord}
+use Rattle.divisor.specs.Rule.{report}
 use Rattle.divisor.specs.declared.table.Kind.the-variants.{None, One, Several}
 use Rattle.divisor.specs.declared.table.Solved.{Solved}
 use Rattle.divisor.specs.declared.verdict.Verdict.{Verdict}
@@ -71,3 +73,8 @@ pub record Refused (number : ℕ) (work work-after : List ℕ) (r : Verdict) : T
 -- values that are the only solution
 abbrev pub only : List ℕ → Solved
 only values = record { kind = One; values = values }
+
+-- what is answered where no point of n is good; the work room is cleared
+pub record NoGoodPoint (n : ℕ) (work work-after : List ℕ) (r : CandidateRecord) : Type 0 where
+  pub is : r ≡ report NO_GOOD_POINT 0 n 0 0 0
+  pub clears : work-after ≡ cleared work

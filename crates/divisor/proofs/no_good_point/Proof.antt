@@ -1,0 +1,24 @@
+-- `divisor::no_good_point` meets its contract, from what its calls say. Assumes nothing.
+use mathlib.Core.Path.{ap}
+use borrow.Author.Needs.{needs}
+use Rattle.field.specs.declared.Fault.{Fault}
+use Rattle.divisor.proofs.no_good_point.Statement.{statement}
+use Rattle.divisor.proofs.no_good_point.Tie as tie
+
+clear-requires : tie.Need-clear-requires
+clear-requires c κs = search needs
+
+at-requires : tie.Need-at-requires
+at-requires c κs = search needs
+
+same-length : tie.Need-same-length
+same-length c = search needs
+
+returns : tie.Need-returns
+returns c = record {
+  is = ap (λ (f : Fault). record { fault = f; degree = 0; bad = c .before .before .before .before .before .before .args .n; unlucky = 0; kept = 0; terms = 0 }) (c .at .ensures);
+  clears = c .before .before .before .clear .ensures;
+}
+
+pub no-good-point-spec : {M : Type 1} → statement M
+no-good-point-spec = tie.close (tie.spec clear-requires at-requires same-length returns)

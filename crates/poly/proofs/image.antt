@@ -1,2 +1,0 @@
--- What stands beside the proofs of the image.
-pub mod Examples

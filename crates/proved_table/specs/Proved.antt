@@ -1,0 +1,62 @@
+-- P1 to P12 hold: the table passes its test, by computing. P1 is also what the bytes of document 01 are answered; and beside the table stand
+-- the images that its rows name and the products that give its polynomials. Assumes nothing.
+use mathlib.Core.Path.{_≡_, refl}
+use mathlib.Core.Bool.{true}
+use mathlib.Core.List.{List}
+use Prim.Native.Nat.{ℕ, _≤_}
+use native.Mathlib.Decide.{ℕ-discrete, decLt}
+use lib.ListN.{length}
+use Rattle.algebra.specs.Mono.{mono}
+use Rattle.algebra.specs.Divides.{pow}
+use Rattle.field.specs.Prime.{Prime}
+use Rattle.field.specs.Moduli.{listed}
+use Rattle.field.specs.ModuliLaws.{listed-decided}
+use Rattle.field.specs.Fp.{el, add, mul, neg, chase, inv}
+use Rattle.field.specs.FpLaws.{Fp-discrete}
+use Rattle.field.specs.RefusalDecision.{at-most-decided, placed-check, look, first-check, decided}
+use Rattle.poly.specs.Room.{work-room}
+use Rattle.poly.specs.Models.Cells.{cells}
+use Rattle.poly.specs.Models.Powers.{power, powers}
+use Rattle.poly.specs.Models.Value.{plus-term, value-from, value-of}
+use Rattle.poly.specs.Models.Eight.{size-to, scaled, monic, less-at, subtract, remainder, euclid, gcd}
+use Rattle.poly.specs.Models.Image.{value-at, image-of-values, image-of}
+use Rattle.divisor.specs.Candidate.{points-of}
+use Rattle.divisor.specs.Models.Sorting.{size-of, lesser, least-from, alike, kept-of}
+use Rattle.divisor.specs.Models.Monic.{leading, scaled-terms}
+use Rattle.case_file.specs.Format.{follows, numbers, little}
+use Rattle.case_file.specs.Case.{added, flat}
+use Rattle.case_file.specs.Reading.{fault-number, reading, read-one, alone, read}
+use Rattle.case_file.specs.Examples.{example}
+use Rattle.console.specs.OfFile.{asked}
+use Rattle.console.specs.CandidateOfFile.{CandidateOfFile}
+use Rattle.proved_table.specs.Row.{result, Holds, Shows, Multiplies, Each}
+use Rattle.proved_table.specs.Order.{order-by, order, each-at-most}
+use Rattle.proved_table.specs.TermDivision.{plus, less, less-all, before-all, leads, divided, division}
+use Rattle.proved_table.specs.Computed.{tried, divided-by, by-answer, with-counts, by-kept, by-least, by-looks, computed}
+use Rattle.proved_table.specs.Decisions.{count-decided, not-below-decided, key-decided, term-decided, number-decided, checks-append, list-checks, skeleton-checks, points-checks, point-checks, checks, image-checks}
+use Rattle.proved_table.specs.Test.{same-numbers, agrees, passes, answers, test, image-passes, image-agrees, image-test, multiplies, each}
+use Rattle.proved_table.specs.TestLaws.{tested, image-tested, multiplied, each-tested}
+use Rattle.proved_table.specs.Table.{images, products, p1, table}
+
+pub table-passes : each test table ≡ true
+unfolding ℕ-discrete decLt mono pow listed listed-decided el add mul neg chase inv Fp-discrete at-most-decided placed-check look first-check decided cells power powers plus-term value-from value-of size-to scaled monic less-at subtract remainder euclid gcd value-at image-of-values image-of points-of size-of lesser least-from alike kept-of leading scaled-terms order-by order each-at-most plus less before-all leads divided division tried divided-by by-answer with-counts by-kept by-least by-looks computed count-decided not-below-decided key-decided term-decided number-decided checks-append list-checks skeleton-checks points-checks checks same-numbers agrees passes answers test each
+table-passes = refl
+
+pub table-holds : Each Holds table
+table-holds = each-tested test Holds tested table table-passes
+
+-- the images that the rows name are those
+pub images-hold : Each Shows images
+unfolding ℕ-discrete decLt listed listed-decided el add mul neg chase inv at-most-decided placed-check look first-check decided cells power powers plus-term value-from value-of size-to scaled monic less-at subtract remainder euclid gcd value-at image-of-values image-of count-decided not-below-decided key-decided term-decided number-decided checks-append list-checks point-checks image-checks same-numbers image-passes image-agrees image-test each
+images-hold = each-tested image-test Shows image-tested images refl
+
+-- the lists that are given as products are those
+pub products-hold : (P : Prime 17) → Each (Multiplies 17 P) products
+unfolding decLt el add mul neg Fp-discrete order-by order plus less less-all multiplies each
+products-hold P = each-tested (multiplies 17 P) (Multiplies 17 P) (multiplied 17 P) products refl
+
+-- the candidate of the case file of document 01 is P1's record, with P1's terms first in the output
+pub example-answered : (output work : List ℕ) → length (p1 .skeleton) ≤ length output → work-room ≤ length work
+    → CandidateOfFile output work example (result p1 output work)
+unfolding read read-one reading alone fault-number added flat follows numbers little
+example-answered output work long room = asked refl _ (table-holds .0 output work long room)

@@ -1,0 +1,68 @@
+-- A row of the proved table: what is asked, and the record and the terms that are to be found. Beside the rows, images and products.
+-- What it means that each holds.
+use mathlib.Core.Path.{_≡_}
+use mathlib.Core.List.{List, [], _∷_}
+use Prim.Native.Nat.{ℕ, _≤_}
+use lib.ListN.{length}
+use Rattle.algebra.specs.Series.{S4}
+use Rattle.field.specs.Prime.{Prime}
+use Rattle.field.specs.Modulo.{Modulo}
+use Rattle.poly.specs.declared.ImageRecord.{ImageRecord}
+use Rattle.poly.specs.Terms.{poly}
+use Rattle.poly.specs.ImageCall.{ImageCall, ImageAnswer}
+use Rattle.poly.specs.Room.{work-room, written, cleared}
+use Rattle.divisor.specs.declared.CandidateRecord.{CandidateRecord}
+use Rattle.divisor.specs.Candidate.{Call, Result, Candidate}
+
+pub record Row : Type 0 where
+  pub modulus : ℕ
+  pub first-list : List ℕ
+  pub second-list : List ℕ
+  pub skeleton : List ℕ
+  pub points : List ℕ
+  pub found : CandidateRecord
+  pub terms : List ℕ
+
+-- the call of a row, with an output and a work room
+abbrev pub call : Row → List ℕ → List ℕ → Call
+call r output work =
+    record {
+      modulus = r .modulus;
+      first-list = r .first-list;
+      second-list = r .second-list;
+      skeleton = r .skeleton;
+      points = r .points;
+      output = output;
+      work = work;
+    }
+
+-- the row's record, the output with the row's terms first in it, and the work room cleared
+abbrev pub result : Row → List ℕ → List ℕ → Result
+result r output work = record { found = r .found; output = written (r .terms) output; work = cleared work }
+
+-- in every output and work room that are long enough that is the candidate
+abbrev pub Holds : Row → Type 0
+Holds r = (output work : List ℕ) → length (r .skeleton) ≤ length output → work-room ≤ length work → Candidate (call r output work) (result r output work)
+
+-- an image that a row names
+pub record ImageRow : Type 0 where
+  pub call : ImageCall
+  pub found : ImageRecord
+
+abbrev pub Shows : ImageRow → Type 0
+Shows r = ImageAnswer (r .call) (r .found)
+
+-- a list of terms, and two of which it is the product
+pub record Product : Type 0 where
+  pub whole : List ℕ
+  pub first : List ℕ
+  pub second : List ℕ
+
+-- as polynomials modulo p
+abbrev pub Multiplies : (p : ℕ) → Prime p → Product → Type 0
+Multiplies p P q = poly p P (q .whole) ≡ S4 (Modulo p P .ring) .mul (poly p P (q .first)) (poly p P (q .second))
+
+-- each of a list
+abbrev pub Each : {X : Type 0} → (X → Type 0) → List X → Type 0
+Each F [] = Unit {0}
+Each F (x ∷ xs) = F x × Each F xs

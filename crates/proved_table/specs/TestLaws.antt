@@ -1,0 +1,110 @@
+-- A row that passes the test holds, and so do an image and a product; and each of a list does. Assumes nothing.
+use mathlib.Core.Path.{_≡_, refl, ap, ap₂, subst}
+use mathlib.Core.Bool.{Bool, true, false, false≢true}
+use mathlib.Core.List.{List, [], _∷_}
+use Prim.Native.Nat.{ℕ, _≤_}
+use native.Mathlib.Omega.{arith}
+use lib.Dec.{eqb}
+use lib.ListN.{length, getD, drop}
+use borrow.Author.Tests.{eqb-true}
+use Rattle.field.specs.Prime.{Prime}
+use Rattle.field.specs.Moduli.{Listed}
+use Rattle.field.specs.ModuliLaws.{listed-decided}
+use Rattle.field.specs.Modulo.{Modulo}
+use Rattle.field.specs.Refusal.{Passes}
+use Rattle.field.specs.RefusalLaws.{placed-never, passes-append}
+use Rattle.field.specs.RefusalDecision.{decided, decided-tested, decided-passes}
+use Rattle.poly.specs.declared.ImageRecord.{ImageRecord}
+use Rattle.poly.specs.Terms.{Polynomial, terms-of}
+use Rattle.poly.specs.ImageCall.{image-table}
+use Rattle.poly.specs.Room.{work-room, written, cleared}
+use Rattle.poly.specs.Laws.ImageCall.{image-answered}
+use Rattle.poly.specs.Laws.KeyDifference.{and-left, and-right}
+use Rattle.divisor.specs.declared.CandidateRecord.{CandidateRecord}
+use Rattle.divisor.specs.Rule.{report}
+use Rattle.divisor.specs.Candidate.{Call, table, Candidate}
+use Rattle.divisor.specs.Models.Checks.{of-rooms}
+use Rattle.proved_table.specs.Row.{Row, call, result, Holds, ImageRow, Shows, Product, Multiplies, Each}
+use Rattle.proved_table.specs.TermDivisionLaws.{nothing-left-means}
+use Rattle.proved_table.specs.Decisions.{lines, checks, image-checks}
+use Rattle.proved_table.specs.Computed.{Computed, unanswered, answered}
+use Rattle.proved_table.specs.ComputedLaws.{Sound, computed-sound}
+use Rattle.proved_table.specs.Test.{same-numbers, numbers, agrees, passes, answers, test, image-numbers, image-passes, image-agrees, image-test, multiplies, each}
+
+same-is : (ms ns : List ℕ) → same-numbers ms ns ≡ true → ms ≡ ns
+unfolding same-numbers
+same-is [] [] h = refl
+same-is [] (n ∷ ns) h = absurd (false≢true h)
+same-is (m ∷ ms) [] h = absurd (false≢true h)
+same-is (m ∷ ms) (n ∷ ns) h = ap₂ _∷_ (eqb-true m n (and-left (eqb m n) (same-numbers ms ns) h)) (same-is ms ns (and-right (eqb m n) (same-numbers ms ns) h))
+
+-- a record and terms are known by their numbers
+numbers-settle : (X : CandidateRecord → List ℕ → Type 0) (r q : CandidateRecord) (terms ts : List ℕ) → numbers r terms ≡ numbers q ts → X r terms → X q ts
+numbers-settle X r q terms ts e x = subst (λ (l : List ℕ). X (record-of l) (drop 7 l)) e x
+  where
+    record-of : List ℕ → CandidateRecord
+    record-of l = record { fault = record { number = getD l 0 0; place = getD l 1 0 }; degree = getD l 2 0; bad = getD l 3 0; unlucky = getD l 4 0; kept = getD l 5 0; terms = getD l 6 0 }
+
+module _ (r : Row) (output work : List ℕ) (long : length (r .skeleton) ≤ length output) (room : work-room ≤ length work) where
+  abbrev c : Call
+  c = call r output work
+
+  rooms-pass : Passes (of-rooms (length output) (length (r .skeleton)) (length work))
+  rooms-pass = (placed-never (λ l. omega arith), (placed-never (λ l. omega arith), tt))
+
+  inputs-pass : passes r ≡ true → Passes (table c)
+  unfolding passes
+  inputs-pass h = passes-append (lines (r .modulus) (r .first-list) (r .second-list) (r .skeleton) (r .points)) (of-rooms (length output) (length (r .skeleton)) (length work))
+      (decided-passes (lines (r .modulus) (r .first-list) (r .second-list) (r .skeleton) (r .points)) tt (checks (r .modulus) (r .first-list) (r .second-list) (r .skeleton) (r .points)) (eqb-true _ 0 h))
+      rooms-pass
+
+  -- what agrees with a sound answer is the candidate's
+  agrees-holds : (pass : Passes (table c)) (listed : Listed (r .modulus)) (x : Computed) → Sound c pass listed x → agrees x (r .found) (r .terms) ≡ true
+      → Candidate c (result r output work)
+  unfolding agrees
+  agrees-holds pass listed unanswered s h = absurd (false≢true h)
+  agrees-holds pass listed (answered number degree bad unlucky kept ts) s h =
+      numbers-settle (λ (found : CandidateRecord) (terms : List ℕ). Candidate c (record { found = found; output = written terms output; work = cleared work }))
+      (report number degree bad unlucky kept (length ts)) (r .found) ts (r .terms) (same-is _ _ h) s
+
+  tested-here : test r ≡ true → Candidate c (result r output work)
+  unfolding test
+  tested-here h = go (listed-decided (r .modulus)) (and-right (passes r) _ h)
+    where
+      pass : Passes (table c)
+      pass = inputs-pass (and-left (passes r) _ h)
+
+      go : (d : Dec (Listed (r .modulus))) → elim d as (λ _. Bool) [ yes h ↦ answers r h | no n ↦ false ] ≡ true
+          → Candidate c (result r output work)
+      go (yes listed) h = (unfold answers in agrees-holds pass listed _ (computed-sound c pass listed) h)
+      go (no n) h = absurd (false≢true h)
+
+-- the test turned into the contract
+pub tested : (r : Row) → test r ≡ true → Holds r
+tested r h output work long room = tested-here r output work long room h
+
+pub image-tested : (r : ImageRow) → image-test r ≡ true → Shows r
+unfolding image-test image-passes image-agrees
+image-tested r h =
+    image-answered (r .call .modulus) (r .call .first-list) (r .call .second-list) (r .call .point) (decided (image-table (r .call)) (image-checks (r .call))) (decided-tested (image-table (r .call)) (image-checks (r .call)))
+    (eqb-true _ 0 (and-left (image-passes r) (image-agrees r) h)) (image-known (r .found) _ (same-is _ _ (and-right (image-passes r) (image-agrees r) h)))
+  where
+    record-of : List ℕ → ImageRecord
+    record-of l = record { fault = record { number = getD l 0 0; place = getD l 1 0 }; degree = getD l 2 0; coefficients = drop 3 l }
+
+    image-known : (q s : ImageRecord) → image-numbers q ≡ image-numbers s → q ≡ s
+    image-known q s e = ap record-of e
+
+pub multiplied : (p : ℕ) (P : Prime p) (q : Product) → multiplies p P q ≡ true → Multiplies p P q
+unfolding multiplies
+multiplied p P q h = nothing-left-means (Modulo p P) (terms-of p P (q .whole)) (terms-of p P (q .first)) (terms-of p P (q .second)) (go _ h)
+  where
+    go : (l : Polynomial (Modulo p P)) → elim l as (λ _. Bool) [ [] ↦ true | t ∷ ts ↦ false ] ≡ true → l ≡ []
+    go [] h = refl
+    go (t ∷ ts) h = absurd (false≢true h)
+
+-- what follows from a test follows for each of a list
+pub each-tested : {X : Type 0} (f : X → Bool) (F : X → Type 0) → ((x : X) → f x ≡ true → F x) → (xs : List X) → each f xs ≡ true → Each F xs
+unfolding each
+each-tested f F law [] h = tt
+each-tested f F law (x ∷ xs) h = (law x (and-left (f x) (each f xs) h), each-tested f F law xs (and-right (f x) (each f xs) h))
