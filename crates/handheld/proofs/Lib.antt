@@ -1,0 +1,2 @@
+-- Laws of the static library that belong to no single function.
+pub mod Determined

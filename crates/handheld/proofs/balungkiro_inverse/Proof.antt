@@ -1,0 +1,17 @@
+-- `balungkiro_inverse` meets its contract: it lays out what the service answers. Assumes nothing.
+use borrow.Author.Needs.{needs}
+use Rattle.handheld.specs.Layout.{laid}
+use Rattle.handheld.proofs.balungkiro_inverse.Statement.{statement}
+use Rattle.handheld.proofs.balungkiro_inverse.Tie as tie
+
+ask-inverse-requires : tie.Need-ask-inverse-requires
+ask-inverse-requires c κs = search needs
+
+answer-numbers-requires : tie.Need-answer-numbers-requires
+answer-numbers-requires c κs = search needs
+
+returns : tie.Need-returns
+returns c = rw (c .answer-numbers .ensures) (laid _ (c .before .ask-inverse .ensures))
+
+pub balungkiro-inverse-spec : {M : Type 1} → statement M
+balungkiro-inverse-spec = tie.close (tie.spec ask-inverse-requires answer-numbers-requires returns)

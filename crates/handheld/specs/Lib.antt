@@ -1,0 +1,2 @@
+-- What the contracts of the static library say.
+pub mod Layout

@@ -1,0 +1,199 @@
+// The static library for C and Rust programs: each service with C's calling convention, on numbers and slices. A slice is a pointer, then a length.
+// A record is handed back as numbers in a lent array: a reference to a struct would have to be proved by hand.
+// include/balungkiro.h says the same to C.
+ghost use mathlib.Core.Path.{_≡_};
+ghost use lib.ListN.{length};
+ghost use Rattle.field.specs.Refusal.{Tested};
+ghost use Rattle.field.specs.Contract.{element};
+ghost use Rattle.field.specs.Arithmetic.{AskSum, AskDifference, AskProduct, AskInverse};
+ghost use Rattle.poly.specs.LeadingPart.{of-list, Leading};
+ghost use Rattle.poly.specs.Quotient.{Quotient};
+ghost use Rattle.poly.specs.ImageCall.{ImageAnswer};
+ghost use Rattle.divisor.specs.Candidate.{Candidate};
+ghost use Rattle.case_file.specs.Reading.{read};
+ghost use Rattle.case_file.specs.Handed.{contents};
+ghost use Rattle.handheld.specs.Layout.{Laid, of-fault, of-answer, of-quotient, of-image, of-candidate, of-contents};
+use case_file::Keys;
+use case_file::PointNumbers;
+use case_file::Terms;
+use field::Answer;
+use field::Element;
+use field::Number;
+use poly::Eight;
+use poly::Term;
+
+// Numbers: number, place, d, bad, unlucky, kept, count of terms.
+#[no_mangle]
+pub extern "C" fn balungkiro_candidate(
+    modulus: Number,
+    first: &[Term],
+    second: &[Term],
+    skeleton: &[Number],
+    points: &[Number],
+    out: &mut [Term],
+    work: &mut [Number],
+    numbers: &mut [usize; 7],
+)
+    ensures { λ _. ⌜ Laid of-candidate (Candidate (record { modulus = modulus; first-list = now (first .entry); second-list = now (second .entry); skeleton = now (skeleton .entry); points = now (points .entry); output = now (out .entry); work = now (work .entry) })) (record { numbers = now (numbers .exit); output = now (out .exit); work = now (work .exit) }) ⌝ }
+{
+    let found = divisor::candidate(modulus, first, second, skeleton, points, out, work);
+    *numbers = [
+        found.fault.number as usize,
+        found.fault.place,
+        found.degree,
+        found.bad,
+        found.unlucky,
+        found.kept,
+        found.terms,
+    ];
+}
+
+// Numbers: number, place, count of terms.
+#[no_mangle]
+pub extern "C" fn balungkiro_quotient(
+    modulus: Number,
+    first: &[Term],
+    second: &[Term],
+    out: &mut [Term],
+    work: &mut [Number],
+    numbers: &mut [usize; 3],
+)
+    ensures { λ _. ⌜ Laid of-quotient (Quotient (record { modulus = modulus; first-list = now (first .entry); second-list = now (second .entry); output = now (out .entry); work = now (work .entry) })) (record { numbers = now (numbers .exit); output = now (out .exit); work = now (work .exit) }) ⌝ }
+{
+    let found = poly::quotient::quotient(modulus, first, second, out, work);
+    *numbers = [found.fault.number as usize, found.fault.place, found.terms];
+}
+
+// Numbers: number, place, degree.
+#[no_mangle]
+pub extern "C" fn balungkiro_image(
+    modulus: Number,
+    first: &[Term],
+    second: &[Term],
+    point: &[Number],
+    coefficients: &mut Eight,
+    numbers: &mut [usize; 3],
+)
+    ensures { λ _. ⌜ Laid of-image (ImageAnswer (record { modulus = modulus; first-list = now (first .entry); second-list = now (second .entry); point = now (point .entry) })) (record { numbers = now (numbers .exit); coefficients = now (coefficients .exit) }) ⌝ }
+{
+    let found = poly::image::image(modulus, first, second, point);
+    let u = found.coefficients;
+    *coefficients = u;
+    *numbers = [found.fault.number as usize, found.fault.place, found.degree];
+}
+
+// How many terms the leading part has, which is the head of the caller's own list; 0 on refusal.
+#[no_mangle]
+pub extern "C" fn balungkiro_leading_part(terms: &[Term]) -> usize
+    ensures { λ r. ⌜ Laid length (Leading (now (terms .entry))) r ⌝ }
+{
+    let head = poly::list::leading_part(terms);
+    head.len()
+}
+
+// Numbers: number, place.
+#[no_mangle]
+pub extern "C" fn balungkiro_check_list(terms: &[Term], numbers: &mut [usize; 2])
+    ensures { λ _. ⌜ Laid of-fault (Tested (of-list (now (terms .entry)))) (now (numbers .exit)) ⌝ }
+{
+    let fault = poly::list::check_list(terms);
+    *numbers = [fault.number as usize, fault.place];
+}
+
+// Number, place, modulus, value.
+fn answer_numbers(answer: Answer) -> [usize; 4]
+    ensures { λ r. ⌜ r ≡ of-answer answer ⌝ }
+{
+    [
+        answer.fault.number as usize,
+        answer.fault.place,
+        answer.element.modulus as usize,
+        answer.element.value as usize,
+    ]
+}
+
+#[no_mangle]
+pub extern "C" fn balungkiro_sum(
+    modulus: Number,
+    value: Number,
+    other_modulus: Number,
+    other_value: Number,
+    numbers: &mut [usize; 4],
+)
+    ensures { λ _. ⌜ Laid of-answer (AskSum (element modulus value) (element «other_modulus» «other_value»)) (now (numbers .exit)) ⌝ }
+{
+    let a = Element { modulus, value };
+    let b = Element {
+        modulus: other_modulus,
+        value: other_value,
+    };
+    *numbers = answer_numbers(field::ask_sum(a, b));
+}
+
+#[no_mangle]
+pub extern "C" fn balungkiro_difference(
+    modulus: Number,
+    value: Number,
+    other_modulus: Number,
+    other_value: Number,
+    numbers: &mut [usize; 4],
+)
+    ensures { λ _. ⌜ Laid of-answer (AskDifference (element modulus value) (element «other_modulus» «other_value»)) (now (numbers .exit)) ⌝ }
+{
+    let a = Element { modulus, value };
+    let b = Element {
+        modulus: other_modulus,
+        value: other_value,
+    };
+    *numbers = answer_numbers(field::ask_difference(a, b));
+}
+
+#[no_mangle]
+pub extern "C" fn balungkiro_product(
+    modulus: Number,
+    value: Number,
+    other_modulus: Number,
+    other_value: Number,
+    numbers: &mut [usize; 4],
+)
+    ensures { λ _. ⌜ Laid of-answer (AskProduct (element modulus value) (element «other_modulus» «other_value»)) (now (numbers .exit)) ⌝ }
+{
+    let a = Element { modulus, value };
+    let b = Element {
+        modulus: other_modulus,
+        value: other_value,
+    };
+    *numbers = answer_numbers(field::ask_product(a, b));
+}
+
+#[no_mangle]
+pub extern "C" fn balungkiro_inverse(modulus: Number, value: Number, numbers: &mut [usize; 4])
+    ensures { λ _. ⌜ Laid of-answer (AskInverse (element modulus value)) (now (numbers .exit)) ⌝ }
+{
+    let a = Element { modulus, value };
+    *numbers = answer_numbers(field::ask_inverse(a));
+}
+
+// Numbers: number, place, modulus, and how many numbers the first list, the second, the skeleton and the points have.
+#[no_mangle]
+pub extern "C" fn balungkiro_read(
+    bytes: &[u8],
+    first: &mut Terms,
+    second: &mut Terms,
+    skeleton: &mut Keys,
+    points: &mut PointNumbers,
+    numbers: &mut [usize; 7],
+)
+    ensures { λ _. ⌜ Laid of-contents (λ r. r ≡ contents (read (now (bytes .entry)))) (record { numbers = now (numbers .exit); first = now (first .exit); second = now (second .exit); skeleton = now (skeleton .exit); points = now (points .exit) }) ⌝ }
+{
+    let counts = case_file::read_into(bytes, first, second, skeleton, points);
+    *numbers = [
+        counts.fault.number as usize,
+        counts.fault.place,
+        counts.modulus as usize,
+        counts.first,
+        counts.second,
+        counts.skeleton,
+        counts.points,
+    ];
+}
