@@ -30,7 +30,7 @@ static void fail(const char *what) {
 
 #define CANDIDATE(f) f(now->modulus, now->first, now->first_terms, now->second, now->second_terms, now->skeleton, now->keys, now->points, now->numbers, out, KEYS, work, WORK_ROOM, record)
 #define QUOTIENT(f, a, n) f(now->modulus, a, n, now->divisor, now->divisor_terms, out, KEYS, work, WORK_ROOM, record)
-#define IMAGE(f) f(now->modulus, now->first, now->first_terms, now->second, now->second_terms, now->points + now->numbers - 3, 3, coefficients, record)
+#define IMAGE(f) f(now->modulus, now->first, now->first_terms, now->second, now->second_terms, now->at, now->at_numbers, coefficients, record)
 
 static void library_candidate(void) { CANDIDATE(balungkiro_candidate); }
 static void twin_of_candidate(void) { CANDIDATE(twin_candidate); }
@@ -169,6 +169,8 @@ int main(void) {
     printf("|-----------|---------------|-----------|-----------|-----------|----------|-----------|\n");
     for (int i = 0; i < WORKLOADS; i++) {
         now = &workloads[i];
+        if (now->number != 0)
+            continue;
         nmod_mpoly_ctx_init(ring, 4, ORD_LEX, now->modulus);
         nmod_mpoly_init(first, ring);
         nmod_mpoly_init(second, ring);

@@ -20,8 +20,8 @@ static length record[7];
 static const workload *now;
 
 #define CANDIDATE(f) f(now->modulus, now->first, now->first_terms, now->second, now->second_terms, now->skeleton, now->keys, now->points, now->numbers, out, now->keys, work, WORK_ROOM, record)
-#define QUOTIENT(f) f(now->modulus, now->first, now->first_terms, now->divisor, now->divisor_terms, out, KEYS, work, WORK_ROOM, record)
-#define IMAGE(f) f(now->modulus, now->first, now->first_terms, now->second, now->second_terms, now->points + now->numbers - 3, 3, coefficients, record)
+#define QUOTIENT(f) f(now->modulus, now->dividend, now->dividend_terms, now->divisor, now->divisor_terms, out, KEYS, work, WORK_ROOM, record)
+#define IMAGE(f) f(now->modulus, now->first, now->first_terms, now->second, now->second_terms, now->at, now->at_numbers, coefficients, record)
 
 static void library_candidate(void) { CANDIDATE(balungkiro_candidate); }
 static void twin_of_candidate(void) { CANDIDATE(twin_candidate); }
@@ -76,7 +76,7 @@ __attribute__((noinline)) static cost measured(void (*call)(void)) {
 static uint32_t candidate_room(void) {
     return (uint32_t)(4 * (now->first_terms + now->second_terms + now->keys) + 2 * (now->keys + now->numbers) + sizeof work + sizeof record);
 }
-static uint32_t quotient_room(void) { return (uint32_t)(4 * (now->first_terms + now->divisor_terms) + sizeof out + sizeof work + 3 * sizeof record[0]); }
+static uint32_t quotient_room(void) { return (uint32_t)(4 * (now->dividend_terms + now->divisor_terms) + sizeof out + sizeof work + 3 * sizeof record[0]); }
 static uint32_t image_room(void) { return (uint32_t)(4 * (now->first_terms + now->second_terms) + 6 + sizeof coefficients + 3 * sizeof record[0]); }
 
 typedef struct { const char *name; void (*library)(void), (*twin)(void); uint32_t (*room)(void); } service;
@@ -89,8 +89,8 @@ static const service services[] = {
 
 static void report(const service *s) {
     cost library = measured(s->library);
-    if (record[0] != 0)
-        fail(": refused\n");
+    if (record[0] != (s->library == library_candidate ? now->number : 0))
+        fail(": another number\n");
     cost twin = measured(s->twin);
     uint32_t microseconds = (uint32_t)((uint64_t)library.instructions * 10 / 960);
     print("| ");

@@ -5,7 +5,7 @@
 
 extern uint32_t stack_high[];
 
-static void start(void) {
+void start(void) {
     main();
     semihost(0x18, (const void *)0x20026); /* the program ends, as it should */
 }

@@ -6,6 +6,9 @@
 
 int main(void);
 
+/* Where the core begins. */
+void start(void);
+
 /* A call of the emulator. */
 int semihost(int operation, const void *argument);
 
