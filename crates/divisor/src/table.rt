@@ -85,13 +85,13 @@ pub fn with_equation(t: Table, e: Row, p: Number) -> Table
     ensures { λ r. ⌜ r ≡ with-row p t e ⌝ }
 {
     let columns = t.columns;
+    let mut s = t;
     let mut row = e;
     let mut j: usize = 0;
     while j < columns {
         if row.cells[j] != 0 {
-            let pivot = t.rows[j];
+            let pivot = s.rows[j];
             if pivot.cells[j] == 0 {
-                let mut s = t;
                 s.rows[j] = scaled(row, j, columns, p);
                 return s;
             }
@@ -99,7 +99,7 @@ pub fn with_equation(t: Table, e: Row, p: Number) -> Table
         }
         j += 1;
     }
-    t
+    s
 }
 
 // The same on a table that is lent.

@@ -1,12 +1,12 @@
--- `divisor::table::with_equation` meets its contract. The loop's invariant: the row's cells are below p, and what the columns from j on make of the row is
--- what all columns make of the equation. The measure is the number of columns left. Assumes nothing.
-use mathlib.Core.Path.{_≡_, sym, ap, _∙_, subst}
+-- `divisor::table::with_equation` meets its contract. The loop's invariant: the table is still the one that came, the row's cells are below p, and what
+-- the columns from j on make of the row is what all columns make of the equation. The measure is the number of columns left. Assumes nothing.
+use mathlib.Core.Path.{_≡_, refl, sym, ap, _∙_, subst}
 use mathlib.Core.Logic.{⊎-elim}
 use Prim.Native.Nat.{ℕ, _+_, _-_, _<_, _≤_}
 use native.Mathlib.Nat.{sub-zero}
 use native.Mathlib.Omega.{arith}
 use lib.ListN.{set}
-use Rattle.divisor.specs.TableModel.{cell, row-at, insert, with-row, minus, Column}
+use Rattle.divisor.specs.TableModel.{cell, row-at, diagonal, insert, with-row, minus, scaled-row, Column}
 use Rattle.divisor.specs.TableTurns.{insert-skip, insert-kept, insert-minus, insert-end}
 use Rattle.divisor.specs.TableRows.{minus-below}
 use borrow.Author.Needs.{needs}
@@ -14,18 +14,19 @@ use Rattle.divisor.proofs.table.with_equation.Statement.{statement}
 use Rattle.divisor.proofs.table.with_equation.Tie as tie
 
 abbrev Inv-loop : tie.InvT-loop
-Inv-loop p t columns row₀ j₀ row j = (j ≤ columns) × (((k : ℕ) → cell row k < p) × (insert (t .columns - j) j p t row ≡ with-row p t row₀))
+Inv-loop p columns s₀ row₀ j₀ s row j =
+    (j ≤ columns) × ((s ≡ s₀) × (((k : ℕ) → cell row k < p) × (insert (s₀ .columns - j) j p s₀ row ≡ with-row p s₀ row₀)))
 
 abbrev μ-loop : tie.MeasureT-loop
-μ-loop p t columns row₀ j₀ row j = columns - j
+μ-loop p columns s₀ row₀ j₀ s row j = columns - j
 
 -- at an entry that is not 0 the row can be worked on
-column : (c : tie.Then1 Inv-loop μ-loop) → let at = c .before .before .before in Column (at .before .args .p) (at .loop .row) (at .loop .j) (at .before .args .t1 .columns)
+column : (c : tie.Then1 Inv-loop μ-loop) → let at = c .before .before .before in Column (at .before .args .p) (at .loop .row) (at .loop .j) (at .before .args .t .columns)
 column c =
     let at = c .before .before .before in
     record {
       listed = at .before .pre .table .listed;
-      below = at .loop .inv .1 .0 (at .loop .j);
+      below = at .loop .inv .1 .1 .0 (at .loop .j);
       nonzero = omega (arith, c .if1 .taken);
       within = c .before .before .loop-test .taken;
       most = at .before .pre .table .columns .most;
@@ -34,7 +35,7 @@ column c =
 loop-holds : tie.Need-loop-holds Inv-loop μ-loop
 loop-holds c =
     let a = c .args in
-    (search needs, (c .pre .row .below, ap (λ n. insert n 0 (a .p) (a .t1) (a .e)) (sub-zero (a .t1 .columns))))
+    (search needs, (refl, (c .pre .row .below, ap (λ n. insert n 0 (a .p) (a .t) (a .e)) (sub-zero (a .t .columns)))))
 
 mul-if1 : tie.Need-mul-if1 Inv-loop μ-loop
 mul-if1 c = search needs
@@ -57,8 +58,8 @@ element-copy-out-if2 c = search needs
 scaled-requires : tie.Need-scaled-requires Inv-loop μ-loop
 scaled-requires c κs = column (c .before .before .before)
 
-mul-t26 : tie.Need-mul-t26 Inv-loop μ-loop
-mul-t26 c = search needs
+mul-t24 : tie.Need-mul-t24 Inv-loop μ-loop
+mul-t24 c = search needs
 
 element-set-from-s : tie.Need-element-set-from-s Inv-loop μ-loop
 element-set-from-s c = search needs
@@ -67,10 +68,13 @@ returns : tie.Need-returns Inv-loop μ-loop
 returns c =
     let at = c .before .before .before .before .before .before .before in
     let a = at .before .args in
-    ap (λ x. record { rows = set (a .t1 .rows) (at .loop .j) x; columns = a .t1 .columns }) (c .scaled .ensures)
-    ∙ sym (insert-kept (a .p) (a .t1) (at .loop .row) (at .loop .j) (c .before .before .before .before .before .before .loop-test .taken)
-    (c .before .before .before .before .if1 .taken) (c .before .if2 .taken))
-    ∙ at .loop .inv .1 .1
+    let j = at .loop .j in
+    let same = at .loop .inv .1 .0 in
+    ap (λ x. record { rows = set (at .loop .s .rows) j x; columns = at .loop .s .columns }) (c .scaled .ensures)
+    ∙ ap (λ u. record { rows = set (u .rows) j (scaled-row (a .p) (at .loop .row) j (a .t .columns)); columns = u .columns }) same
+    ∙ sym (insert-kept (a .p) (a .t) (at .loop .row) j (c .before .before .before .before .before .before .loop-test .taken)
+    (c .before .before .before .before .if1 .taken) (subst (λ u. diagonal u j ≡ 0) same (c .before .if2 .taken)))
+    ∙ at .loop .inv .1 .1 .1
 
 subtract-requires : tie.Need-subtract-requires Inv-loop μ-loop
 subtract-requires c κs = column (c .before .before .before)
@@ -86,27 +90,34 @@ loop-again c =
     let at = c .before .before .before in
     let a = at .before .args in
     let j = at .loop .j in
+    let same = at .loop .inv .1 .0 in
     let within = c .before .before .loop-test .taken in
-    let left = a .t1 .columns - (j + 1) in (
+    let left = a .t .columns - (j + 1) in (
       search needs,
-      ⊎-elim
-          (λ w.
-          let is : c .if1 .row ≡ minus (a .p) (at .loop .row) (row-at (a .t1) j) j (a .t1 .columns) = w .5 ∙ w .4 .ensures in (
-            λ k. subst (λ x. cell x k < a .p) (sym is) (minus-below (a .p) (at .loop .row) j (a .t1 .columns) (at .loop .inv .1 .0) (row-at (a .t1) j) k),
-            ap (λ x. insert left (j + 1) (a .p) (a .t1) x) is ∙ sym (insert-minus (a .p) (a .t1) (at .loop .row) j within (w .0 .taken) (w .3 .left)) ∙ at .loop .inv .1 .1,
-          ))
-          (λ w. (
-            λ k. subst (λ x. cell x k < a .p) (sym (w .1)) (at .loop .inv .1 .0 k),
-            ap (λ x. insert left (j + 1) (a .p) (a .t1) x) (w .1) ∙ sym (insert-skip (a .p) (a .t1) (at .loop .row) j within (w .0 .left)) ∙ at .loop .inv .1 .1,
-          ))
-          (c .if1 .came),
+      (
+        same,
+        ⊎-elim
+            (λ w.
+            let is : c .if1 .row ≡ minus (a .p) (at .loop .row) (row-at (a .t) j) j (a .t .columns) =
+            w .5 ∙ w .4 .ensures ∙ ap (λ u. minus (a .p) (at .loop .row) (row-at u j) j (a .t .columns)) same in (
+              λ k. subst (λ x. cell x k < a .p) (sym is) (minus-below (a .p) (at .loop .row) j (a .t .columns) (at .loop .inv .1 .1 .0) (row-at (a .t) j) k),
+              ap (λ x. insert left (j + 1) (a .p) (a .t) x) is
+                  ∙ sym (insert-minus (a .p) (a .t) (at .loop .row) j within (w .0 .taken) (λ z. w .3 .left (subst (λ u. diagonal u j ≡ 0) (sym same) z)))
+                  ∙ at .loop .inv .1 .1 .1,
+            ))
+            (λ w. (
+              λ k. subst (λ x. cell x k < a .p) (sym (w .1)) (at .loop .inv .1 .1 .0 k),
+              ap (λ x. insert left (j + 1) (a .p) (a .t) x) (w .1) ∙ sym (insert-skip (a .p) (a .t) (at .loop .row) j within (w .0 .left)) ∙ at .loop .inv .1 .1 .1,
+            ))
+            (c .if1 .came),
+      ),
     )
 
 returns-2 : tie.Need-returns-2 Inv-loop μ-loop
 returns-2 c =
     let at = c .before in
     let a = at .before .args in
-    sym (insert-end (a .p) (a .t1) (at .loop .row) (at .loop .j) (c .loop-test .left)) ∙ at .loop .inv .1 .1
+    at .loop .inv .1 .0 ∙ sym (insert-end (a .p) (a .t) (at .loop .row) (at .loop .j) (c .loop-test .left)) ∙ at .loop .inv .1 .1 .1
 
 pub with-equation-spec : {M : Type 1} → statement M
 with-equation-spec =
@@ -122,7 +133,7 @@ with-equation-spec =
     mul-if2
     element-copy-out-if2
     scaled-requires
-    mul-t26
+    mul-t24
     element-set-from-s
     returns
     subtract-requires
