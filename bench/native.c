@@ -1,5 +1,5 @@
 /* Library, C twin and FLINT on the same workloads: first that all agree, then what each costs. Processor time of this process, in microseconds a call:
-   the median over rounds in which all are timed one after the other. */
+   medians over rounds in each of which all are timed one after the other. */
 #include <flint/nmod_mpoly.h>
 #include <stdbool.h>
 #include <stdio.h>
@@ -10,7 +10,7 @@
 #include "twin.h"
 #include "workloads.h"
 
-enum { KEYS = 4096, WORK_ROOM = 8192, ROUNDS = 61 };
+enum { KEYS = 4096, WORK_ROOM = 8192, ROUNDS = 101 };
 
 /* What a round of calls uses. */
 static uint32_t out[KEYS];
@@ -143,25 +143,29 @@ static int in_order(const void *a, const void *b) {
     return d < 0 ? -1 : d > 0;
 }
 
+static double median(double *numbers) {
+    qsort(numbers, ROUNDS, sizeof *numbers, in_order);
+    return numbers[ROUNDS / 2];
+}
+
+/* A ratio is the median of the rounds' ratios, so that what slows the machine for a while slows both sides. */
 static void measure(const service *s) {
-    static double times[3][ROUNDS];
+    static double times[3][ROUNDS], to_twin[ROUNDS], to_flint[ROUNDS];
     long repeats[3];
-    double median[3];
     for (int c = 0; c < 3; c++)
         repeats[c] = s->calls[c] ? repeats_of(s->calls[c]) : 0;
-    for (int round = 0; round < ROUNDS; round++)
+    for (int round = 0; round < ROUNDS; round++) {
         for (int c = 0; c < 3; c++)
             if (s->calls[c])
                 times[c][round] = timed(s->calls[c], repeats[c]);
-    for (int c = 0; c < 3; c++) {
-        qsort(times[c], ROUNDS, sizeof times[c][0], in_order);
-        median[c] = times[c][ROUNDS / 2];
+        to_twin[round] = times[0][round] / times[1][round];
+        to_flint[round] = times[0][round] / times[2][round];
     }
-    printf("| %-9s | %-13s | %9.2f | %9.2f |", now->name, s->name, median[0], median[1]);
+    printf("| %-9s | %-13s | %9.2f | %9.2f |", now->name, s->name, median(times[0]), median(times[1]));
     if (s->calls[2])
-        printf(" %9.2f | %8.2f | %9.2f |\n", median[2], median[0] / median[1], median[0] / median[2]);
+        printf(" %9.2f | %8.2f | %9.2f |\n", median(times[2]), median(to_twin), median(to_flint));
     else
-        printf("           | %8.2f |           |\n", median[0] / median[1]);
+        printf("           | %8.2f |           |\n", median(to_twin));
 }
 
 int main(void) {
