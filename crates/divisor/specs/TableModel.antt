@@ -110,6 +110,10 @@ pub record Columns (n : ℕ) : Type 0 where
   pub some : 0 < n
   pub most : n ≤ COLUMNS
 
+-- the first n cells of a row are 0
+abbrev pub Zeros-to : ℕ → Row → Type 0
+Zeros-to n e = (k : ℕ) → k < n → cell e k ≡ 0
+
 -- an equation's row of numbers below p
 pub record RowReady (p : ℕ) (e : Row) : Type 0 where
   pub size : length (e .cells) ≡ COLUMNS

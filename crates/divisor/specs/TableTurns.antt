@@ -1,8 +1,8 @@
 -- The table's models one turn at a time, as the loops of the code move. Assumes nothing.
-use mathlib.Core.Path.{_≡_, sym, ap, _∙_}
+use mathlib.Core.Path.{_≡_, refl, sym, ap, _∙_}
 use mathlib.Core.Bool.{Bool, true, false}
 use mathlib.Core.List.{List}
-use Prim.Native.Nat.{ℕ, suc, _+_, _-_, _*_, _%_, _<_, _≤_}
+use Prim.Native.Nat.{ℕ, zero, suc, _+_, _-_, _*_, _%_, _<_, _≤_}
 use native.Mathlib.Numerals.{add-one}
 use native.Mathlib.Omega.{arith}
 use lib.Dec.{eqb}
@@ -11,7 +11,7 @@ use borrow.Author.Tests.{eq-eqb, ne-eqb}
 use Rattle.divisor.specs.declared.table.Row.{Row}
 use Rattle.divisor.specs.declared.table.Table.{Table}
 use Rattle.divisor.specs.declared.table.Kind.the-variants.{None, One, Several}
-use Rattle.divisor.specs.TableModel.{row-at, cell, diagonal, altered, minus, kept, insert, kind-from, kind, total, value, back}
+use Rattle.divisor.specs.TableModel.{row-at, cell, diagonal, altered, minus, kept, Zeros-to, insert, kind-from, kind, total, value, back}
 
 -- what is left of n turns at turn i
 more : (i n : ℕ) → i < n → n - i ≡ suc (n - (i + 1))
@@ -52,6 +52,14 @@ module _ (p : ℕ) (t : Table) (e : Row) (j n : ℕ) where
   pub insert-at-kept : (cell e j ≡ 0 → ⊥) → (diagonal t j ≡ 0 → ⊥) → insert (suc n) j p t e ≡ taken-off
   unfolding insert
   insert-at-kept z y = ap by-cell (ne-eqb (cell e j) 0 z) ∙ ap by-diagonal (ne-eqb (diagonal t j) 0 y)
+
+-- an equation whose cells are 0 from column j on
+module _ (p : ℕ) (t : Table) (e : Row) where
+  pub insert-zeros : (n j : ℕ) → Zeros-to (j + n) e → insert n j p t e ≡ t
+  unfolding insert
+  insert-zeros zero j z = refl
+  insert-zeros (suc n) j z =
+      insert-at-zero p t e j n (z j (omega arith)) ∙ insert-zeros n (suc j) (λ k h. z k (omega (arith, h)))
 
 module _ (p : ℕ) (t : Table) (e : Row) (j : ℕ) where
   abbrev left : ℕ

@@ -60,7 +60,7 @@ fn point_equations(
     while i < 8 {
         let u = (p - image[i]) % p;
         let e = equation(p, ys, zs, ws, skeleton, i as u16, column, u);
-        s = crate::table::with_added(s, e, p);
+        s = crate::table::with_next(s, e, p);
         i += 1;
     }
     s

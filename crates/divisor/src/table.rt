@@ -1,7 +1,7 @@
 // The equation table: at most 63 unknowns and a last one that is fixed at 1, so 64 columns. A row that is kept stands at the index of its pivot column,
 // where its cell is 1; where no row is kept the cell on the diagonal is 0. A row kept in the last column says 1 = 0: there is no solution.
 ghost use mathlib.Core.Path.{_≡_};
-ghost use Rattle.divisor.specs.TableModel.{Columns, Column, Back, TableReady, Ready, empty-table, minus, scaled-row, with-row, kind, value, values, solved};
+ghost use Rattle.divisor.specs.TableModel.{Columns, Column, Back, TableReady, Ready, Zeros-to, empty-table, minus, scaled-row, with-row, kind, value, values, solved};
 use field::Element;
 use field::Number;
 
@@ -119,6 +119,33 @@ pub fn with_added(t: Table, e: Row, p: Number) -> Table
     let mut s = t;
     add_equation(&mut s, e, p);
     s
+}
+
+// How many columns from the first on have 0 in the row.
+fn zeros_of(row: Row, columns: usize) -> usize
+    requires { ⌜ Columns columns ⌝ }
+    ensures { λ r. ⌜ Zeros-to r row ⌝ }
+{
+    let mut j: usize = 0;
+    while j < columns {
+        if row.cells[j] != 0 {
+            return j;
+        }
+        j += 1;
+    }
+    j
+}
+
+// The next equation into the table. One that says 0 = 0 leaves it as it is, and no copy is made.
+pub fn with_next(t: Table, e: Row, p: Number) -> Table
+    requires { ⌜ Ready p t e ⌝ }
+    ensures { λ r. ⌜ r ≡ with-row p t e ⌝ }
+{
+    let columns = t.columns;
+    if zeros_of(e, columns) >= columns {
+        return t;
+    }
+    with_added(t, e, p)
 }
 
 fn kind_of(t: Table) -> Kind

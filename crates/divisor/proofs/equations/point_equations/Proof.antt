@@ -72,8 +72,8 @@ equation-requires c κs =
       below = mod-lt _ (listed-positive (s .pre .table .listed));
     }
 
-with-added-requires : tie.Need-with-added-requires Inv-loop μ-loop
-with-added-requires c κs =
+with-next-requires : tie.Need-with-next-requires Inv-loop μ-loop
+with-next-requires c κs =
     let s = c .before .before .before .before .before .before .before .before .before .before .before .before .before in
     let a = s .args in
     let l = c .before .before .before .loop in
@@ -98,10 +98,10 @@ loop-again c =
     let z = c .before .before .before .before .before .before .before .powers2 .ensures in
     let w = c .before .before .before .before .before .powers3 .ensures in (
       omega arith,
-      point-next (a .p) (a .t) (a .skeleton .now) (a .point .now) (a .image .now) (a .column) (l .i) (l .s) _ (c .before .equation .result) (c .with-added .result)
+      point-next (a .p) (a .t) (a .skeleton .now) (a .point .now) (a .image .now) (a .column) (l .i) (l .s) _ (c .before .equation .result) (c .with-next .result)
           (listed-positive (s .pre .table .listed)) (s .pre .eight .below (l .i)) refl
           (equation-with y z w (c .before .equation .ensures))
-          (l .inv .1) (c .with-added .ensures),
+          (l .inv .1) (c .with-next .ensures),
     )
 
 returns : tie.Need-returns Inv-loop μ-loop
@@ -131,7 +131,7 @@ point-equations-spec =
     rem-u
     cast-equation
     equation-requires
-    with-added-requires
+    with-next-requires
     add-i
     loop-less
     loop-again
