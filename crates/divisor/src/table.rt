@@ -45,18 +45,16 @@ impl Table {
 }
 
 // The row less the multiple of the pivot's row that makes its cell in column j 0. Before column j both have zeros, and nothing changes there.
-fn subtract(row: Row, pivot: Row, j: usize, columns: usize, p: Number) -> Row
-    requires { ⌜ Column p row j columns ⌝ }
-    ensures { λ r. ⌜ r ≡ minus p row pivot j columns ⌝ }
+fn subtract(row: &mut [Number; COLUMNS], pivot: Row, j: usize, columns: usize, p: Number)
+    requires { ⌜ Column p (record { cells = now row }) j columns ⌝ }
+    ensures { λ _. ⌜ record { cells = now (row .exit) } ≡ minus p (record { cells = now (row .entry) }) pivot j columns ⌝ }
 {
-    let mut r = row;
-    let factor = p - r.cells[j];
+    let factor = p - row[j];
     let mut i = j;
     while i < columns {
-        r.cells[i] = field::plus_times(p, r.cells[i], factor, pivot.cells[i]);
+        row[i] = field::plus_times(p, row[i], factor, pivot.cells[i]);
         i += 1;
     }
-    r
 }
 
 // The row times the inverse of its cell in column j, which becomes 1.
@@ -95,7 +93,7 @@ pub fn with_equation(t: Table, e: Row, p: Number) -> Table
                 s.rows[j] = scaled(row, j, columns, p);
                 return s;
             }
-            row = subtract(row, pivot, j, columns, p);
+            subtract(&mut row.cells, pivot, j, columns, p);
         }
         j += 1;
     }

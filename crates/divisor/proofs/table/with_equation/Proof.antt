@@ -77,7 +77,7 @@ returns c =
     ∙ at .loop .inv .1 .1 .1
 
 subtract-requires : tie.Need-subtract-requires Inv-loop μ-loop
-subtract-requires c κs = column (c .before .before .before)
+subtract-requires c κs = column (c .before .before .before .before)
 
 add-j : tie.Need-add-j Inv-loop μ-loop
 add-j c = search needs
@@ -99,7 +99,7 @@ loop-again c =
         ⊎-elim
             (λ w.
             let is : c .if1 .row ≡ minus (a .p) (at .loop .row) (row-at (a .t) j) j (a .t .columns) =
-            w .5 ∙ w .4 .ensures ∙ ap (λ u. minus (a .p) (at .loop .row) (row-at u j) j (a .t .columns)) same in (
+            w .6 ∙ w .5 .ensures ∙ ap (λ u. minus (a .p) (at .loop .row) (row-at u j) j (a .t .columns)) same in (
               λ k. subst (λ x. cell x k < a .p) (sym is) (minus-below (a .p) (at .loop .row) j (a .t .columns) (at .loop .inv .1 .1 .0) (row-at (a .t) j) k),
               ap (λ x. insert left (j + 1) (a .p) (a .t) x) is
                   ∙ sym (insert-minus (a .p) (a .t) (at .loop .row) j within (w .0 .taken) (λ z. w .3 .left (subst (λ u. diagonal u j ≡ 0) (sym same) z)))
