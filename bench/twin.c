@@ -221,7 +221,7 @@ static bool divide(uint16_t p, const uint32_t *dividend, size_t n, const uint32_
     uint16_t bound = above - below, lead = key_of(divisor[0]), inv = inverse(p, coefficient_of(divisor[0]));
     for (size_t i = 0; i < n; i++)
         work[key_of(dividend[i])] = coefficient_of(dividend[i]);
-    for (size_t k = KEYS; k-- > 0;) {
+    for (size_t k = key_of(dividend[0]) + 1u; k-- > 0;) {
         if (work[k] == 0)
             continue;
         if (!at_most(lead, (uint16_t)k) || !at_most((uint16_t)(k - lead), bound))
