@@ -106,21 +106,22 @@ fn subtract(p: Number, q: Number, shift: usize, divisor: &[Term], cells: &mut [N
     }
 }
 
-// The steps of a division. Each leading term that can be divided gives a term of the quotient, stored at its key;
-// the search for the next one is left at the first that cannot.
+// The steps of a division, where the cells from `top` on are 0. Each leading term that can be divided gives a term of the quotient, stored at
+// its key; the search for the next one is left at the first that cannot.
 fn steps(
     p: Number,
     divisor: &[Term],
     lead: u16,
     inverse: Number,
     bound: Key,
+    top: usize,
     work: &mut [Number],
 ) -> bool
-    requires { ⌜ CanStep (record { modulus = p; terms = now divisor; lead = lead; inverse = inverse; bound = bound .bits }) (now work) ⌝ }
+    requires { ⌜ CanStep (record { modulus = p; terms = now divisor; lead = lead; inverse = inverse; bound = bound .bits }) top (now work) ⌝ }
     ensures { λ r. ⌜ Stepped (record { modulus = p; terms = now (divisor .entry); lead = lead; inverse = inverse; bound = bound .bits }) (now (work .entry)) (now (work .exit)) r ⌝ }
 {
     let low = lead as usize;
-    let mut k = KEYS;
+    let mut k = top;
     let mut whole = true;
     'steps: loop {
         loop {
@@ -163,8 +164,10 @@ pub(crate) fn divide(p: Number, dividend: &[Term], divisor: &[Term], work: &mut 
     };
     let inverse = coefficient.inverse();
     let lead = Key::of(first);
+    let highest = Key::of(dividend[0]);
+    let top = highest.bits as usize + 1;
     spread(dividend, work);
-    steps(p, divisor, lead.bits, inverse.value, bound, work)
+    steps(p, divisor, lead.bits, inverse.value, bound, top, work)
 }
 
 // Trial division: whether the divisor divides the dividend, as polynomials. The work room is left cleared.

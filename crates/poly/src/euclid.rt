@@ -48,19 +48,17 @@ fn monic(p: Number, n: usize, f: Eight) -> Eight
     scaled(p, v.value, f)
 }
 
-// f - c x^k g.
-fn subtract(p: Number, c: Number, k: usize, f: Eight, g: Eight) -> Eight
-    requires { ⌜ Step p c k ⌝ }
-    ensures { λ r. ⌜ r ≡ subtract-of p c k f g ⌝ }
+// f becomes f - c x^k g.
+fn subtract(p: Number, c: Number, k: usize, f: &mut Eight, g: Eight)
+    requires { ⌜ Step p c k (now f) ⌝ }
+    ensures { λ _. ⌜ now (f .exit) ≡ subtract-of p c k (now (f .entry)) g ⌝ }
 {
     let n = p - c;
-    let mut r = f;
     let mut i = k;
     while i < 8 {
-        r[i] = field::plus_times(p, f[i], n, g[i - k]);
+        f[i] = field::plus_times(p, f[i], n, g[i - k]);
         i += 1;
     }
-    r
 }
 
 // The remainder of f by g, which is monic of degree m.
@@ -73,7 +71,7 @@ fn remainder(p: Number, m: usize, g: Eight, f: Eight) -> Eight
     while k > 0 {
         k -= 1;
         let c = r[k + m];
-        r = subtract(p, c, k, r, g);
+        subtract(p, c, k, &mut r, g);
     }
     r
 }

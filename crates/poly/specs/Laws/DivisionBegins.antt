@@ -3,7 +3,7 @@ use mathlib.Core.Path.{_≡_, refl, sym, _∙_, ap, ap₂}
 use mathlib.Core.Logic.{_↔_}
 use mathlib.Core.Bool.{Bool, true, false}
 use mathlib.Core.List.{List}
-use Prim.Native.Nat.{ℕ, _+_, _-_, _≤_}
+use Prim.Native.Nat.{ℕ, _+_, _-_, _≤_, _<_}
 use native.Mathlib.Omega.{arith}
 use lib.ListN.{getD, drop}
 use Rattle.field.specs.Prime.{Prime}
@@ -14,14 +14,14 @@ use Rattle.field.specs.Link.{inverse-val}
 use Rattle.field.specs.Contract.{Invertible, Inverse}
 use Rattle.field.specs.declared.Element.{Element}
 use Rattle.poly.specs.Keys.{keys}
-use Rattle.poly.specs.Terms.{coefficient-of, poly}
+use Rattle.poly.specs.Terms.{key-of, coefficient-of, poly}
 use Rattle.poly.specs.Image.{Divides}
 use Rattle.poly.specs.Room.{work-room, zeroed, cleared}
 use Rattle.poly.specs.TrialDivision.{CanDivide}
 use Rattle.poly.specs.Laws.RightLists.{falling-coefficient}
 use Rattle.poly.specs.Laws.Falling.{falling-keys, falling-first, falling-positive}
 use Rattle.poly.specs.Laws.Room.{zeroed-length, zeroed-at, zeroed-beyond, zeroed-same}
-use Rattle.poly.specs.Laws.Spread.{spread-length}
+use Rattle.poly.specs.Laws.Spread.{spread-length, spread-above}
 use Rattle.poly.specs.Laws.WorkRoom.{take-spread, drop-spread, same-quotient-cells, same-beyond, remainder-empty}
 use Rattle.poly.specs.Laws.DivisionEnds.{Empty, divided-says}
 use Rattle.poly.specs.Models.Spread.{spread}
@@ -55,12 +55,14 @@ module _ (p : ℕ) (f g work : List ℕ) (can : CanDivide p f g work) where
 
   -- the steps after the dividend is spread
   module _ (d : Setting) (is : d ≡ setting p f g) (begun : List ℕ) (spreads : begun ≡ spread f work) where
-    pub begun-can-step : CanStep d begun
-    begun-can-step =
+    pub begun-can-step : ((i : ℕ) → i < keys → getD work i 0 ≡ 0) → (top : ℕ) → top ≡ key-of (getD f 0 0) + 1 → CanStep d top begun
+    begun-can-step empty top et =
         rw (is, spreads)
         (record {
           positive = listed-positive (can .is-listed);
           room = let e = spread-length f work in let r = can .room in omega arith;
+          within = omega (arith, falling-keys p keys f (can .dividend-falls) 0 (can .some-dividend));
+          above = λ i h l. spread-above f work i (λ j b. omega (arith, falling-first p keys f (can .dividend-falls) j b)) ∙ empty i l;
           leads = falling-first p keys g (can .divisor-falls);
         })
 

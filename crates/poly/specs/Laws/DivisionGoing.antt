@@ -3,7 +3,7 @@
 use mathlib.Core.Path.{_≡_, refl, sym, _∙_, ap, ap₂}
 use mathlib.Core.Bool.{true, false}
 use mathlib.Core.List.{List}
-use Prim.Native.Nat.{ℕ, _+_, _-_, _*_, _%_, _≤_, _<_}
+use Prim.Native.Nat.{ℕ, zero, suc, _+_, _-_, _*_, _%_, _≤_, _<_}
 use native.Mathlib.Omega.{arith}
 use lib.ListN.{length, getD, set, length-set}
 use lib.Seq.{getD-take}
@@ -26,13 +26,31 @@ pub record Going (d : Setting) (before work : List ℕ) (k : ℕ) : Type 0 where
   pub same : left-of d before keys ≡ left-of d work k
 
 module _ (d : Setting) where
-  pub going-start : (work : List ℕ) → Going d work work keys
-  going-start work = record { cells = omega arith; same-length = refl; rest = refl; same = refl }
-
   -- a cell that is 0 is passed
   pub going-passed : (work : List ℕ) (k : ℕ) → k ≤ keys → ¬ (k ≡ 0) → getD work (k - 1) 0 ≡ 0 → left-of d work k ≡ left-of d work (k - 1)
   going-passed work k h n z =
       division-passed d k (remainder-cells work) (quotient-cells work) n (getD-take keys work (k - 1) 0 (omega arith) ∙ z)
+
+  -- so are n of them from the cell k on
+  zeros-passed : (work : List ℕ) (n k : ℕ) → k + n ≤ keys → ((i : ℕ) → k ≤ i → i < keys → getD work i 0 ≡ 0) → left-of d work (k + n) ≡ left-of d work k
+  zeros-passed work zero k h z =
+      let e : k + 0 ≡ k = omega arith in
+      ap (left-of d work) e
+  zeros-passed work (suc n) k h z =
+      let e : k + suc n - 1 ≡ k + n = omega arith in
+      going-passed work (k + suc n) h (λ q. absurd (omega arith)) (z (k + suc n - 1) (omega arith) (omega arith)) ∙ ap (left-of d work) e
+      ∙ zeros-passed work n k (omega arith) z
+
+  pub going-start : (work : List ℕ) (top : ℕ) → CanStep d top work → Going d work work top
+  going-start work top can =
+      let w = can .within in
+      let e : keys ≡ top + (keys - top) = omega arith in
+      record {
+        cells = w;
+        same-length = refl;
+        rest = refl;
+        same = ap (left-of d work) e ∙ zeros-passed work (keys - top) top (omega arith) (can .above);
+      }
 
   pub going-on : (before work : List ℕ) (k j : ℕ) → Going d before work k → j ≤ k → left-of d work k ≡ left-of d work j → Going d before work j
   going-on before work k j g h e =
@@ -54,7 +72,7 @@ module _ (d : Setting) where
           }
 
       -- a step: the quotient's coefficient q stored, the product taken away
-      module _ (can : CanStep d before) (f : fits d (k - 1) ≡ true) where
+      module _ {top : ℕ} (can : CanStep d top before) (f : fits d (k - 1) ≡ true) where
         abbrev s : ℕ
         s = k - 1 - d .lead
 

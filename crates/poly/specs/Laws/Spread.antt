@@ -33,6 +33,14 @@ unfolding spread
 spread-length [] l = refl
 spread-length (t ∷ ts) l = spread-length ts (set l (key-of t) (coefficient-of t)) ∙ length-set l _ _
 
+-- a cell above every key stays as it is
+pub spread-above : (ts l : List ℕ) (i : ℕ) → ((j : ℕ) → j < length ts → key-of (getD ts j 0) < i) → getD (spread ts l) i 0 ≡ getD l i 0
+unfolding spread
+spread-above [] l i h = refl
+spread-above (t ∷ ts) l i h =
+    let first : key-of t < i = h 0 (omega arith) in
+    spread-above ts (set l (key-of t) (coefficient-of t)) i (λ j b. h (suc j) (omega arith)) ∙ getD-set-other l (key-of t) i (coefficient-of t) 0 (λ e. omega arith)
+
 pub gather-passed : (k : ℕ) (l : List ℕ) → getD l k 0 ≡ 0 → gathered (suc k) l ≡ gathered k l
 unfolding gathered
 gather-passed k l e = rw (eq-eqb _ _ e, gathered)

@@ -1,7 +1,8 @@
 -- What the code's steps on eight numbers ask for.
 use Prim.Native.Nat.{ℕ, _<_}
 use mathlib.Core.List.{List}
-use lib.ListN.{getD}
+use mathlib.Core.Path.{_≡_}
+use lib.ListN.{length, getD}
 use Rattle.field.specs.Moduli.{Listed}
 use Rattle.poly.specs.Coefficients.{Eight}
 use Rattle.poly.specs.Models.Eight.{size}
@@ -13,10 +14,11 @@ pub record Divisible (p n : ℕ) (f : List ℕ) : Type 0 where
   pub there : n < 8
   pub nonzero : 0 < getD f n 0
 
--- c x^k may be subtracted
-pub record Step (p c k : ℕ) : Type 0 where
+-- a multiple by c x^k may be subtracted from f
+pub record Step (p c k : ℕ) (f : List ℕ) : Type 0 where
   pub below : c < p
   pub power : k < 8
+  pub eight : length f ≡ 8
 
 -- f may be reduced by a polynomial of degree m
 pub record Reducible (p m : ℕ) (f : List ℕ) : Type 0 where

@@ -28,10 +28,12 @@ pub record CanSubtract (p q shift : ℕ) (divisor cells : List ℕ) : Type 0 whe
   pub reduced : q ≤ p
   pub within : KeysBelow shift (length cells) divisor
 
--- for the steps of a division
-pub record CanStep (d : Setting) (work : List ℕ) : Type 0 where
+-- for the steps of a division: no cell of the remainder from top on is other than 0
+pub record CanStep (d : Setting) (top : ℕ) (work : List ℕ) : Type 0 where
   pub positive : 0 < d .modulus
   pub room : work-room ≤ length work
+  pub within : top ≤ keys
+  pub above : (i : ℕ) → top ≤ i → i < keys → getD work i 0 ≡ 0
   pub leads : (i : ℕ) → i < length (d .terms) → key-of (getD (d .terms) i 0) ≤ d .lead
 
 pub record Stepped (d : Setting) (before after : List ℕ) (whole : Bool) : Type 0 where

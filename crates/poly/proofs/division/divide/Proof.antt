@@ -1,7 +1,7 @@
 -- `divide` meets its contract, from what its calls say: the test of the greatest exponents, the setting, the dividend spread, and the steps. Assumes nothing.
-use mathlib.Core.Path.{_≡_, refl, sym, _∙_, ap₂}
+use mathlib.Core.Path.{_≡_, refl, sym, _∙_, ap, ap₂}
 use mathlib.Core.Bool.{true}
-use Prim.Native.Nat.{_-_}
+use Prim.Native.Nat.{ℕ, _+_, _-_}
 use native.Mathlib.Omega.{arith}
 use borrow.Author.Tests.{not-true, not-false}
 use Rattle.poly.specs.Keys.{keys}
@@ -67,8 +67,8 @@ returns c =
     begun-wide (z .args .p) (z .args .dividend .now) (z .args .divisor .now) (z .args .work .now) (z .pre .lists)
     (sym (tests (c .before)) ∙ not-true _ (c .if1 .taken))
 
-sub-t14 : tie.Need-sub-t14
-sub-t14 c = at-most-key _ _ (sym (c .before .before .before .at-most .ensures) ∙ not-false _ (c .before .before .if1 .left))
+sub-t16 : tie.Need-sub-t16
+sub-t16 c = at-most-key _ _ (sym (c .before .before .before .at-most .ensures) ∙ not-false _ (c .before .before .if1 .left))
 
 shared-slice-read-first : tie.Need-shared-slice-read-first
 shared-slice-read-first c = search needs
@@ -84,17 +84,30 @@ inverse-requires c κs =
 of-requires : tie.Need-of-requires
 of-requires c κs = search needs
 
+shared-slice-read-of : tie.Need-shared-slice-read-of
+shared-slice-read-of c = omega (arith, start (c .before) .pre .lists .some-dividend)
+
+of-requires-2 : tie.Need-of-requires-2
+of-requires-2 c κs = search needs
+
+cast-top : tie.Need-cast-top
+cast-top c = search needs
+
+add-top : tie.Need-add-top
+add-top c = search needs
+
 spread-requires : tie.Need-spread-requires
 spread-requires c κs =
-    let z = start (c .before) in
+    let z = start (c .before .before .before .before) in
     λ i h. omega (arith, falling-keys (z .args .p) keys (z .args .dividend .now) (z .pre .lists .dividend-falls) i h, z .pre .lists .room)
 
 steps-requires : tie.Need-steps-requires
 steps-requires c κs =
-    let o = c .before .before .before .before .before in
+    let h = c .before .before .before .before .before .before in
+    let o = h .before .before in
     let z = start o in
     begun-can-step (z .args .p) (z .args .dividend .now) (z .args .divisor .now) (z .args .work .now) (z .pre .lists) (kept o) (kept-is o) _
-    (c .before .before .before .spread .ensures)
+    (c .before .before .before .spread .ensures) (z .pre .empty) _ (ap (λ (k : ℕ). k + 1) (h .of2 .ensures))
 
 same-length : tie.Need-same-length
 same-length c = search needs
@@ -102,7 +115,7 @@ same-length c = search needs
 returns-2 : tie.Need-returns-2
 returns-2 c =
     let s = c .before .before in
-    let o = s .before .before .before .before .before .before in
+    let o = s .before .before .before .before .before .before .before .before .before in
     let z = start o in
     begun-ends (z .args .p) (z .args .dividend .now) (z .args .divisor .now) (z .args .work .now) (z .pre .lists) (kept o) (kept-is o) _
     (s .before .before .before .before .spread .ensures) (narrow o) _ _ (s .steps .ensures)
@@ -115,11 +128,15 @@ divide-spec =
     most-requires-2
     at-most-requires
     returns
-    sub-t14
+    sub-t16
     shared-slice-read-first
     coefficient-of-requires
     inverse-requires
     of-requires
+    shared-slice-read-of
+    of-requires-2
+    cast-top
+    add-top
     spread-requires
     steps-requires
     same-length

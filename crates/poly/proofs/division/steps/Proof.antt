@@ -19,18 +19,18 @@ abbrev setting : ℕ → List ℕ → ℕ → ℕ → ℕ → Setting
 setting p divisor lead inverse bound = record { modulus = p; terms = divisor; lead = lead; inverse = inverse; bound = bound }
 
 abbrev Inv-loop : tie.InvT-loop
-Inv-loop p divisor lead inverse bound work low k₀ whole k =
+Inv-loop p divisor lead inverse bound top work low k₀ whole k =
     (k ≤ k₀) × (left-of (setting p divisor lead inverse (bound .bits)) work k₀ ≡ left-of (setting p divisor lead inverse (bound .bits)) work k)
 
 abbrev μ-loop : tie.MeasureT-loop
-μ-loop p divisor lead inverse bound work low k₀ whole k = k
+μ-loop p divisor lead inverse bound top work low k₀ whole k = k
 
 abbrev Inv-steps : tie.InvT-steps
-Inv-steps p divisor lead inverse bound work₀ low k₀ whole₀ work k whole =
+Inv-steps p divisor lead inverse bound top work₀ low k₀ whole₀ work k whole =
     (whole ≡ true) × Going (setting p divisor lead inverse (bound .bits)) work₀ work k
 
 abbrev μ-steps : tie.MeasureT-steps
-μ-steps p divisor lead inverse bound work₀ low k₀ whole₀ work k whole = k
+μ-steps p divisor lead inverse bound top work₀ low k₀ whole₀ work k whole = k
 
 -- the division of this call, the room before it, and how far it is at the search's test
 module _ (l : tie.At-loop Inv-loop μ-loop Inv-steps μ-steps) where
@@ -74,7 +74,10 @@ module _ (c : tie.Else2 Inv-loop μ-loop Inv-steps μ-steps) where
       (at .before .before .before .before .pre) yes
 
 steps-holds : tie.Need-steps-holds Inv-loop μ-loop Inv-steps μ-steps
-steps-holds c = (refl, going-start (setting (c .before .before .args .p) (c .before .before .args .divisor .now) (c .before .before .args .lead) (c .before .before .args .inverse) (c .before .before .args .bound .bits)) (c .before .before .args .work .now))
+steps-holds c =
+    let s = c .before .before in
+    let a = s .args in
+    (refl, going-start (setting (a .p) (a .divisor .now) (a .lead) (a .inverse) (a .bound .bits)) (a .work .now) (a .top) (s .pre))
 
 loop-holds : tie.Need-loop-holds Inv-loop μ-loop Inv-steps μ-steps
 loop-holds c = search needs

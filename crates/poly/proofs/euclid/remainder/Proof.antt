@@ -38,16 +38,16 @@ array-read-c c = search needs
 
 subtract-requires : tie.Need-subtract-requires Inv-loop μ-loop
 subtract-requires c κs =
-    let l = c .before .loop in
-    record { below = l .inv .1 .below (l .k - 1 + c .before .before .args .m); power = omega arith }
+    let l = c .before .before .loop in
+    record { below = l .inv .1 .below (l .k - 1 + c .before .before .before .args .m); power = omega arith; eight = l .inv .1 .eight }
 
 loop-less : tie.Need-loop-less Inv-loop μ-loop
 loop-less c = search needs
 
 loop-again : tie.Need-loop-again Inv-loop μ-loop
 loop-again c =
-    let l = c .before .before .loop in
-    let s = c .before .before .before in
+    let l = c .before .before .before .loop in
+    let s = c .before .before .before .before in
     let a = s .args in
     let v = getD (l .r) (l .k - 1 + a .m) 0 in
     let pos : 0 < a .p = omega (arith, l .inv .1 .below 0) in (

@@ -1,0 +1,367 @@
+/* The rule of the candidate, the quotient and the image in plain C: the library's algorithms on the library's data (the work room, the table of
+   64 rows, eight numbers for an image), with what C would have where the proved text has values: the table and its rows stand in one place and
+   are changed there. It is what the library's cost is held against; nothing else uses it. */
+#include <stdbool.h>
+#include <stddef.h>
+
+#include "twin.h"
+
+/* Declared here, since the bare core has no string.h. */
+void *memcpy(void *, const void *, size_t);
+void *memset(void *, int, size_t);
+
+enum { KEYS = 4096, WORK_ROOM = 2 * KEYS, COLUMNS = 64, MOST_TERMS = 256, MOST_KEYS = 32, MOST_POINTS = 32 };
+
+typedef struct { uint16_t cells[COLUMNS]; } row;
+typedef struct { row rows[COLUMNS]; size_t columns; } table;
+typedef struct { size_t number, place; } fault;
+
+/* Arithmetic. */
+
+static bool is_modulus(uint16_t p) {
+    return p == 7 || p == 13 || p == 17 || p == 101 || p == 32003 || p == 65521;
+}
+
+static uint16_t plus_times(uint16_t p, uint16_t r, uint16_t a, uint16_t b) {
+    return (uint16_t)((r + (uint32_t)a * b) % p);
+}
+
+static uint16_t times(uint16_t p, uint16_t a, uint16_t b) {
+    return plus_times(p, 0, a, b);
+}
+
+static uint16_t inverse(uint16_t p, uint16_t a) {
+    uint32_t r = a, t = 1;
+    while (r != 1) {
+        uint32_t m = p / r * t % p;
+        r = p % r;
+        t = (p - m) % p;
+    }
+    return (uint16_t)t;
+}
+
+/* Keys and lists. */
+
+static uint16_t key_of(uint32_t term) { return (uint16_t)(term >> 16); }
+static uint16_t coefficient_of(uint32_t term) { return (uint16_t)term; }
+static uint16_t x_of(uint16_t key) { return key >> 9; }
+static uint16_t y_of(uint16_t key) { return key >> 6 & 7; }
+static uint16_t z_of(uint16_t key) { return key >> 3 & 7; }
+static uint16_t w_of(uint16_t key) { return key & 7; }
+
+static fault list_fault(size_t count, size_t term, uint16_t p, const uint32_t *terms, size_t n) {
+    uint16_t before = KEYS;
+    if (n == 0 || n > MOST_TERMS)
+        return (fault){count, 0};
+    for (size_t i = 0; i < n; i++) {
+        uint16_t key = key_of(terms[i]), coefficient = coefficient_of(terms[i]);
+        if (key >= before || coefficient == 0 || coefficient >= p)
+            return (fault){term, i};
+        before = key;
+    }
+    return (fault){0, 0};
+}
+
+static fault lists_fault(uint16_t p, const uint32_t *first, size_t n, const uint32_t *second, size_t m) {
+    if (!is_modulus(p))
+        return (fault){1, 0};
+    fault found = list_fault(2, 3, p, first, n);
+    return found.number ? found : list_fault(4, 5, p, second, m);
+}
+
+static fault numbers_fault(uint16_t p, const uint16_t *numbers, size_t n) {
+    for (size_t i = 0; i < n; i++)
+        if (numbers[i] >= p)
+            return (fault){9, i};
+    return (fault){0, 0};
+}
+
+/* The value and the image at a point. */
+
+static void powers(uint16_t p, uint16_t y, uint16_t r[8]) {
+    r[0] = 1;
+    for (size_t i = 1; i < 8; i++)
+        r[i] = times(p, r[i - 1], y);
+}
+
+static void value(uint16_t p, const uint16_t ys[8], const uint16_t zs[8], const uint16_t ws[8], const uint32_t *terms, size_t n, uint16_t r[8]) {
+    memset(r, 0, 8 * sizeof *r);
+    for (size_t i = 0; i < n; i++) {
+        uint16_t key = key_of(terms[i]);
+        uint16_t a = times(p, coefficient_of(terms[i]), ys[y_of(key)]);
+        uint16_t b = times(p, a, zs[z_of(key)]);
+        r[x_of(key)] = plus_times(p, r[x_of(key)], b, ws[w_of(key)]);
+    }
+}
+
+static size_t size(const uint16_t f[8]) {
+    size_t n = 8;
+    while (n > 0 && f[n - 1] == 0)
+        n--;
+    return n;
+}
+
+static void make_monic(uint16_t p, uint16_t f[8], size_t n) {
+    uint16_t c = inverse(p, f[n - 1]);
+    for (size_t i = 0; i < 8; i++)
+        f[i] = times(p, c, f[i]);
+}
+
+/* f becomes its remainder by g, which is monic of size n. */
+static void reduce(uint16_t p, uint16_t f[8], const uint16_t g[8], size_t n) {
+    for (size_t k = 9 - n; k-- > 0;) {
+        uint16_t opposite = (uint16_t)(p - f[k + n - 1]);
+        for (size_t i = k; i < 8; i++)
+            f[i] = plus_times(p, f[i], opposite, g[i - k]);
+    }
+}
+
+/* The image's coefficients; its size, or 0 where the point is bad. */
+static size_t image(uint16_t p, const uint32_t *first, size_t n, const uint32_t *second, size_t m, const uint16_t point[3], uint16_t u[8]) {
+    uint16_t ys[8], zs[8], ws[8], values[2][8];
+    uint16_t *f = values[0], *g = values[1];
+    powers(p, point[0], ys);
+    powers(p, point[1], zs);
+    powers(p, point[2], ws);
+    value(p, ys, zs, ws, first, n, f);
+    value(p, ys, zs, ws, second, m, g);
+    memset(u, 0, 8 * sizeof *u);
+    if (f[x_of(key_of(first[0]))] == 0)
+        return 0;
+    make_monic(p, f, size(f));
+    for (size_t s = size(g); s > 0; s = size(g)) {
+        uint16_t *h = f;
+        make_monic(p, g, s);
+        reduce(p, f, g, s);
+        f = g;
+        g = h;
+    }
+    memcpy(u, f, 8 * sizeof *u);
+    return size(u);
+}
+
+/* The table of equations. */
+
+/* The equation e, which is changed, into the table: kept in the first column where no row is and its cell is not 0. */
+static void add_equation(table *t, row *e, uint16_t p) {
+    for (size_t j = 0; j < t->columns; j++) {
+        row *pivot = &t->rows[j];
+        if (e->cells[j] == 0)
+            continue;
+        if (pivot->cells[j] == 0) {
+            uint16_t factor = inverse(p, e->cells[j]);
+            memcpy(pivot, e, sizeof *e);
+            for (size_t i = j; i < t->columns; i++)
+                pivot->cells[i] = times(p, factor, e->cells[i]);
+            return;
+        }
+        uint16_t opposite = (uint16_t)(p - e->cells[j]);
+        for (size_t i = j; i < t->columns; i++)
+            e->cells[i] = plus_times(p, e->cells[i], opposite, pivot->cells[i]);
+    }
+}
+
+static void point_equations(table *t, uint16_t p, const uint16_t *skeleton, size_t keys, const uint16_t point[3], const uint16_t u[8], size_t column) {
+    uint16_t ys[8], zs[8], ws[8];
+    powers(p, point[0], ys);
+    powers(p, point[1], zs);
+    powers(p, point[2], ws);
+    for (uint16_t i = 0; i < 8; i++) {
+        row e = {{0}};
+        for (size_t j = 0; j < keys; j++)
+            if (x_of(skeleton[j]) == i)
+                e.cells[j] = times(p, times(p, ys[y_of(skeleton[j])], zs[z_of(skeleton[j])]), ws[w_of(skeleton[j])]);
+        e.cells[column] = (uint16_t)((p - u[i]) % p);
+        add_equation(t, &e, p);
+    }
+}
+
+/* 13 and 14 for none and several; 0 for one, whose values are given. */
+static size_t solve(const table *t, uint16_t p, uint16_t values[COLUMNS]) {
+    size_t last = t->columns - 1;
+    if (t->rows[last].cells[last] != 0)
+        return 13;
+    for (size_t j = 0; j < last; j++)
+        if (t->rows[j].cells[j] == 0)
+            return 14;
+    for (size_t j = last; j-- > 0;) {
+        uint16_t sum = t->rows[j].cells[last];
+        for (size_t k = j + 1; k < last; k++)
+            sum = plus_times(p, sum, t->rows[j].cells[k], values[k]);
+        values[j] = (uint16_t)((p - sum) % p);
+    }
+    return 0;
+}
+
+/* Division by leading terms. */
+
+static uint16_t larger(uint16_t a, uint16_t b) { return a < b ? b : a; }
+
+static uint16_t most(const uint32_t *terms, size_t n) {
+    uint16_t x = 0, y = 0, z = 0, w = 0;
+    for (size_t i = 0; i < n; i++) {
+        uint16_t key = key_of(terms[i]);
+        x = larger(x, x_of(key));
+        y = larger(y, y_of(key));
+        z = larger(z, z_of(key));
+        w = larger(w, w_of(key));
+    }
+    return (uint16_t)(x << 9 | y << 6 | z << 3 | w);
+}
+
+static bool at_most(uint16_t a, uint16_t b) {
+    return x_of(a) <= x_of(b) && y_of(a) <= y_of(b) && z_of(a) <= z_of(b) && w_of(a) <= w_of(b);
+}
+
+/* Whether the divisor divides, in a work room whose first 4,096 numbers are 0; the quotient's coefficients go behind them. */
+static bool divide(uint16_t p, const uint32_t *dividend, size_t n, const uint32_t *divisor, size_t m, uint16_t *work) {
+    uint16_t above = most(dividend, n), below = most(divisor, m);
+    if (!at_most(below, above))
+        return false;
+    uint16_t bound = above - below, lead = key_of(divisor[0]), inv = inverse(p, coefficient_of(divisor[0]));
+    for (size_t i = 0; i < n; i++)
+        work[key_of(dividend[i])] = coefficient_of(dividend[i]);
+    for (size_t k = key_of(dividend[0]) + 1u; k-- > 0;) {
+        if (work[k] == 0)
+            continue;
+        if (!at_most(lead, (uint16_t)k) || !at_most((uint16_t)(k - lead), bound))
+            return false;
+        size_t shift = k - lead;
+        uint16_t q = times(p, work[k], inv), opposite = (uint16_t)(p - q);
+        work[KEYS + shift] = q;
+        for (size_t i = 0; i < m; i++) {
+            size_t at = key_of(divisor[i]) + shift;
+            work[at] = plus_times(p, work[at], opposite, coefficient_of(divisor[i]));
+        }
+    }
+    return true;
+}
+
+static bool divides(uint16_t p, const uint32_t *dividend, size_t n, const uint32_t *divisor, size_t m, uint16_t *work) {
+    memset(work, 0, KEYS * sizeof *work);
+    bool whole = divide(p, dividend, n, divisor, m, work);
+    memset(work, 0, WORK_ROOM * sizeof *work);
+    return whole;
+}
+
+/* The calls. */
+
+void twin_image(uint16_t p, const uint32_t *first, length n, const uint32_t *second, length m, const uint16_t *point, length numbers,
+                uint16_t u[8], length record[3]) {
+    fault found = lists_fault(p, first, n, second, m);
+    if (!found.number)
+        found = numbers != 3 ? (fault){8, 0} : numbers_fault(p, point, numbers);
+    memset(u, 0, 8 * sizeof *u);
+    record[0] = found.number;
+    record[1] = found.place;
+    record[2] = 0;
+    if (found.number)
+        return;
+    size_t s = image(p, first, n, second, m, point, u);
+    if (s == 0)
+        record[0] = 12;
+    else
+        record[2] = s - 1;
+}
+
+void twin_quotient(uint16_t p, const uint32_t *first, length n, const uint32_t *second, length m, uint32_t *out, length out_terms,
+                   uint16_t *work, length work_numbers, length record[3]) {
+    fault found = lists_fault(p, first, n, second, m);
+    if (!found.number && out_terms < KEYS)
+        found = (fault){10, 0};
+    if (!found.number && work_numbers < WORK_ROOM)
+        found = (fault){11, 0};
+    record[0] = found.number;
+    record[1] = found.place;
+    record[2] = 0;
+    if (found.number)
+        return;
+    memset(work, 0, WORK_ROOM * sizeof *work);
+    if (divide(p, first, n, second, m, work)) {
+        for (size_t k = KEYS; k-- > 0;)
+            if (work[KEYS + k] != 0)
+                out[record[2]++] = (uint32_t)k << 16 | work[KEYS + k];
+    } else
+        record[0] = 15;
+    memset(work, 0, WORK_ROOM * sizeof *work);
+}
+
+static fault candidate_fault(uint16_t p, const uint32_t *first, size_t n, const uint32_t *second, size_t m, const uint16_t *skeleton, size_t keys,
+                             const uint16_t *points, size_t numbers, size_t out_terms, size_t work_numbers) {
+    fault found = lists_fault(p, first, n, second, m);
+    if (found.number)
+        return found;
+    if (keys == 0 || keys > MOST_KEYS)
+        return (fault){6, 0};
+    for (size_t i = 0; i < keys; i++)
+        if (skeleton[i] >= (i ? skeleton[i - 1] : KEYS))
+            return (fault){7, i};
+    if (numbers == 0 || numbers > 3 * MOST_POINTS || numbers % 3 != 0)
+        return (fault){8, 0};
+    found = numbers_fault(p, points, numbers);
+    if (found.number)
+        return found;
+    return out_terms < keys ? (fault){10, 0} : work_numbers < WORK_ROOM ? (fault){11, 0} : found;
+}
+
+/* The verdict on the equations: a number, and the divisor's terms. */
+static size_t verdict(const table *t, uint16_t p, const uint32_t *first, size_t n, const uint32_t *second, size_t m, const uint16_t *skeleton, size_t keys,
+                      uint32_t *out, uint16_t *work, length *count) {
+    uint16_t values[COLUMNS];
+    uint32_t terms[MOST_KEYS];
+    size_t number = solve(t, p, values), lead = 0;
+    if (number) {
+        memset(work, 0, WORK_ROOM * sizeof *work);
+        return number;
+    }
+    while (values[lead] == 0)
+        lead++;
+    uint16_t factor = inverse(p, values[lead]);
+    size_t k = 0;
+    for (size_t i = 0; i < keys; i++)
+        if (values[i] != 0)
+            terms[k++] = (uint32_t)skeleton[i] << 16 | times(p, values[i], factor);
+    if (!divides(p, first, n, terms, k, work) || !divides(p, second, m, terms, k, work))
+        return 15;
+    memcpy(out, terms, k * sizeof *terms);
+    *count = k;
+    return 0;
+}
+
+void twin_candidate(uint16_t p, const uint32_t *first, length n, const uint32_t *second, length m, const uint16_t *skeleton, length keys,
+                    const uint16_t *points, length numbers, uint32_t *out, length out_terms, uint16_t *work, length work_numbers, length record[7]) {
+    size_t sizes[MOST_POINTS], least = 0, bad = 0, kept = 0, count = numbers / 3, next = 0;
+    fault found = candidate_fault(p, first, n, second, m, skeleton, keys, points, numbers, out_terms, work_numbers);
+    memset(record, 0, 7 * sizeof *record);
+    record[0] = found.number;
+    record[1] = found.place;
+    if (found.number)
+        return;
+    for (size_t i = 0; i < count; i++) {
+        sizes[i] = image(p, first, n, second, m, points + 3 * i, work + 8 * i);
+        if (sizes[i] != 0 && (least == 0 || sizes[i] < least))
+            least = sizes[i];
+    }
+    for (size_t i = 0; i < count; i++) {
+        bad += sizes[i] == 0;
+        kept += sizes[i] == least;
+    }
+    record[3] = bad;
+    if (least == 0) {
+        memset(work, 0, WORK_ROOM * sizeof *work);
+        record[0] = 12;
+        return;
+    }
+    record[2] = least - 1;
+    record[4] = count - bad - kept;
+    record[5] = kept;
+    table t;
+    memset(&t, 0, sizeof t);
+    t.columns = keys + kept;
+    for (size_t i = 0; i < count; i++)
+        if (sizes[i] == least) {
+            point_equations(&t, p, skeleton, keys, points + 3 * i, work + 8 * i, next == 0 ? t.columns - 1 : keys + next - 1);
+            next++;
+        }
+    record[0] = verdict(&t, p, first, n, second, m, skeleton, keys, out, work, &record[6]);
+}

@@ -1,0 +1,208 @@
+#!/usr/bin/env python3
+"""Writes the workloads of bench/run and bench/handheld as C arrays on standard output.
+
+Each of the first four is a candidate call whose divisor is planted: the inputs are its products with two random polynomials, the skeleton is its
+monomials and the points are random. A seed fixes them. The planted divisor, made monic, is what library, twin and FLINT must all give. The quotient is
+the first input over it, the image is at the last point. The fifth is the dearest call of each of the three kinds that is known.
+"""
+
+import random
+
+MODULUS = 65521
+
+
+def key(x, y, z, w):
+    return 512 * x + 64 * y + 8 * z + w
+
+
+def product(p, f, g):
+    """Of two polynomials, as dictionaries from key to coefficient; keys add, since no exponent passes 7."""
+    r = {}
+    for a, c in f.items():
+        for b, d in g.items():
+            r[a + b] = (r.get(a + b, 0) + c * d) % p
+    return {k: c for k, c in r.items() if c}
+
+
+def monic(p, f):
+    inverse = pow(f[max(f)], -1, p)
+    return {k: c * inverse % p for k, c in f.items()}
+
+
+def terms(f):
+    return [k * 65536 + f[k] for k in sorted(f, reverse=True)]
+
+
+def random_polynomial(rng, p, count, most, needed=()):
+    """`count` monomials with exponents up to those of `most`, the needed ones among them."""
+    keys = set(needed)
+    while len(keys) < count:
+        keys.add(key(*(rng.randint(0, m) for m in most)))
+    return {k: rng.randrange(1, p) for k in keys}
+
+
+def random_points(rng, p, count):
+    return [rng.randrange(1, p) for _ in range(3 * count)]
+
+
+def accepted(name, p, first, second, g, points):
+    """A workload: what the candidate is given and its number, what is divided by what, and where the image is taken."""
+    g = monic(p, g)
+    return name, p, first, second, sorted(g, reverse=True), points, 0, first, g, points[-3:]
+
+
+def planted(name, seed, keys, cofactor, points):
+    """The divisor has `keys` terms, with x^3 and x^0 among them, the two cofactors `cofactor` terms each."""
+    rng = random.Random(seed)
+    p = MODULUS
+    g = random_polynomial(rng, p, keys, (3, 3, 3, 3), (key(3, 1, 0, 0), key(0, 0, 0, 0)))
+    first = product(p, g, random_polynomial(rng, p, cofactor, (4, 4, 4, 4), (key(4, 0, 0, 0), key(0, 0, 1, 0))))
+    second = product(p, g, random_polynomial(rng, p, cofactor, (4, 4, 4, 4), (key(3, 0, 0, 0), key(0, 0, 0, 1))))
+    return accepted(name, p, first, second, g, random_points(rng, p, points))
+
+
+def small():
+    """P10: (x-y+1)E and (x+y+1)E, where E is (y+16)x^3+15y, at y = 1, 0, 5, 2."""
+    p = 17
+    e = {key(3, 1, 0, 0): 1, key(3, 0, 0, 0): 16, key(0, 1, 0, 0): 15}
+    first = product(p, e, {key(1, 0, 0, 0): 1, key(0, 1, 0, 0): 16, 0: 1})
+    second = product(p, e, {key(1, 0, 0, 0): 1, key(0, 1, 0, 0): 1, 0: 1})
+    return accepted("small", p, first, second, e, [1, 0, 0, 0, 0, 0, 5, 0, 0, 2, 0, 0])
+
+
+def value(p, f, x, point):
+    """The coefficient of x^`x` in f at a point."""
+    y, z, w = point
+    return sum(c * pow(y, k >> 6 & 7, p) * pow(z, k >> 3 & 7, p) * pow(w, k & 7, p) for k, c in f.items() if k >> 9 == x) % p
+
+
+def solved(p, rows):
+    """The solution of a square system, each row with its right-hand side behind it."""
+    n = len(rows)
+    for j in range(n):
+        i = next(i for i in range(j, n) if rows[i][j])
+        rows[i], rows[j] = rows[j], rows[i]
+        inverse = pow(rows[j][j], -1, p)
+        rows[j] = [c * inverse % p for c in rows[j]]
+        for i in range(n):
+            if i != j and rows[i][j]:
+                factor = rows[i][j]
+                rows[i] = [(c - factor * d) % p for c, d in zip(rows[i], rows[j])]
+    return [row[n] for row in rows]
+
+
+def remainder(p, f, g):
+    """Of f by g, lists of numbers with the coefficient of x^0 first."""
+    f = f[:]
+    inverse = pow(g[-1], -1, p)
+    for k in range(len(f) - len(g), -1, -1):
+        c = f[k + len(g) - 1] * inverse % p
+        for i, d in enumerate(g):
+            f[k + i] = (f[k + i] - c * d) % p
+    return f[: len(g) - 1]
+
+
+def multiple(rng, p, g):
+    """The multiple of g, a list of numbers, that is x^7 and terms below g's degree; and g = 1 gives eight terms."""
+    if len(g) == 1:
+        return [rng.randrange(1, p) for _ in range(8)]
+    rest = remainder(p, [0] * 7 + [1], g)
+    return [-c % p for c in rest] + [0] * (7 - len(rest)) + [1]
+
+
+def box(p, factors):
+    """The product of four polynomials, in x, y, z and w, each a list of numbers."""
+    r = {0: 1}
+    for place, f in zip((512, 64, 8, 1), factors):
+        r = product(p, r, {place * i: c for i, c in enumerate(f) if c})
+    return r
+
+
+def vanishing(p, f, g, x, monomials, points):
+    """f with terms x^`x` times the monomials in y, z, w added, so that at each point the remainder of f by g has no x^`x`."""
+    triples = [points[i : i + 3] for i in range(0, len(points), 3)]
+    rows = []
+    for t in triples:
+        rest = remainder(p, [value(p, f, i, t) for i in range(8)], [value(p, g, i, t) for i in range(1 + (max(g) >> 9))])
+        rows.append([value(p, {m: 1}, 0, t) for m in monomials] + [-rest[x] % p])
+    return f | {512 * x + m: c for m, c in zip(monomials, solved(p, rows)) if c}
+
+
+def long_division(rng, p, sizes):
+    """A dividend of few terms and a divisor that is a product of four polynomials of `sizes` terms, with a quotient that is dense."""
+    factors = [[rng.randrange(1, p) for _ in range(n)] for n in sizes]
+    return box(p, [multiple(rng, p, f) for f in factors]), box(p, factors)
+
+
+def long_candidate(rng, p, sizes, points):
+    """Two inputs and a divisor that the candidate finds at the points, and refuses after a long division.
+
+    The divisor is a product of four polynomials of `sizes` terms, in x, y, z, w, but for its constant term. The first input is a product with it. The
+    second begins as x^7 times multiples of the other three factors that have few terms and dense cofactors, so that every cell above the divisor's
+    degree in x gives a step. Its terms below are such that at each point, as values, the divisor divides it.
+    """
+    degree = sizes[0] - 1
+    factors = [[rng.randrange(1, p) for _ in range(n)] for n in sizes]
+    g = box(p, factors)
+    g[0] = (g[0] + 1) % p
+    first = {}
+    while not 250 <= len(first) <= 256:
+        cofactor = random_polynomial(rng, p, 9, (7 - degree, *(8 - n for n in sizes[1:])), (key(7 - degree, 0, 0, 0), 0))
+        first = product(p, g, cofactor)
+    second = box(p, [[0] * 7 + [1]] + [multiple(rng, p, f) for f in factors[1:]])
+    low = rng.sample(range(512), 512)
+    while len(second) + 32 * degree < 256:
+        second[low.pop()] = rng.randrange(1, p)
+    for x in range(degree):
+        second = vanishing(p, second, g, x, low[:32], points)
+    return first, second, g
+
+
+def worst():
+    """The dearest calls that are known: 32 keys and 32 kept points; a quotient of 625 steps with 256 terms each; an image of degree 0."""
+    rng = random.Random(4)
+    p, points = MODULUS, random_points(rng, MODULUS, 32)
+    first, second, g = long_candidate(rng, p, (5, 2, 3, 1), points)
+    keys = set(g)
+    while len(keys) < 32:
+        keys.add(rng.randrange(512))
+    dividend, divisor = long_division(rng, p, (4, 4, 4, 4))
+    return "worst", p, first, second, sorted(keys, reverse=True), points, 15, dividend, divisor, random_points(rng, p, 1)
+
+
+def c_array(kind, name, numbers):
+    return f"static const {kind} {name}[] = {{{', '.join(map(str, numbers))}}};"
+
+
+def written(name, p, first, second, skeleton, points, number, dividend, divisor, at):
+    lists = [
+        ("uint32_t", "first", terms(first)),
+        ("uint32_t", "second", terms(second)),
+        ("uint16_t", "skeleton", skeleton),
+        ("uint16_t", "points", points),
+        ("uint32_t", "dividend", terms(dividend)),
+        ("uint32_t", "divisor", terms(divisor)),
+        ("uint16_t", "at", at),
+    ]
+    for kind, part, numbers in lists:
+        print(c_array(kind, f"{name}_{part}", numbers))
+    fields = ", ".join(f"{name}_{part}, {len(numbers)}" for _, part, numbers in lists)
+    return f'    {{"{name}", {p}, {number}, {fields}}},'
+
+
+def main():
+    workloads = [
+        small(),
+        planted("classroom", 1, 6, 7, 6),
+        planted("full", 2, 16, 15, 16),
+        planted("wide", 6, 32, 7, 32),
+        worst(),
+    ]
+    print("/* Made by bench/workloads.py. */")
+    lines = [written(*workload) for workload in workloads]
+    print("static const workload workloads[] = {")
+    print("\n".join(lines))
+    print("};")
+
+
+main()
