@@ -146,8 +146,8 @@ def long_candidate(rng, p, sizes, points):
     g = box(p, factors)
     g[0] = (g[0] + 1) % p
     first = {}
-    while not 250 <= len(first) <= 256:
-        cofactor = random_polynomial(rng, p, 9, (7 - degree, *(8 - n for n in sizes[1:])), (key(7 - degree, 0, 0, 0), 0))
+    while not 240 <= len(first) <= 256:
+        cofactor = random_polynomial(rng, p, 256 // len(g) + 1, (7 - degree, *(8 - n for n in sizes[1:])), (key(7 - degree, 0, 0, 0), 0))
         first = product(p, g, cofactor)
     second = box(p, [[0] * 7 + [1]] + [multiple(rng, p, f) for f in factors[1:]])
     low = rng.sample(range(512), 512)
@@ -162,7 +162,7 @@ def worst():
     """The dearest calls that are known: 32 keys and 32 kept points; a quotient of 625 steps with 256 terms each; an image of degree 0."""
     rng = random.Random(4)
     p, points = MODULUS, random_points(rng, MODULUS, 32)
-    first, second, g = long_candidate(rng, p, (5, 2, 3, 1), points)
+    first, second, g = long_candidate(rng, p, (7, 2, 2, 1), points)
     keys = set(g)
     while len(keys) < 32:
         keys.add(rng.randrange(512))

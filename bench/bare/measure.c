@@ -1,4 +1,4 @@
-/* The calls of the proved module, and of the C twin, on the bare core: instructions and peak stack. */
+/* The calls of the proved module, and of the C twin, on the bare core: that they agree, their instructions and their peak stack. */
 #include <stdbool.h>
 #include <stddef.h>
 
@@ -87,11 +87,39 @@ static const service services[] = {
     {"image", library_image, twin_of_image, image_room},
 };
 
+/* What a call leaves behind, as one number: the record, the output, the coefficients and the work room. */
+static uint32_t left_behind(void) {
+    uint32_t sum = 0;
+    for (size_t i = 0; i < 7; i++)
+        sum = sum * 31 + (uint32_t)record[i];
+    for (size_t i = 0; i < KEYS; i++)
+        sum = sum * 31 + out[i];
+    for (size_t i = 0; i < 8; i++)
+        sum = sum * 31 + coefficients[i];
+    for (size_t i = 0; i < WORK_ROOM; i++)
+        sum = sum * 31 + work[i];
+    return sum;
+}
+
+static void forget(void) {
+    for (size_t i = 0; i < 7; i++)
+        record[i] = 0;
+    for (size_t i = 0; i < KEYS; i++)
+        out[i] = 0;
+    for (size_t i = 0; i < 8; i++)
+        coefficients[i] = 0;
+}
+
 static void report(const service *s) {
+    forget();
     cost library = measured(s->library);
     if (record[0] != (s->library == library_candidate ? now->number : 0))
         fail(": another number\n");
+    uint32_t left = left_behind();
+    forget();
     cost twin = measured(s->twin);
+    if (left != left_behind())
+        fail(": the twin's answer is not the module's\n");
     uint32_t microseconds = (uint32_t)((uint64_t)library.instructions * 10 / 960);
     print("| ");
     print_padded(now->name, 9);
