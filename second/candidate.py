@@ -184,7 +184,7 @@ def _image_line(case, point):
     try:
         u = image_at(case, point)
     except Refusal as refusal:
-        return _line(refusal.number, refusal.place, *[0] * (1 + POWERS))
+        return _line(refusal.number, refusal.place)
     return _line(0, 0, len(u) - 1, *u, *[0] * (POWERS - len(u)))
 
 

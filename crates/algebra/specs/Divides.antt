@@ -112,8 +112,3 @@ module _ (R : CommRing) (D : Domain R) where
   unfolding pow
   pow-P c pc zero = D .P-one
   pow-P c pc (suc k) = D .P-mul _ _ (pow-P c pc k) pc
-
-  pub pow-nonzero : (c : Car) → P c → ¬ (c ≡ 𝟘) → (k : ℕ) → ¬ (pow R c k ≡ 𝟘)
-  unfolding pow
-  pow-nonzero c pc nc zero = D .one≢0
-  pow-nonzero c pc nc (suc k) = D .nzd _ _ (pow-P c pc k) pc (pow-nonzero c pc nc k) nc

@@ -133,9 +133,3 @@ module _ (R : CommRing) where
       ∙ ev-mul a (f zero) (g zero) (eval (M +ₙ N) a (tail g)) (eval M a (tail f)) (eval N a g)
       ∙ ap (λ u. f zero * u + a * eval M a (tail f) * eval N a g) (eval-past N (suc (M +ₙ N)) a g (omega arith) hg)
       ∙ sym (R .distrib _ _ _))
-
-module _ (R S : CommRing) (φ : Hom R S) where
-  pub map-eval : (N : ℕ) (a : R .Car) (f : Seq R) → φ .fn (eval R N a f) ≡ eval S N (φ .fn a) (mapS R S (φ .fn) f)
-  unfolding eval
-  map-eval zero a f = φ .zero
-  map-eval (suc N) a f = φ .add _ _ ∙ ap (S .add (φ .fn (f zero))) (φ .mul _ _ ∙ ap (S .mul (φ .fn a)) (map-eval N a (tail f)))

@@ -66,11 +66,6 @@ module _ (R : CommRing) where
       (conv-dist (scale (f zero) (tail g)) (conv (tail f) g) h n ∙ ap₂ _+_ (conv-scale (f zero) (tail g) h n) (conv-assoc (tail f) g h n))
       ∙ sym (R .add-assoc _ _ _) ∙ ap (_+ conv (tail f) (conv g h) n) (sym (distrib-l R _ _ _))
 
-  pub conv-zero : (f : Seq R) (n : ℕ) → conv f zeroS n ≡ 𝟘
-  unfolding conv
-  conv-zero f zero = mul-zero R _
-  conv-zero f (suc n) = ap₂ _+_ (mul-zero R _) (conv-zero (tail f) n) ∙ R .add-zero _
-
   -- multiplication by a constant
   pub conv-const : (c : Car) (f : Seq R) (n : ℕ) → conv f (constS c) n ≡ f n * c
   unfolding conv constS

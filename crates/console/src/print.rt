@@ -60,7 +60,7 @@ pub fn candidate(r: CandidateRecord) {
 }
 
 // Number, place, degree, and the eight coefficients.
-pub fn image(r: ImageRecord) {
+fn coefficients(r: ImageRecord) {
     let u = r.coefficients;
     line(
         &[
@@ -77,4 +77,14 @@ pub fn image(r: ImageRecord) {
             u[7] as usize,
         ],
     );
+}
+
+// An image, or a refusal as number and place.
+pub fn image(r: ImageRecord) {
+    let refused = r.fault;
+    if refused.number != 0 {
+        fault(refused);
+        return;
+    }
+    coefficients(r);
 }

@@ -2,4 +2,3 @@
 pub mod Products
 pub mod Table
 pub mod Chase
-pub mod Decision

@@ -5,10 +5,10 @@ use mathlib.Core.List.{List, [], _∷_}
 use Prim.Native.Nat.{ℕ, zero, suc, _+_, _≤_, _<_}
 use native.Mathlib.Decide.{decLt}
 use native.Mathlib.Omega.{arith}
-use lib.Dec.{T, ltb, ltb→lt}
+use lib.Dec.{T}
 use Rattle.field.specs.declared.Fault.{Fault}
-use Rattle.field.specs.Refusal.{Line, line, placed, first, fault, none, Refuses, Passes, Tested}
-use Rattle.field.specs.RefusalLaws.{tested-line, tested-past, tested-end, numbered, tested-passes, tested-refuses}
+use Rattle.field.specs.Refusal.{Line, line, placed, first, fault, none, Passes, Tested}
+use Rattle.field.specs.RefusalLaws.{tested-line, tested-past, tested-end, numbered, tested-passes}
 
 -- decisions of compound statements
 abbrev pub not-decided : {X : Type 0} → Dec X → Dec (¬ X)
@@ -77,7 +77,3 @@ decided-tested (l ∷ lines) cs = go (cs .0) (decided-tested lines (cs .1))
 
 pub decided-passes : (lines : List Line) → T (numbered lines) → (cs : Checks lines) → decided lines cs .number ≡ 0 → Passes lines
 decided-passes lines some cs z = tested-passes lines some (decided lines cs) (decided-tested lines cs) z .0
-
-pub decided-refuses : (lines : List Line) (cs : Checks lines) (f : Fault) → decided lines cs ≡ f → T (ltb 0 (f .number)) → Refuses lines f
-decided-refuses lines cs f e t =
-    tested-refuses lines f (rw e at (decided-tested lines cs)) (λ z. omega (arith, ltb→lt 0 (f .number) t))

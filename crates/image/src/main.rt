@@ -1,4 +1,5 @@
-// Reads a case file from standard input and prints a line for each of its points: number, place, degree and the eight coefficients of the image.
+// Reads a case file from standard input and prints a line for each of its points: number, place, degree and the eight coefficients of the image,
+// or number and place of the refusal.
 use case_file::COORDINATES;
 use console::input;
 use console::print;

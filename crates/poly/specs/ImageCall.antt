@@ -24,6 +24,10 @@ pub record ImageCall : Type 0 where
   pub second-list : List ℕ
   pub point : List ℕ
 
+-- what the service is lent
+abbrev pub image-call : ℕ → List ℕ → List ℕ → List ℕ → ImageCall
+image-call p A B point = record { modulus = p; first-list = A; second-list = B; point = point }
+
 -- a point that isn't three numbers, or of which one is at least p
 abbrev pub of-point : ℕ → List ℕ → List Line
 of-point p numbers =

@@ -130,12 +130,12 @@ fn steps(
             }
             k -= 1;
             if work[k] != 0 {
+                if !fits(k as u16, lead, bound) {
+                    whole = false;
+                    break 'steps;
+                }
                 break;
             }
-        }
-        if !fits(k as u16, lead, bound) {
-            whole = false;
-            break 'steps;
         }
         let q = field::times(p, work[k], inverse);
         work[KEYS + (k - low)] = q;

@@ -3,7 +3,7 @@ use field::Fault;
 use field::Number;
 
 pub mod division;
-pub mod euclid;
+mod euclid;
 pub mod image;
 pub mod key;
 pub mod list;

@@ -3,7 +3,7 @@ use mathlib.Core.List.{List, [], _∷_}
 use Prim.Native.Nat.{ℕ, _+_, _*_}
 use Rattle.field.specs.Refusal.{none}
 use Rattle.poly.specs.Keys.{key}
-use Rattle.poly.specs.Models.Image.{image-call}
+use Rattle.poly.specs.ImageCall.{image-call}
 use Rattle.divisor.specs.declared.CandidateRecord.{CandidateRecord}
 use Rattle.divisor.specs.Rule.{report}
 use Rattle.proved_table.specs.Row.{Row, ImageRow, Product}
@@ -55,13 +55,18 @@ A₁₁ = term 1 1 0 ∷ term 1 0 1 ∷ []
 abbrev pub A₁₂ : List ℕ
 A₁₂ = term 3 0 1 ∷ []
 
--- the lists that document 01 gives as products
+-- what P7 accepts, x³ + 12 y
+abbrev pub p7-terms : List ℕ
+p7-terms = term 1 3 0 ∷ term 12 0 1 ∷ []
+
+-- the lists that document 01 gives as products; and K, which is more than what P7 accepts, by y + 2, and has no more x
 abbrev pub products : List Product
 products =
     record { whole = F; first = term 1 1 0 ∷ term 16 0 1 ∷ term 1 0 0 ∷ []; second = E }
     ∷ record { whole = H; first = term 1 1 0 ∷ term 1 0 1 ∷ term 1 0 0 ∷ []; second = E }
     ∷ record { whole = A₂; first = term 3 1 1 ∷ term 1 0 0 ∷ []; second = term 1 1 0 ∷ term 16 0 1 ∷ [] }
     ∷ record { whole = B₂; first = term 3 1 1 ∷ term 1 0 0 ∷ []; second = term 1 1 0 ∷ term 1 0 1 ∷ term 1 0 0 ∷ [] }
+    ∷ record { whole = K; first = term 1 0 1 ∷ term 2 0 0 ∷ []; second = p7-terms }
     ∷ []
 
 -- the images that it names: x of P4; x³ + 12, x³ + 7 and x³ + 2 of P6
@@ -110,7 +115,7 @@ p6 = row 17 K K (monomial 3 1 ∷ monomial 3 0 ∷ monomial 0 2 ∷ monomial 0 1
 
 -- the same points, skeleton x³, y: x³ + 12 y
 abbrev pub p7 : Row
-p7 = row 17 K K (monomial 3 0 ∷ monomial 0 1 ∷ []) (at (1 ∷ 2 ∷ 3 ∷ [])) (report 0 3 0 0 3 2) (term 1 3 0 ∷ term 12 0 1 ∷ [])
+p7 = row 17 K K (monomial 3 0 ∷ monomial 0 1 ∷ []) (at (1 ∷ 2 ∷ 3 ∷ [])) (report 0 3 0 0 3 2) p7-terms
 
 -- y = 1, 2, skeleton x³, 1: 13
 abbrev pub p8 : Row

@@ -32,9 +32,6 @@ module _ (K : Field) (A B : Polynomial K) where
   least d e points b u b′ u′ ks k ls (keep U i s) (unlucky f W j m t) = least d e _ b u b′ _ _ k ls s t
   least d e points b u b′ u′ ks k ls (keep {at = at} U i s) (keep W j t) = let q : d ≡ e = image-unique K A B at d e U W i j .0 in omega arith
 
-  abbrev Same : ℕ → ℕ → ℕ → ℕ → List (Kept K) → List (Kept K) → Type 0
-  Same b u b′ u′ ks ls = (b ≡ b′) × (u ≡ u′) × (ks ≡ ls)
-
   pub sorted-determined : (d : ℕ) (points : List (Point R)) (b u b′ u′ : ℕ) (ks ls : List (Kept K))
       → Sorted K A B d points b u ks → Sorted K A B d points b′ u′ ls → (b ≡ b′) × (u ≡ u′) × (ks ≡ ls)
   sorted-determined d points b u b′ u′ ks ls done done = (refl, refl, refl)

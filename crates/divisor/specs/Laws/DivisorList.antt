@@ -1,7 +1,7 @@
 -- The divisor of a solution as a list of terms: it is not empty, it falls, and read again it is the divisor of the rule. Assumes nothing.
 use mathlib.Core.Path.{_≡_, refl, sym, _∙_, ap, subst}
 use mathlib.Core.List.{List, [], _∷_, map}
-use Prim.Native.Nat.{ℕ, _+_, _*_, _%_, _≤_, _<_}
+use Prim.Native.Nat.{ℕ, _*_, _%_, _≤_, _<_}
 use native.Mathlib.Decide.{ℕ-discrete}
 use native.Mathlib.Nat.{mod-lt}
 use native.Mathlib.Omega.{arith}
@@ -15,10 +15,11 @@ use Rattle.field.specs.FpLaws.{el-nonzero, el-val, val-lt}
 use Rattle.field.specs.Link.{product-el}
 use Rattle.field.specs.Modulo.{Modulo}
 use Rattle.poly.specs.Keys.{exponents, keys}
-use Rattle.poly.specs.Terms.{Polynomial, key-of, coefficient-of, terms-of}
+use Rattle.poly.specs.Terms.{Polynomial, key-of, terms-of}
 use Rattle.poly.specs.Value.{value}
 use Rattle.poly.specs.Lists.{Falling}
 use Rattle.poly.specs.Laws.Lists.{FallFrom}
+use Rattle.poly.specs.Laws.Spread.{key-of-term, coefficient-of-term}
 use Rattle.divisor.specs.Rule.{Kept, Solution, without-zeros, made-monic}
 use Rattle.divisor.specs.Models.Monic.{leading, scaled-terms, monic-terms}
 use Rattle.divisor.specs.Laws.Monic.{value-without-zeros, inv-nonzero}
@@ -41,12 +42,6 @@ module _ (p : ℕ) (P : Prime p) (small : p < 65536) where
       go (yes e) = absurd (no-zero-divisors K (el p c) (el p f) (el-nonzero p c lc nc) (el-nonzero p f lf nf) (sym (product-el p c f) ∙ ap (el p) e))
       go (no n) = omega arith
 
-  term-key : (k v : ℕ) → v < 65536 → key-of (k * 65536 + v) ≡ k
-  term-key k v l = omega arith
-
-  term-coefficient : (k v : ℕ) → v < 65536 → coefficient-of (k * 65536 + v) ≡ v
-  term-coefficient k v l = omega arith
-
   -- the terms of keys that fall
   scaled-fall : (f : ℕ) → f < p → ¬ (f ≡ 0) → (b : ℕ) (ks cs : List ℕ) → FallFrom b ks → AllBelow p cs → Falling p b (scaled-terms p f ks cs)
   scaled-fall f lf nf b [] cs h a = (unfold scaled-terms in tt)
@@ -63,8 +58,8 @@ module _ (p : ℕ) (P : Prime p) (small : p < 65536) where
           let v = (c * f) % p in
           let lv : v < p = mod-lt (c * f) (prime-positive P) in
           let pv = product-positive c f (a .0) n lf nf in
-          let ek = term-key k v (omega arith) in
-          let ec = term-coefficient k v (omega arith) in
+          let ek = key-of-term k v (omega arith) in
+          let ec = coefficient-of-term k v (omega arith) in
           subst (Falling p b) (sym (scaled-here p f k c ks cs n)) (
             subst (λ (i : ℕ). i < b) (sym ek) (h .0),
             subst (λ (i : ℕ). 0 < i) (sym ec) pv,

@@ -3,7 +3,7 @@ use mathlib.Core.Path.{_≡_, refl, sym, _∙_, ap, ap₂, subst}
 use mathlib.Core.List.{List, [], _∷_, map}
 use lib.ListN.{length, take}
 use lib.Seq.{take-at}
-use Prim.Native.Nat.{ℕ, suc, _+_, _*_, _≤_, _<_}
+use Prim.Native.Nat.{ℕ, suc, _≤_, _<_}
 use native.Mathlib.Omega.{arith}
 use Rattle.algebra.specs.Field.{Field}
 use Rattle.algebra.specs.Monomial.{Term}
@@ -18,6 +18,7 @@ use Rattle.poly.specs.Keys.{key, exponents}
 use Rattle.poly.specs.Terms.{Polynomial, key-of, coefficient-of, terms-of, number-of, numbers-of}
 use Rattle.poly.specs.Room.{written}
 use Rattle.poly.specs.Laws.Keys.{Digits, digits-of, exponents-of-key}
+use Rattle.poly.specs.Laws.Spread.{key-of-term, coefficient-of-term}
 use Rattle.divisor.specs.declared.CandidateRecord.{CandidateRecord}
 use Rattle.divisor.specs.Rule.{Kept, Unknowns, Solution, without-zeros, divided-by, made-monic, divisor, Verdict, none, several, rejected, accepted, all-bad, some-good}
 use Rattle.divisor.specs.Candidate.{Call, prime, Numbers, A, B, monomials, handed-out}
@@ -86,16 +87,10 @@ module _ (p : ℕ) (P : Prime p) (small : p < 65536) where
 
       same-exponents : exponents (key-of (number-of p P t)) ≡ t .exponents
       same-exponents =
-          ap exponents (let b = below in split (key (t .exponents)) (t .coefficient .val) b) ∙ exponents-of-key (t .exponents) (h .0)
-        where
-          split : (k v : ℕ) → v < 65536 → key-of (k * 65536 + v) ≡ k
-          split k v l = omega arith
+          ap exponents (key-of-term (key (t .exponents)) (t .coefficient .val) below) ∙ exponents-of-key (t .exponents) (h .0)
 
       same-coefficient : el p (coefficient-of (number-of p P t)) ≡ t .coefficient
-      same-coefficient = ap (el p) (rest (key (t .exponents)) (t .coefficient .val) below) ∙ el-val (t .coefficient)
-        where
-          rest : (k v : ℕ) → v < 65536 → coefficient-of (k * 65536 + v) ≡ v
-          rest k v l = omega arith
+      same-coefficient = ap (el p) (coefficient-of-term (key (t .exponents)) (t .coefficient .val) below) ∙ el-val (t .coefficient)
 
   length-numbers : (f : Polynomial (Modulo p P)) → length (numbers-of p P f) ≡ length f
   length-numbers [] = refl

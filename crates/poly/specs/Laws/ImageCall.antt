@@ -16,8 +16,8 @@ use Rattle.poly.specs.declared.ImageRecord.{ImageRecord}
 use Rattle.poly.specs.Terms.{Polynomial, terms-of}
 use Rattle.poly.specs.Value.{Point}
 use Rattle.poly.specs.Lists.{of-lists}
-use Rattle.poly.specs.ImageCall.{ImageCall, of-point, image-table, point-of, refusal, PointAnswer, bad, good, ImageAnswer, refused, answered}
-use Rattle.poly.specs.Models.Image.{image-call, Fine, image-of}
+use Rattle.poly.specs.ImageCall.{ImageCall, image-call, of-point, image-table, point-of, refusal, PointAnswer, bad, good, ImageAnswer, refused, answered}
+use Rattle.poly.specs.Models.Image.{Fine, image-of}
 use Rattle.poly.specs.Laws.EightMeaning.{series-injective}
 use Rattle.poly.specs.Laws.Image.{image-unique}
 use Rattle.poly.specs.Laws.ImageModel.{image-of-answers}

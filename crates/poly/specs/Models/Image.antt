@@ -12,14 +12,10 @@ use Rattle.poly.specs.declared.ImageRecord.{ImageRecord}
 use Rattle.poly.specs.Lists.{of-lists}
 use Rattle.poly.specs.Coefficients.{Eight}
 use Rattle.poly.specs.LeadingPart.{x-of}
-use Rattle.poly.specs.ImageCall.{ImageCall, refusal}
+use Rattle.poly.specs.ImageCall.{refusal}
 use Rattle.poly.specs.Models.Powers.{powers}
 use Rattle.poly.specs.Models.Value.{value-of}
 use Rattle.poly.specs.Models.Eight.{size, gcd}
-
--- what the service is lent
-abbrev pub image-call : ℕ → List ℕ → List ℕ → List ℕ → ImageCall
-image-call p A B point = record { modulus = p; first-list = A; second-list = B; point = point }
 
 -- inputs of which nothing is refused: the lines of the modulus and the lists pass, and the point is three numbers below p
 pub record Fine (p : ℕ) (A B point : List ℕ) : Type 0 where

@@ -7,10 +7,6 @@ use Rattle.divisor.specs.Models.Checks.{of-skeleton, of-points, of-rooms
 use borrow.Author.Needs.{needs}
 use Rattle.divisor.proofs.checks.candidate_fault.Statement.{statement}
 use Rattle.divisor.proofs.checks.candidate_fault.Tie as tie
-use Rattle.divisor.proofs.checks.points_fault.Reads as points-fault-reads
-use Rattle.divisor.proofs.checks.rooms_fault.Reads as rooms-fault-reads
-use Rattle.divisor.proofs.checks.skeleton_fault.Reads as skeleton-fault-reads
-use Rattle.poly.proofs.list.lists_fault.Reads as lists-fault-reads
 
 lists-fault-requires : tie.Need-lists-fault-requires
 lists-fault-requires c κs = search needs

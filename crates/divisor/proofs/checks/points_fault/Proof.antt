@@ -7,9 +7,6 @@ use borrow.Author.Needs.{needs}
 use borrow.Author.Needs.{needs}
 use Rattle.divisor.proofs.checks.points_fault.Statement.{statement}
 use Rattle.divisor.proofs.checks.points_fault.Tie as tie
-use Rattle.field.proofs.Fault.at.Reads as at-reads
-use Rattle.field.proofs.Fault.none.Reads as none-reads
-use Rattle.poly.proofs.image.first_large.Reads as first-large-reads
 
 at-requires : tie.Need-at-requires
 at-requires c κs = search needs

@@ -7,9 +7,6 @@ use borrow.Author.Needs.{needs}
 use borrow.Author.Needs.{needs}
 use Rattle.divisor.proofs.checks.skeleton_fault.Statement.{statement}
 use Rattle.divisor.proofs.checks.skeleton_fault.Tie as tie
-use Rattle.divisor.proofs.checks.first_wrong_key.Reads as first-wrong-key-reads
-use Rattle.field.proofs.Fault.at.Reads as at-reads
-use Rattle.field.proofs.Fault.none.Reads as none-reads
 
 at-requires : tie.Need-at-requires
 at-requires c κs = search needs

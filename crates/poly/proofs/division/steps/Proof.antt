@@ -1,5 +1,5 @@
 -- `steps` meets its contract. The invariant of the steps: what is left of the division, from the cell k down, ends as the whole does;
--- of the search: the cells passed are 0. Both measures are k. Assumes nothing.
+-- of the search: the cells passed are 0, and nothing is told apart yet. Both measures are k. Assumes nothing.
 use mathlib.Core.Path.{_≡_, refl, sym, _∙_}
 use mathlib.Core.Bool.{true}
 use mathlib.Core.List.{List}
@@ -19,11 +19,11 @@ abbrev setting : ℕ → List ℕ → ℕ → ℕ → ℕ → Setting
 setting p divisor lead inverse bound = record { modulus = p; terms = divisor; lead = lead; inverse = inverse; bound = bound }
 
 abbrev Inv-loop : tie.InvT-loop
-Inv-loop p divisor lead inverse bound top work low k₀ whole k =
-    (k ≤ k₀) × (left-of (setting p divisor lead inverse (bound .bits)) work k₀ ≡ left-of (setting p divisor lead inverse (bound .bits)) work k)
+Inv-loop p divisor lead inverse bound top work low k₀ whole₀ k whole =
+    (k ≤ k₀) × (left-of (setting p divisor lead inverse (bound .bits)) work k₀ ≡ left-of (setting p divisor lead inverse (bound .bits)) work k) × (whole ≡ whole₀)
 
 abbrev μ-loop : tie.MeasureT-loop
-μ-loop p divisor lead inverse bound top work low k₀ whole k = k
+μ-loop p divisor lead inverse bound top work low k₀ whole₀ k whole = k
 
 abbrev Inv-steps : tie.InvT-steps
 Inv-steps p divisor lead inverse bound top work₀ low k₀ whole₀ work k whole =
@@ -97,7 +97,7 @@ loop-less c = search needs
 loop-again : tie.Need-loop-again Inv-loop μ-loop Inv-steps μ-steps
 loop-again c =
     let l = c .before .before .before in
-    (omega arith, l .loop .inv .1 ∙ going-passed (d l) (work l) (l .loop .k) (going l .cells) (c .before .before .loop-test .left) (c .if1 .left))
+    (omega arith, l .loop .inv .1 ∙ going-passed (d l) (work l) (l .loop .k) (going l .cells) (c .before .before .loop-test .left) (c .if1 .left), l .loop .inv .2)
 
 cast-fits : tie.Need-cast-fits Inv-loop μ-loop Inv-steps μ-steps
 cast-fits c = search needs
@@ -149,13 +149,13 @@ steps-again c =
     let u = c .before .before in
     let m = u .before .before in
     let e = m .before .before in
-    (e .before .before .before .before .before .before .steps .inv .0, taken e (m .times .result) _ (m .times .ensures) (u .subtract .ensures))
+    (at e .loop .inv .2 ∙ at e .before .steps .inv .0, taken e (m .times .result) _ (m .times .ensures) (u .subtract .ensures))
 
 same-length : tie.Need-same-length Inv-loop μ-loop Inv-steps μ-steps
 same-length c = search needs
 
 returns : tie.Need-returns Inv-loop μ-loop Inv-steps μ-steps
-returns c = rw (c .before .before .steps .inv .0) (going-done (d (c .before)) (before (c .before)) (work (c .before)) (c .before .loop .k) (going (c .before)) (c .loop-test .taken))
+returns c = rw (c .before .loop .inv .2 ∙ c .before .before .steps .inv .0) (going-done (d (c .before)) (before (c .before)) (work (c .before)) (c .before .loop .k) (going (c .before)) (c .loop-test .taken))
 
 same-length-2 : tie.Need-same-length-2 Inv-loop μ-loop Inv-steps μ-steps
 same-length-2 c = search needs
@@ -180,10 +180,10 @@ steps-spec =
     sub-k
     mul-if1
     slice-read-if1
-    loop-less
-    loop-again
     cast-fits
     fits-requires
+    loop-less
+    loop-again
     mul-times
     slice-read-times
     times-requires
