@@ -1,8 +1,8 @@
 #!/usr/bin/env python3
 """Writes the workloads of bench/run and bench/handheld as C arrays on standard output.
 
-Each of the first four is a candidate call whose divisor is planted: the inputs are its products with two random polynomials, the skeleton is its
-monomials and the points are random. A seed fixes them. The planted divisor, made monic, is what library, twin and FLINT must all give. The quotient is
+Each of the first four is a candidate call whose divisor is known. The first is P10; of the others the divisor is planted: the inputs are its products
+with two random polynomials, the skeleton is its monomials and the points are random. A seed fixes them. The divisor, made monic, is what library, twin and FLINT must all give. The quotient is
 the first input over it, the image is at the last point. The fifth is the dearest call of each of the three kinds that is known.
 """
 
