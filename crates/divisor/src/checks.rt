@@ -6,6 +6,7 @@ ghost use Rattle.poly.specs.Models.Search.{Searched};
 ghost use Rattle.divisor.specs.Models.Checks.{of-skeleton, of-points, of-rooms, of-call};
 use field::Fault;
 use field::Number;
+use poly::COORDINATES;
 use poly::Term;
 use poly::division::WORK_ROOM;
 use poly::key::Key;
@@ -15,7 +16,7 @@ pub const KEYS: usize = 32;
 
 pub const POINTS: usize = 32;
 
-const POINT_NUMBERS: usize = 3 * POINTS;
+const POINT_NUMBERS: usize = COORDINATES * POINTS;
 
 // The place of the first key that is wrong, or the length.
 fn first_wrong_key(skeleton: &[Number]) -> usize
@@ -58,7 +59,7 @@ fn points_fault(p: Number, points: &[Number]) -> Fault
     if points.len() > POINT_NUMBERS {
         return Fault::at(Fault::POINTS_COUNT, 0);
     }
-    if points.len() % 3 != 0 {
+    if points.len() % COORDINATES != 0 {
         return Fault::at(Fault::POINTS_COUNT, 0);
     }
     let place = poly::image::first_large(p, points);

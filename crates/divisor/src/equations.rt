@@ -10,7 +10,9 @@ use crate::table::COLUMNS;
 use crate::table::Row;
 use crate::table::Table;
 use field::Number;
+use poly::COORDINATES;
 use poly::Eight;
+use poly::POWERS;
 use poly::key::Key;
 
 // The equation of x^i at a point, where the powers of y, z and w are given: a number for each key, u in the multiplier's column.
@@ -60,7 +62,7 @@ fn point_equations(
     let ws = poly::value::powers(p, point[2]);
     let mut s = t;
     let mut i: usize = 0;
-    while i < 8 {
+    while i < POWERS {
         let u = (p - image[i]) % p;
         let e = equation(p, ys, zs, ws, skeleton, i as u16, column, u);
         // An equation without entries says nothing: adding it would only copy the table.
@@ -100,17 +102,17 @@ pub fn equations(
     let mut t = Table::empty(columns);
     let mut kept: usize = 0;
     let mut i: usize = 0;
-    while i < points.len() / 3 {
+    while i < points.len() / COORDINATES {
         if sizes[i] == least {
             let column = column_of(skeleton.len(), kept, columns);
-            let at = 3 * i;
-            let image = 8 * i;
+            let at = COORDINATES * i;
+            let image = POWERS * i;
             t = point_equations(
                 t,
                 p,
                 skeleton,
-                &points[at..at + 3],
-                &work[image..image + 8],
+                &points[at..at + COORDINATES],
+                &work[image..image + POWERS],
                 column,
             );
             kept += 1;

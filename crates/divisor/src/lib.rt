@@ -7,6 +7,7 @@ ghost use Prim.Native.Nat.{_≤_};
 ghost use lib.ListN.{length};
 use field::Fault;
 use field::Number;
+use poly::COORDINATES;
 use poly::Term;
 use poly::division::WORK_ROOM;
 
@@ -57,7 +58,7 @@ fn answer(
     requires { ⌜ Passes (table-of (record { modulus = p; first-list = now first; second-list = now second; skeleton = now skeleton; points = now points; output = now out; work = now work })) ⌝ }
     ensures { λ r. ⌜ Candidate (record { modulus = p; first-list = now (first .entry); second-list = now (second .entry); skeleton = now (skeleton .entry); points = now (points .entry); output = now (out .entry); work = now (work .entry) }) (record { found = r; output = now (out .exit); work = now (work .exit) }) ⌝ }
 {
-    let n = points.len() / 3;
+    let n = points.len() / COORDINATES;
     let sizes = points::look(p, first, second, points, work);
     let least = sorting::least_size(sizes, n);
     if least == 0 {

@@ -7,8 +7,10 @@ ghost use lib.ListN.{length};
 use crate::checks::POINTS;
 use crate::sorting::Sizes;
 use field::Number;
+use poly::COORDINATES;
 use poly::Eight;
 use poly::ImageRecord;
+use poly::POWERS;
 use poly::Term;
 
 // Eight numbers into the work room, from a place on.
@@ -17,7 +19,7 @@ fn store(coefficients: Eight, at: usize, work: &mut [Number])
     ensures { λ _. ⌜ Stored 8 coefficients at (now (work .entry)) (now (work .exit)) ⌝ }
 {
     let mut j: usize = 0;
-    while j < 8 {
+    while j < POWERS {
         work[at + j] = coefficients[j];
         j += 1;
     }
@@ -48,12 +50,12 @@ pub fn look(
 {
     let mut sizes: Sizes = [0; POINTS];
     let mut i: usize = 0;
-    while i < points.len() / 3 {
-        let at = 3 * i;
-        let seen = poly::image::image_at(p, first, second, &points[at..at + 3]);
+    while i < points.len() / COORDINATES {
+        let at = COORDINATES * i;
+        let seen = poly::image::image_at(p, first, second, &points[at..at + COORDINATES]);
         sizes[i] = size(seen);
         let coefficients = seen.coefficients;
-        store(coefficients, 8 * i, work);
+        store(coefficients, POWERS * i, work);
         i += 1;
     }
     sizes

@@ -3,11 +3,13 @@
 ghost use mathlib.Core.Path.{_≡_};
 ghost use Rattle.poly.specs.Models.Search.{Searched};
 ghost use Rattle.divisor.specs.Models.Table.{COLUMNS as columns-most, Entry, Columns, Column, Back, TableReady, Ready, empty-table, minus, scaled-row, with-row, kind, value, values, solved};
+use crate::checks::KEYS;
+use crate::checks::POINTS;
 use field::Element;
 use field::Number;
 
-// 63 unknowns and the last one.
-pub const COLUMNS: usize = 64;
+// An unknown for each key that a skeleton can have, and a multiplier for each point, of which the first is fixed.
+pub const COLUMNS: usize = KEYS + POINTS;
 
 pub type Cells = [Number; COLUMNS];
 

@@ -4,6 +4,7 @@ ghost use Prim.Native.Nat.{_-_, _<_};
 ghost use Rattle.poly.specs.Models.Eight.{size as size-of, scaled as scaled-of, monic as monic-of, subtract as subtract-of, remainder as remainder-of, gcd as gcd-of};
 ghost use Rattle.poly.specs.Models.Steps.{Divisible, Step, Reducible, Pair};
 use crate::Eight;
+use crate::POWERS;
 use field::Element;
 use field::Number;
 
@@ -11,7 +12,7 @@ use field::Number;
 pub(crate) fn size(f: Eight) -> usize
     ensures { λ r. ⌜ r ≡ size-of f ⌝ }
 {
-    let mut place: usize = 8;
+    let mut place: usize = POWERS;
     while place > 0 {
         if f[place - 1] != 0 {
             return place;
@@ -26,9 +27,9 @@ fn scaled(p: Number, c: Number, f: Eight) -> Eight
     requires { ⌜ 0 < p ⌝ }
     ensures { λ r. ⌜ r ≡ scaled-of p c f ⌝ }
 {
-    let mut r: Eight = [Element::ZERO; 8];
+    let mut r: Eight = [Element::ZERO; POWERS];
     let mut i: usize = 0;
-    while i < 8 {
+    while i < POWERS {
         r[i] = field::times(p, c, f[i]);
         i += 1;
     }
@@ -55,7 +56,7 @@ fn subtract(p: Number, c: Number, k: usize, f: &mut Eight, g: Eight)
 {
     let n = p - c;
     let mut i = k;
-    while i < 8 {
+    while i < POWERS {
         f[i] = field::plus_times(p, f[i], n, g[i - k]);
         i += 1;
     }
@@ -67,7 +68,7 @@ fn remainder(p: Number, m: usize, g: Eight, f: Eight) -> Eight
     ensures { λ r. ⌜ r ≡ remainder-of p m g (8 - m) f ⌝ }
 {
     let mut r = f;
-    let mut k = 8 - m;
+    let mut k = POWERS - m;
     while k > 0 {
         k -= 1;
         let c = r[k + m];

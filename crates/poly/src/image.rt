@@ -6,8 +6,10 @@ ghost use Rattle.poly.specs.Lists.{WrongNumber};
 ghost use Rattle.poly.specs.ImageCall.{image-call, refusal, of-point, image-table, ImageAnswer};
 ghost use Rattle.poly.specs.Models.Search.{Searched};
 ghost use Rattle.poly.specs.Models.Image.{Values, Fine, image-of-values, image-of};
+use crate::COORDINATES;
 use crate::Eight;
 use crate::ImageRecord;
+use crate::POWERS;
 use crate::Term;
 use crate::euclid;
 use crate::key::Key;
@@ -23,7 +25,7 @@ fn refused(fault: Fault) -> ImageRecord
 {
     ImageRecord {
         fault,
-        coefficients: [Element::ZERO; 8],
+        coefficients: [Element::ZERO; POWERS],
         degree: 0,
     }
 }
@@ -77,7 +79,7 @@ pub fn first_large(p: Number, numbers: &[Number]) -> usize
 fn point_fault(p: Number, point: &[Number]) -> Fault
     ensures { λ r. ⌜ Tested (of-point p (now (point .entry))) r ⌝ }
 {
-    if point.len() != 3 {
+    if point.len() != COORDINATES {
         return Fault::at(Fault::POINTS_COUNT, 0);
     }
     let place = first_large(p, point);

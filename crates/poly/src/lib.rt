@@ -13,8 +13,14 @@ pub mod value;
 // A term: its key times 65536, plus its coefficient.
 pub type Term = u32;
 
+// The powers of a variable, 0 to 7.
+pub const POWERS: usize = 8;
+
+// The coordinates of a point, y, z and w.
+pub const COORDINATES: usize = 3;
+
 // Eight numbers below the modulus: the coefficients of x^0 to x^7, or the powers 0 to 7 of a number.
-pub type Eight = [Number; 8];
+pub type Eight = [Number; POWERS];
 
 // What the image service answers: U's coefficients and its degree; on refusal all are 0.
 pub struct ImageRecord {

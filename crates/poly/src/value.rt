@@ -4,6 +4,7 @@ ghost use Prim.Native.Nat.{_<_};
 ghost use Rattle.poly.specs.Models.Powers.{powers as powers-of};
 ghost use Rattle.poly.specs.Models.Value.{Ready, value-of};
 use crate::Eight;
+use crate::POWERS;
 use crate::Term;
 use crate::key::Key;
 use field::Element;
@@ -14,9 +15,9 @@ pub fn powers(p: Number, y: Number) -> Eight
     requires { ⌜ 1 < p ⌝ }
     ensures { λ r. ⌜ r ≡ powers-of p y ⌝ }
 {
-    let mut r: Eight = [Element::ONE; 8];
+    let mut r: Eight = [Element::ONE; POWERS];
     let mut i: usize = 1;
-    while i < 8 {
+    while i < POWERS {
         r[i] = field::times(p, r[i - 1], y);
         i += 1;
     }
@@ -28,7 +29,7 @@ pub(crate) fn value(p: Number, ys: Eight, zs: Eight, ws: Eight, terms: &[Term]) 
     requires { ⌜ Ready p ys zs ws (now terms) ⌝ }
     ensures { λ r. ⌜ r ≡ value-of p ys zs ws (now (terms .entry)) ⌝ }
 {
-    let mut r: Eight = [Element::ZERO; 8];
+    let mut r: Eight = [Element::ZERO; POWERS];
     let mut i: usize = 0;
     while i < terms.len() {
         let t = terms[i];
