@@ -9,6 +9,7 @@ pub mod Output
 pub mod Demands
 pub mod Equations
 pub mod Solutions
+pub mod Repeated
 pub mod Sorting
 pub mod MonicTerms
 pub mod Turns

@@ -2,7 +2,7 @@
 -- the images that its rows name and the products that give its polynomials. Assumes nothing.
 use mathlib.Core.Path.{_≡_, refl}
 use mathlib.Core.Bool.{true}
-use mathlib.Core.List.{List}
+use mathlib.Core.List.{List, [], _∷_, map}
 use Prim.Native.Nat.{ℕ, _≤_}
 use native.Mathlib.Decide.{ℕ-discrete, decLt}
 use lib.ListN.{length}
@@ -49,6 +49,11 @@ table-holds = each-tested test Holds tested table table-passes
 pub images-hold : Each Shows images
 unfolding ℕ-discrete decLt listed listed-decided el add mul neg chase inv at-most-decided placed-check look first-check decided cells power powers plus-term value-from value-of size-to scaled monic less-at subtract remainder euclid gcd value-at image-of-values image-of count-decided not-below-decided key-decided term-decided number-decided checks-append list-checks point-checks image-checks same-numbers image-passes image-agrees image-test each
 images-hold = each-tested image-test Shows image-tested images refl
+
+-- P11: as values y⁷ and y agree everywhere modulo 7
+pub agree-as-values : map (λ y. power 7 y 7) (0 ∷ 1 ∷ 2 ∷ 3 ∷ 4 ∷ 5 ∷ 6 ∷ []) ≡ (0 ∷ 1 ∷ 2 ∷ 3 ∷ 4 ∷ 5 ∷ 6 ∷ [])
+unfolding power
+agree-as-values = refl
 
 -- the lists that are given as products are those
 pub products-hold : (P : Prime 17) → Each (Multiplies 17 P) products
