@@ -15,6 +15,7 @@ use Rattle.poly.specs.Terms.{key-of, coefficient-of}
 use Rattle.poly.specs.Lists.{most-terms, Count, WrongKey, above, not-below, wrong-key, coefficient-zero, WrongModulo, wrong-term, coefficient-large, WrongNumber, of-lists}
 use Rattle.poly.specs.ImageCall.{ImageCall, of-point, image-table}
 use Rattle.poly.specs.Laws.PointCheck.{numbers-end}
+use Rattle.divisor.specs.Laws.Checks.{keys-beyond}
 use Rattle.divisor.specs.Candidate.{most-keys, most-point-numbers}
 use Rattle.divisor.specs.Models.Checks.{of-skeleton, of-points}
 
@@ -53,9 +54,6 @@ module _ (ks : List ℕ) where
   unfoldable pub key-decided : (i : ℕ) → Dec (WrongKey ks i)
   key-decided i = decided-as (to-wrong i) (from-wrong i) (both-decided (decLt i (length ks)) (either-decided (at-most-decided keys (getD ks i 0)) (not-below-decided i)))
 
-  pub no-key-beyond : (i : ℕ) → length ks ≤ i → ¬ WrongKey ks i
-  no-key-beyond i l w = let h = from-wrong i w .0 in omega arith
-
 module _ (p : ℕ) (ts : List ℕ) where
   -- a coefficient that is 0 or at least p
   abbrev pub WrongCoefficient : ℕ → Type 0
@@ -78,7 +76,7 @@ module _ (p : ℕ) (ts : List ℕ) where
 
   pub no-term-beyond : (i : ℕ) → length ts ≤ i → ¬ WrongModulo p ts i
   no-term-beyond i l w = elim (from-wrong-term i w) [
-    | inl k ↦ no-key-beyond (map key-of ts) i (let e = length-map ts key-of in omega arith) k
+    | inl k ↦ keys-beyond (map key-of ts) i (let e = length-map ts key-of in omega arith) k
     | inr h ↦ let b = h .0 in omega arith
   ]
 
@@ -105,7 +103,7 @@ list-checks p A B = (
 
 unfoldable pub skeleton-checks : (skeleton : List ℕ) → Checks (of-skeleton skeleton)
 skeleton-checks skeleton =
-    (placed-check SKELETON_COUNT 0 _ (count-decided most-keys skeleton), (first-check SKELETON_KEY _ (key-decided skeleton) (length skeleton) (no-key-beyond skeleton), tt))
+    (placed-check SKELETON_COUNT 0 _ (count-decided most-keys skeleton), (first-check SKELETON_KEY _ (key-decided skeleton) (length skeleton) (keys-beyond skeleton), tt))
 
 unfoldable pub points-checks : (p : ℕ) (points : List ℕ) → Checks (of-points p points)
 points-checks p points = (

@@ -56,7 +56,7 @@ module _ (ks : List ℕ) where
   pub keys-end : (before i : ℕ) → KeysSo ks before i → length ks ≤ i → Searched (WrongKey ks) (length ks) i
   keys-end before i h l = search-ends (h .searching) l
 
-  keys-beyond : (i : ℕ) → length ks ≤ i → ¬ WrongKey ks i
+  pub keys-beyond : (i : ℕ) → length ks ≤ i → ¬ WrongKey ks i
   keys-beyond i l (above b m) = omega arith
   keys-beyond i l (not-below j e b m) = omega arith
 

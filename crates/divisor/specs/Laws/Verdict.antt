@@ -39,13 +39,14 @@ divide-again p B G work after e h = record {
   room = subst (λ (w : List ℕ). work-room ≤ length w) (sym e) (cleared-long work (h .room));
 }
 
+-- no answer is both no and yes
+other : (b : Bool) → not b ≡ true → b ≡ true → ⊥
+other true e f = true≢false (sym e)
+other false e f = true≢false (sym f)
+
 module _ (p : ℕ) (A B G work after : List ℕ) (first : Bool) (divided : TrialDivision p A G work after first) where
   pub first-fails : not first ≡ true → BothDivided p A B G work after false
   first-fails n = record { says = λ P. (λ e. absurd (true≢false (sym e)), λ both. absurd (other first n (divided .says P .1 (both .0)))); room = divided .room }
-    where
-      other : (b : Bool) → not b ≡ true → b ≡ true → ⊥
-      other true e f = true≢false (sym e)
-      other false e f = true≢false (sym f)
 
   pub then-second : not first ≡ false → (end : List ℕ) (second : Bool) → TrialDivision p B G after end second → BothDivided p A B G work end second
   then-second n end second later = record {
@@ -118,10 +119,6 @@ module _ (p : ℕ) (A B ks values output work : List ℕ) (ready : VerdictReady 
       writes = refl;
       clears = divided .room;
     }
-      where
-        other : (b : Bool) → not b ≡ true → b ≡ true → ⊥
-        other true e f = true≢false (sym e)
-        other false e f = true≢false (sym f)
 
     pub settled-accepted : not yes ≡ false → (output-after : List ℕ) → output-after ≡ written G output
         → Settled p A B ks (only values) output output-after work work-after (record { number = 0; terms = r .count })

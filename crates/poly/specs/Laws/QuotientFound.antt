@@ -40,23 +40,19 @@ module _ (p : ℕ) (P : Prime p) where
   abbrev R : CommRing
   R = Modulo p P .ring
 
+  -- a coefficient that is not 0 in the field is not 0
+  positive : (q : ℕ) → ¬ (el p (coefficient-of q) ≡ el p 0) → 0 < coefficient-of q
+  positive q n = elim (ℕ-discrete (coefficient-of q) 0) [ yes e ↦ absurd (n (ap (el p) e)) | no m ↦ omega arith ]
+
   falls-below-list : (qs : List ℕ) (b : ℕ) → InRange p qs → FallsBelow R (exponents b) (terms-of p P qs) → Falling p b qs
   falls-below-list [] b r h = tt
   falls-below-list (q ∷ qs) b r h =
-      (key-order-of (key-of q) b (h .0), positive (ℕ-discrete (coefficient-of q) 0), r .1, falls-below-list qs (key-of q) (r .2) (h .2))
-    where
-      positive : Dec (coefficient-of q ≡ 0) → 0 < coefficient-of q
-      positive (yes e) = absurd (h .1 (ap (el p) e))
-      positive (no n) = omega arith
+      (key-order-of (key-of q) b (h .0), positive q (h .1), r .1, falls-below-list qs (key-of q) (r .2) (h .2))
 
   -- terms that fall, in range, are a list that falls
   pub falls-list : (qs : List ℕ) → InRange p qs → Falls R (terms-of p P qs) → Falling p keys qs
   falls-list [] r h = tt
-  falls-list (q ∷ qs) r h = (r .0, positive (ℕ-discrete (coefficient-of q) 0), r .1, falls-below-list qs (key-of q) (r .2) (h .1))
-    where
-      positive : Dec (coefficient-of q ≡ 0) → 0 < coefficient-of q
-      positive (yes e) = absurd (h .0 (ap (el p) e))
-      positive (no n) = omega arith
+  falls-list (q ∷ qs) r h = (r .0, positive q (h .0), r .1, falls-below-list qs (key-of q) (r .2) (h .1))
 
 found-from-in : (d : Setting) → 0 < d .modulus → d .modulus ≤ 65536 → (k : ℕ) (l : List ℕ) → k ≤ keys → InRange (d .modulus) (found-from d k l)
 unfolding found-from
