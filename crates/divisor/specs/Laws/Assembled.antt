@@ -19,7 +19,7 @@ use Rattle.field.specs.Numbers.{NO_GOOD_POINT, NO_SOLUTION, SEVERAL_SOLUTIONS, 
 use Rattle.field.specs.Refusal.{Passes}
 use Rattle.poly.specs.declared.ImageRecord.{ImageRecord}
 use Rattle.poly.specs.Keys.{exponents, keys}
-use Rattle.poly.specs.Terms.{Polynomial, numbers-of, poly}
+use Rattle.poly.specs.Terms.{Polynomial, numbers-of, poly, base}
 use Rattle.poly.specs.Image.{Divides, Image}
 use Rattle.poly.specs.Lists.{WrongKey}
 use Rattle.poly.specs.Room.{written, cleared}
@@ -176,7 +176,7 @@ module _ (c : Call) (pass : Passes (table c)) (listed : Listed (c .modulus)) (lo
       sized : length cs ≡ length (c .skeleton)
       sized = length-take-le (length (c .skeleton)) values long
 
-      pub small : p < 65536
+      pub small : p < base
       small = let b = listed-below listed in omega arith
 
       pub list : GoodList p P small (c .skeleton) cs

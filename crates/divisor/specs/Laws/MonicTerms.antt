@@ -1,7 +1,7 @@
 -- The numbers that the code makes of a solution are the terms of its divisor. Assumes nothing.
 use mathlib.Core.Path.{_≡_, refl, sym, _∙_, ap, ap₂, subst}
 use mathlib.Core.List.{List, [], _∷_, map}
-use Prim.Native.Nat.{ℕ, suc, _+_, _*_, _%_, _<_}
+use Prim.Native.Nat.{ℕ, suc, _*_, _%_, _<_}
 use native.Mathlib.Decide.{ℕ-discrete, decLt}
 use native.Mathlib.Nat.{mod-mod}
 use native.Mathlib.Omega.{arith}
@@ -17,7 +17,7 @@ use Rattle.field.specs.FpLaws.{el-nonzero, el-val, val-of-el}
 use Rattle.field.specs.Link.{product-el}
 use Rattle.field.specs.Modulo.{Modulo}
 use Rattle.poly.specs.Keys.{key, exponents}
-use Rattle.poly.specs.Terms.{Polynomial, numbers-of}
+use Rattle.poly.specs.Terms.{Polynomial, numbers-of, packed}
 use Rattle.poly.specs.Laws.Keys.{key-of-exponents}
 use Rattle.divisor.specs.Rule.{without-zeros, divided-by, made-monic}
 use Rattle.divisor.specs.Models.Monic.{leading, scaled-terms, monic-terms}
@@ -56,7 +56,7 @@ pub scaled-zero : (p f k c : ℕ) (ks cs : List ℕ) → c ≡ 0 → scaled-term
 unfolding scaled-terms
 scaled-zero p f k c ks cs e = rw (eq-eqb c 0 e, scaled-terms)
 
-pub scaled-here : (p f k c : ℕ) (ks cs : List ℕ) → ¬ (c ≡ 0) → scaled-terms p f (k ∷ ks) (c ∷ cs) ≡ (k * 65536 + (c * f) % p) ∷ scaled-terms p f ks cs
+pub scaled-here : (p f k c : ℕ) (ks cs : List ℕ) → ¬ (c ≡ 0) → scaled-terms p f (k ∷ ks) (c ∷ cs) ≡ packed k ((c * f) % p) ∷ scaled-terms p f ks cs
 unfolding scaled-terms
 scaled-here p f k c ks cs n = rw (ne-eqb c 0 n, scaled-terms)
 
@@ -91,8 +91,8 @@ module _ (p : ℕ) (P : Prime p) where
         go (yes q) = absurd (el-nonzero p c l n q)
         go (no m) = refl
 
-  number-divided : (k c : ℕ) (u : Fp p) → key (exponents k) * 65536 + mul (el p c) u .val ≡ k * 65536 + (c * u .val) % p
-  number-divided k c u = ap₂ (λ (a b : ℕ). a * 65536 + b) (key-of-exponents k)
+  number-divided : (k c : ℕ) (u : Fp p) → packed (key (exponents k)) (mul (el p c) u .val) ≡ packed k ((c * u .val) % p)
+  number-divided k c u = ap₂ packed (key-of-exponents k)
       (ap (λ (x : Fp p). mul (el p c) x .val) (sym (el-val u)) ∙ ap (λ (x : Fp p). x .val) (sym (product-el p c (u .val))) ∙ val-of-el p ((c * u .val) % p) ∙ again)
     where
       again : (c * u .val) % p % p ≡ (c * u .val) % p

@@ -15,7 +15,7 @@ use Rattle.field.specs.Moduli.{Listed}
 use Rattle.field.specs.ModuliLaws.{listed-below}
 use Rattle.field.specs.Modulo.{Modulo}
 use Rattle.poly.specs.Keys.{key, exponents}
-use Rattle.poly.specs.Terms.{Polynomial, key-of, coefficient-of, terms-of, number-of, numbers-of}
+use Rattle.poly.specs.Terms.{Polynomial, key-of, coefficient-of, terms-of, number-of, numbers-of, base}
 use Rattle.poly.specs.Room.{written}
 use Rattle.poly.specs.Laws.Keys.{Digits, digits-of, exponents-of-key}
 use Rattle.poly.specs.Laws.Spread.{key-of-term, coefficient-of-term}
@@ -76,13 +76,13 @@ module _ (K : Field) where
       let c = made-monic-within (without-zeros K (s .skeleton)) (b .keyed) in
       record { keyed = c .keyed; count = let l = a .count in let m = b .count in let n = c .count in omega arith }
 
-module _ (p : ℕ) (P : Prime p) (small : p < 65536) where
+module _ (p : ℕ) (P : Prime p) (small : p < base) where
   -- the numbers of a polynomial, read again
   pub read-numbers : (f : Polynomial (Modulo p P)) → Keyed (Modulo p P) f → terms-of p P (numbers-of p P f) ≡ f
   read-numbers [] h = refl
   read-numbers (t ∷ ts) h = ap₂ _∷_ (λ i. record { exponents = same-exponents i; coefficient = same-coefficient i }) (read-numbers ts (h .1))
     where
-      below : t .coefficient .val < 65536
+      below : t .coefficient .val < base
       below = let l : t .coefficient .val < p = val-lt (prime-positive P) (t .coefficient) in omega arith
 
       same-exponents : exponents (key-of (number-of p P t)) ≡ t .exponents

@@ -1,13 +1,14 @@
 -- The divisor of a solution in plain numbers: zero coefficients dropped, the others times the inverse of the first, as terms.
 use mathlib.Core.Bool.{true, false}
 use mathlib.Core.List.{List, [], _∷_}
-use Prim.Native.Nat.{ℕ, _+_, _*_, _%_, _≤_, _<_}
+use Prim.Native.Nat.{ℕ, _*_, _%_, _≤_, _<_}
 use mathlib.Core.Path.{_≡_}
 use lib.Dec.{eqb}
 use lib.ListN.{length, getD, take}
 use Rattle.field.specs.Moduli.{Listed}
 use Rattle.field.specs.Fp.{el, inv}
 use Rattle.divisor.specs.declared.monic.Divisor.{Divisor}
+use Rattle.poly.specs.Terms.{packed}
 
 -- the first coefficient but 0, or 0
 unfoldable pub leading : List ℕ → ℕ
@@ -19,7 +20,7 @@ unfoldable pub scaled-terms : ℕ → ℕ → List ℕ → List ℕ → List ℕ
 scaled-terms p f [] cs = []
 scaled-terms p f (k ∷ ks) [] = []
 scaled-terms p f (k ∷ ks) (c ∷ cs) =
-    elim (eqb c 0) [ true ↦ scaled-terms p f ks cs | false ↦ (k * 65536 + (c * f) % p) ∷ scaled-terms p f ks cs ]
+    elim (eqb c 0) [ true ↦ scaled-terms p f ks cs | false ↦ packed k ((c * f) % p) ∷ scaled-terms p f ks cs ]
 
 -- all divided by the leading coefficient
 abbrev pub monic-terms : ℕ → List ℕ → List ℕ → List ℕ

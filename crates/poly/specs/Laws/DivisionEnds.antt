@@ -22,7 +22,7 @@ use Rattle.field.specs.Prime.{Prime}
 use Rattle.field.specs.PrimeLaws.{prime-positive}
 use Rattle.field.specs.Modulo.{Modulo}
 use Rattle.poly.specs.Keys.{exponents, keys}
-use Rattle.poly.specs.Terms.{key-of, coefficient-of, term-of, terms-of, poly}
+use Rattle.poly.specs.Terms.{key-of, coefficient-of, term-of, terms-of, poly, base}
 use Rattle.poly.specs.Image.{Divides}
 use Rattle.poly.specs.Laws.KeyDifference.{at-most-says, at-most-of, exponents-difference}
 use Rattle.poly.specs.Lists.{Falling}
@@ -113,7 +113,7 @@ module _ (p : ℕ) (P : Prime p) (t : ℕ) (ts : List ℕ) (u : ℕ) (us : List 
           omega arith
 
   -- the division on cells goes by the rule, and finds its terms
-  lists-division : p ≤ 65536 → (l c : List ℕ) → Empty l → (a : Bool) → at-most (most-key (u ∷ us)) (most-key (t ∷ ts)) ≡ a
+  lists-division : p ≤ base → (l c : List ℕ) → Empty l → (a : Bool) → at-most (most-key (u ∷ us)) (most-key (t ∷ ts)) ≡ a
       → Division (Modulo p P .ring) (poly p P (t ∷ ts)) (poly p P (u ∷ us)) (terms-of p P (found p (t ∷ ts) (u ∷ us) l)) (divided p (t ∷ ts) (u ∷ us) l c .whole)
   unfolding found divided
   lists-division word l c empty true e =
@@ -123,7 +123,7 @@ module _ (p : ℕ) (P : Prime p) (t : ℕ) (ts : List ℕ) (u : ℕ) (us : List 
   lists-division word l c empty false e = rw (e, found, divided) (too-wide e)
 
 -- two lists that are not empty and fall
-module _ (p : ℕ) (P : Prime p) (word : p ≤ 65536) where
+module _ (p : ℕ) (P : Prime p) (word : p ≤ base) where
   pub divided-division : (f g : List ℕ) → 0 < length f → Falling p keys f → 0 < length g → Falling p keys g → (l c : List ℕ) → Empty l
       → Division (Modulo p P .ring) (poly p P f) (poly p P g) (terms-of p P (found p f g l)) (divided p f g l c .whole)
   divided-division [] [] sf hf sg hg l c empty = absurd (omega arith)

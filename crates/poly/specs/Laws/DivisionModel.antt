@@ -3,7 +3,7 @@ use mathlib.Core.Path.{_≡_, refl, sym, _∙_, ap, ap₂, subst}
 use mathlib.Core.Logic.{_⊎_, inl, inr}
 use mathlib.Core.Bool.{Bool, true, false}
 use mathlib.Core.List.{List, [], _∷_}
-use Prim.Native.Nat.{ℕ, zero, suc, _+_, _-_, _*_, _/_, _≤_, _<_}
+use Prim.Native.Nat.{ℕ, zero, suc, _+_, _-_, _/_, _≤_, _<_}
 use native.Mathlib.Nat.{add-comm, mod-lt}
 use native.Mathlib.Decide.{ℕ-discrete}
 use native.Mathlib.Omega.{arith}
@@ -24,7 +24,7 @@ use Rattle.field.specs.PrimeLaws.{prime-positive}
 use Rattle.field.specs.Modulo.{Modulo}
 use Rattle.field.specs.Link.{product-el}
 use Rattle.poly.specs.Keys.{exponents, keys}
-use Rattle.poly.specs.Terms.{key-of, coefficient-of, term-of, terms-of, poly}
+use Rattle.poly.specs.Terms.{key-of, coefficient-of, term-of, terms-of, poly, base, packed}
 use Rattle.poly.specs.Laws.Keys.{exponents-add, exponents-order}
 use Rattle.poly.specs.Laws.KeyDifference.{and-left, and-right, and-both, at-most-says, at-most-of, exponents-difference, difference-only}
 use Rattle.poly.specs.Lists.{Falling}
@@ -95,7 +95,7 @@ moves-up s f g l fx fy fz fw (t ∷ ts) x y z w =
         let a = l .x in
         below-eight (key-of t + s) (omega arith)
 
-module _ (p : ℕ) (P : Prime p) (word : p ≤ 65536) (t : ℕ) (ts : List ℕ) (u : ℕ) (us : List ℕ) (hf : Falling p keys (t ∷ ts)) (hg : Falling p keys (u ∷ us))
+module _ (p : ℕ) (P : Prime p) (word : p ≤ base) (t : ℕ) (ts : List ℕ) (u : ℕ) (us : List ℕ) (hf : Falling p keys (t ∷ ts)) (hg : Falling p keys (u ∷ us))
     (inverse : ℕ) (is-inverse : mul (el p inverse) (el p (coefficient-of u)) ≡ el p 1)
     (bound : ℕ) (spare : exponents bound ⊞ most-of (u ∷ us) ≡ most-of (t ∷ ts)) where
   abbrev R : CommRing
@@ -141,12 +141,12 @@ module _ (p : ℕ) (P : Prime p) (word : p ≤ 65536) (t : ℕ) (ts : List ℕ) 
       q = factor d k l
 
       abbrev T : ℕ
-      T = s * 65536 + q
+      T = packed s q
 
       taken : Fits d (most-of (t ∷ ts)) (most-of (u ∷ us)) spare k
       taken = fits-says d (most-of (t ∷ ts)) (most-of (u ∷ us)) spare k h
 
-      q-word : q < 65536
+      q-word : q < base
       q-word = let m : q < p = factor-below k l in omega arith
 
       T-exponents : exponents (key-of T) ≡ exponents s

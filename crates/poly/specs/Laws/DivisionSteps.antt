@@ -3,12 +3,13 @@
 use mathlib.Core.Path.{_≡_, ap, _∙_}
 use mathlib.Core.Bool.{Bool, true, false}
 use mathlib.Core.List.{List, [], _∷_}
-use Prim.Native.Nat.{ℕ, zero, suc, _+_, _-_, _*_, _≤_}
+use Prim.Native.Nat.{ℕ, zero, suc, _-_, _≤_}
 use native.Mathlib.Omega.{arith}
 use borrow.Author.Tests.{eq-eqb, ne-eqb}
 use lib.Dec.{eqb}
 use lib.ListN.{length, getD, set}
 use Rattle.poly.specs.Models.Division.{Setting, less-product, fits, factor, less, divide-from, found-from}
+use Rattle.poly.specs.Terms.{packed}
 
 module _ (d : Setting) where
   pub outcome-passed : (k : ℕ) (l c : List ℕ) → getD l k 0 ≡ 0 → divide-from d (suc k) l c ≡ divide-from d k l c
@@ -30,7 +31,7 @@ module _ (d : Setting) where
   found-passed k l e = rw (eq-eqb _ _ e, found-from)
 
   pub found-taken : (k : ℕ) (l : List ℕ) → ¬ (getD l k 0 ≡ 0) → fits d k ≡ true
-      → found-from d (suc k) l ≡ ((k - d .lead) * 65536 + factor d k l) ∷ found-from d k (less d k l)
+      → found-from d (suc k) l ≡ packed (k - d .lead) (factor d k l) ∷ found-from d k (less d k l)
   unfolding found-from
   found-taken k l n f = rw (ne-eqb _ _ n, found-from) (rw (f, found-from))
 

@@ -2,7 +2,7 @@
 use mathlib.Core.Path.{_≡_, refl, sym, _∙_, ap, ap₂, subst}
 use mathlib.Core.Bool.{Bool, true, false}
 use mathlib.Core.List.{List, [], _∷_}
-use Prim.Native.Nat.{ℕ, zero, suc, _+_, _-_, _*_, _≤_, _<_}
+use Prim.Native.Nat.{ℕ, zero, suc, _+_, _-_, _≤_, _<_}
 use native.Mathlib.Nat.{mod-lt}
 use native.Mathlib.Decide.{ℕ-discrete}
 use native.Mathlib.Omega.{arith}
@@ -17,7 +17,7 @@ use Rattle.field.specs.Prime.{Prime}
 use Rattle.field.specs.PrimeLaws.{prime-positive}
 use Rattle.field.specs.Modulo.{Modulo}
 use Rattle.poly.specs.Keys.{exponents}
-use Rattle.poly.specs.Terms.{poly}
+use Rattle.poly.specs.Terms.{poly, base, packed}
 use Rattle.poly.specs.Laws.KeyDifference.{fits-key}
 use Rattle.poly.specs.Laws.Dense.{Reduced, dense, dense-zero, dense-set, set-reduced}
 use Rattle.poly.specs.Laws.DivisionSteps.{outcome-passed, outcome-taken, outcome-stopped, found-passed, found-taken, found-stopped}
@@ -38,14 +38,14 @@ module _ (p : ℕ) (P : Prime p) (n : ℕ) where
   unfolding polynomial
   nothing-stored c long red = record { long = long; reduced = red; means = sym (S4 R .add-zero (dense p P c)) }
 
-  store-one : p ≤ 65536 → (s q : ℕ) (c c′ qs : List ℕ) → q < p → s < length c → getD c s 0 ≡ 0 → Stored (set c s q) c′ qs → Stored c c′ ((s * 65536 + q) ∷ qs)
+  store-one : p ≤ base → (s q : ℕ) (c c′ qs : List ℕ) → q < p → s < length c → getD c s 0 ≡ 0 → Stored (set c s q) c′ qs → Stored c c′ (packed s q ∷ qs)
   unfolding polynomial
   store-one word s q c c′ qs lq ls z r =
       record {
         long = r .long;
         reduced = r .reduced;
         means =
-            let w : q < 65536 = omega arith in
+            let w : q < base = omega arith in
             r .means
             ∙ ap (λ (f : S4 R .Car). S4 R .add f (poly p P qs))
             (dense-set p P c s q ls
@@ -59,7 +59,7 @@ module _ (p : ℕ) (P : Prime p) (n : ℕ) where
   pub zeros-reduced : (c : List ℕ) → ((i : ℕ) → getD c i 0 ≡ 0) → Reduced p c
   zeros-reduced c z = λ i. subst (λ (m : ℕ). m < p) (sym (z i)) (prime-positive P)
 
-module _ (d : Setting) (P : Prime (d .modulus)) (word : d .modulus ≤ 65536) (n : ℕ) where
+module _ (d : Setting) (P : Prime (d .modulus)) (word : d .modulus ≤ base) (n : ℕ) where
   abbrev p : ℕ
   p = d .modulus
 

@@ -22,6 +22,7 @@ use Rattle.poly.specs.Laws.Quotient.{passed-lists}
 use Rattle.poly.specs.Models.Spread.{gathered}
 use Rattle.poly.specs.Models.Division.{Outcome, found}
 use Rattle.poly.specs.Models.WorkRoom.{remainder-cells, quotient-cells, CanBegin, Divided, Gathered}
+use Rattle.poly.specs.Terms.{base}
 
 module _ (c : QuotientCall) (h : Passes (quotient-table c)) where
   abbrev p : ℕ
@@ -56,7 +57,7 @@ module _ (c : QuotientCall) (h : Passes (quotient-table c)) where
         (λ d. let t = cleared-says p f g (c .work) can work-room (omega arith) (omega arith) begun after whole clears ran (listed-prime (can .is-listed)) .1 d in
         let z : _≡_ {A = ℕ} 0 1 = cc in omega arith))
 
-    word : p ≤ 65536
+    word : p ≤ base
     word = let w = listed-below (can .is-listed) in omega arith
 
     begun-remainder : Empty (remainder-cells begun)

@@ -17,7 +17,7 @@ use Rattle.field.specs.Prime.{Prime}
 use Rattle.field.specs.PrimeLaws.{prime-positive}
 use Rattle.field.specs.Modulo.{Modulo}
 use Rattle.poly.specs.Keys.{exponents, keys}
-use Rattle.poly.specs.Terms.{key-of, coefficient-of, terms-of, poly}
+use Rattle.poly.specs.Terms.{key-of, coefficient-of, terms-of, poly, base}
 use Rattle.poly.specs.Quotient.{IsQuotient}
 use Rattle.poly.specs.Laws.Keys.{key-order-of}
 use Rattle.poly.specs.Lists.{Falling}
@@ -54,7 +54,7 @@ module _ (p : ℕ) (P : Prime p) where
   falls-list [] r h = tt
   falls-list (q ∷ qs) r h = (r .0, positive q (h .0), r .1, falls-below-list qs (key-of q) (r .2) (h .1))
 
-found-from-in : (d : Setting) → 0 < d .modulus → d .modulus ≤ 65536 → (k : ℕ) (l : List ℕ) → k ≤ keys → InRange (d .modulus) (found-from d k l)
+found-from-in : (d : Setting) → 0 < d .modulus → d .modulus ≤ base → (k : ℕ) (l : List ℕ) → k ≤ keys → InRange (d .modulus) (found-from d k l)
 unfolding found-from
 found-from-in d pos word zero l m = tt
 found-from-in d pos word (suc k) l m = cell (ℕ-discrete (getD l k 0) 0) (fits d k) refl (λ l′. found-from-in d pos word k l′ (omega arith))
@@ -68,7 +68,7 @@ found-from-in d pos word (suc k) l m = cell (ℕ-discrete (getD l k 0) 0) (fits 
         subst (InRange (d .modulus)) (sym (found-taken d k l n q)) (omega arith, omega arith, again (less d k l))
     cell (no n) false q again = subst (InRange (d .modulus)) (sym (found-stopped d k l n q)) tt
 
-module _ (p : ℕ) (P : Prime p) (word : p ≤ 65536) (f g : List ℕ) (sf : 0 < length f) (hf : Falling p keys f) (sg : 0 < length g) (hg : Falling p keys g)
+module _ (p : ℕ) (P : Prime p) (word : p ≤ base) (f g : List ℕ) (sf : 0 < length f) (hf : Falling p keys f) (sg : 0 < length g) (hg : Falling p keys g)
     (l c : List ℕ) (empty : Empty l) (free : Empty c) where
   found-in : InRange p (found p f g l)
   unfolding found
@@ -115,7 +115,7 @@ module _ (p : ℕ) (P : Prime p) (word : p ≤ 65536) (f g : List ℕ) (sf : 0 <
       }
 
 -- so, where the rule says yes, its terms are the quotient's list
-module _ (p : ℕ) (P : Prime p) (word : p ≤ 65536) (f g : List ℕ) (sf : 0 < length f) (hf : Falling p keys f) (sg : 0 < length g) (hg : Falling p keys g) where
+module _ (p : ℕ) (P : Prime p) (word : p ≤ base) (f g : List ℕ) (sf : 0 < length f) (hf : Falling p keys f) (sg : 0 < length g) (hg : Falling p keys g) where
   pub record QuotientTerms (ts : List (Term (Modulo p P .ring))) : Type 0 where
     pub list : List ℕ
     pub terms-are : ts ≡ terms-of p P list
