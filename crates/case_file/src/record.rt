@@ -17,17 +17,17 @@ use field::Fault;
 use field::Number;
 
 // The kinds.
-pub const MODULUS: u8 = 1;
+pub(crate) const MODULUS: u8 = 1;
 
-pub const FIRST: u8 = 2;
+pub(crate) const FIRST: u8 = 2;
 
-pub const SECOND: u8 = 3;
+pub(crate) const SECOND: u8 = 3;
 
-pub const SKELETON: u8 = 4;
+pub(crate) const SKELETON: u8 = 4;
 
-pub const POINT: u8 = 5;
+pub(crate) const POINT: u8 = 5;
 
-pub const END: u8 = 6;
+pub(crate) const END: u8 = 6;
 
 // By kind, the length of a body and the most records.
 const BODIES: [usize; 7] = [0, 2, 4, 4, 2, 6, 0];
@@ -39,7 +39,7 @@ const BASE: u16 = 256;
 
 const BASE_SQUARED: u32 = 65536;
 
-pub fn body(kind: u8) -> usize
+pub(crate) fn body(kind: u8) -> usize
     requires { ⌜ Known kind ⌝ }
     ensures { λ r. ⌜ r ≡ body-of kind ⌝ }
 {
@@ -74,7 +74,7 @@ fn held(kind: u8, counts: Counts) -> usize
 }
 
 // The number of the first test that a record does not pass, or 0. `left` bytes follow its kind byte.
-pub fn fault_of(before: u8, kind: u8, counts: Counts, left: usize) -> Number
+pub(crate) fn fault_of(before: u8, kind: u8, counts: Counts, left: usize) -> Number
     ensures { λ r. ⌜ r ≡ fault-number before kind (held-of counts kind) left ⌝ }
 {
     if kind < MODULUS {
@@ -102,7 +102,7 @@ fn wide(byte: u8) -> u16
 }
 
 // Numbers of two and of four bytes, the low byte first.
-pub fn number2(bytes: &[u8], at: usize) -> u16
+pub(crate) fn number2(bytes: &[u8], at: usize) -> u16
     requires { ⌜ at + 2 ≤ length (now bytes) ⌝ }
     ensures { λ r. ⌜ r ≡ little (take 2 (drop at (now (bytes .entry)))) ⌝ }
 {
@@ -117,7 +117,7 @@ fn number4(bytes: &[u8], at: usize) -> u32
 }
 
 // The numbers of the body at the offset go behind the n numbers of the list; how many it has then.
-pub fn put_term(bytes: &[u8], at: usize, list: &mut Terms, n: usize) -> usize
+pub(crate) fn put_term(bytes: &[u8], at: usize, list: &mut Terms, n: usize) -> usize
     requires { ⌜ Place first-kind (now bytes) at n ⌝ }
     ensures { λ r. ⌜ Put first-kind (now (bytes .entry)) at n r (now (list .entry)) (now (list .exit)) ⌝ }
 {
@@ -125,7 +125,7 @@ pub fn put_term(bytes: &[u8], at: usize, list: &mut Terms, n: usize) -> usize
     n + 1
 }
 
-pub fn put_key(bytes: &[u8], at: usize, list: &mut Keys, n: usize) -> usize
+pub(crate) fn put_key(bytes: &[u8], at: usize, list: &mut Keys, n: usize) -> usize
     requires { ⌜ Place skeleton-kind (now bytes) at n ⌝ }
     ensures { λ r. ⌜ Put skeleton-kind (now (bytes .entry)) at n r (now (list .entry)) (now (list .exit)) ⌝ }
 {
@@ -133,7 +133,7 @@ pub fn put_key(bytes: &[u8], at: usize, list: &mut Keys, n: usize) -> usize
     n + 1
 }
 
-pub fn put_point(bytes: &[u8], at: usize, list: &mut PointNumbers, n: usize) -> usize
+pub(crate) fn put_point(bytes: &[u8], at: usize, list: &mut PointNumbers, n: usize) -> usize
     requires { ⌜ Place point-kind (now bytes) at n ⌝ }
     ensures { λ r. ⌜ Put point-kind (now (bytes .entry)) at n r (now (list .entry)) (now (list .exit)) ⌝ }
 {

@@ -12,9 +12,9 @@ use poly::division::WORK_ROOM;
 use poly::key::Key;
 
 // The most keys of a skeleton, the most points, and the most point numbers.
-pub const KEYS: usize = 32;
+pub(crate) const KEYS: usize = 32;
 
-pub const POINTS: usize = 32;
+pub(crate) const POINTS: usize = 32;
 
 const POINT_NUMBERS: usize = COORDINATES * POINTS;
 
@@ -82,7 +82,7 @@ fn rooms_fault(output: usize, keys: usize, work: usize) -> Fault
     Fault::none()
 }
 
-pub fn candidate_fault(
+pub(crate) fn candidate_fault(
     p: Number,
     first: &[Term],
     second: &[Term],

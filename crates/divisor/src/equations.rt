@@ -87,7 +87,7 @@ fn column_of(keys: usize, kept: usize, columns: usize) -> usize
 
 // The equations of the kept points, those whose size is the least, one after the other into one table. The first one's multiplier is fixed
 // at 1, in the last column; the others' stand behind the skeleton, in the order lent.
-pub fn equations(
+pub(crate) fn equations(
     p: Number,
     skeleton: &[Number],
     points: &[Number],

@@ -9,10 +9,10 @@ use field::Number;
 use poly::Term;
 
 // A term for each key that a skeleton can have.
-pub type Terms = [Term; KEYS];
+pub(crate) type Terms = [Term; KEYS];
 
 // The terms, of which the first `count` are the divisor's.
-pub struct Divisor {
+pub(crate) struct Divisor {
     pub terms: Terms,
     pub count: usize,
 }
@@ -33,7 +33,7 @@ fn leading(values: Cells, n: usize) -> Number
 }
 
 // The terms of the keys whose coefficient is not 0, each coefficient times the inverse of the leading one.
-pub fn made_monic(p: Number, skeleton: &[Number], values: Cells) -> Divisor
+pub(crate) fn made_monic(p: Number, skeleton: &[Number], values: Cells) -> Divisor
     requires { ⌜ Solvable p (now skeleton) values ⌝ }
     ensures { λ r. ⌜ Monic p (now (skeleton .entry)) values r ⌝ }
 {

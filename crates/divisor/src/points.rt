@@ -38,7 +38,7 @@ fn size(seen: ImageRecord) -> Number
 }
 
 // The image at each point into the work room, and the sizes.
-pub fn look(
+pub(crate) fn look(
     p: Number,
     first: &[Term],
     second: &[Term],

@@ -6,7 +6,7 @@ use crate::checks::POINTS;
 use field::Number;
 
 // A size for each of at most 32 points.
-pub type Sizes = [Number; POINTS];
+pub(crate) type Sizes = [Number; POINTS];
 
 // The less of two sizes, of which 0 is none.
 fn lesser(a: Number, b: Number) -> Number
@@ -22,7 +22,7 @@ fn lesser(a: Number, b: Number) -> Number
 }
 
 // The least size but 0 of the first n, or 0.
-pub fn least_size(sizes: Sizes, n: usize) -> Number
+pub(crate) fn least_size(sizes: Sizes, n: usize) -> Number
     requires { ⌜ Within n sizes ⌝ }
     ensures { λ r. ⌜ r ≡ least (take n sizes) ⌝ }
 {
@@ -36,7 +36,7 @@ pub fn least_size(sizes: Sizes, n: usize) -> Number
 }
 
 // How many of the first n sizes are m.
-pub fn alike(sizes: Sizes, n: usize, m: Number) -> usize
+pub(crate) fn alike(sizes: Sizes, n: usize, m: Number) -> usize
     requires { ⌜ Within n sizes ⌝ }
     ensures { λ r. ⌜ r ≡ alike-of m (take n sizes) ⌝ }
 {

@@ -9,34 +9,34 @@ use field::Element;
 use field::Number;
 
 // An unknown for each key that a skeleton can have, and a multiplier for each point, of which the first is fixed.
-pub const COLUMNS: usize = KEYS + POINTS;
+pub(crate) const COLUMNS: usize = KEYS + POINTS;
 
-pub type Cells = [Number; COLUMNS];
+pub(crate) type Cells = [Number; COLUMNS];
 
-pub struct Row {
+pub(crate) struct Row {
     pub cells: Cells,
 }
 
 // `columns` is one more than the number of unknowns.
-pub struct Table {
+pub(crate) struct Table {
     pub rows: [Row; COLUMNS],
     pub columns: usize,
 }
 
-pub enum Kind {
+pub(crate) enum Kind {
     None,
     One,
     Several,
 }
 
 // The values of the unknowns where there is one solution, and zeros behind them; zeros otherwise.
-pub struct Solved {
+pub(crate) struct Solved {
     pub kind: Kind,
     pub values: Cells,
 }
 
 impl Table {
-    pub fn empty(columns: usize) -> Table
+    pub(crate) fn empty(columns: usize) -> Table
         ensures { λ r. ⌜ r ≡ empty-table columns ⌝ }
     {
         let row = Row {
@@ -50,7 +50,7 @@ impl Table {
 }
 
 // The first column whose cell is not 0, or the number of columns where there is none.
-pub fn first_entry(row: Row) -> usize
+pub(crate) fn first_entry(row: Row) -> usize
     ensures { λ r. ⌜ Searched (Entry row) columns-most r ⌝ }
 {
     let mut j: usize = 0;
@@ -98,7 +98,7 @@ fn scaled(row: Row, j: usize, columns: usize, p: Number) -> Row
 
 // One more equation: column after column the kept row is taken off, and the equation is kept in the first column where none is and its cell is not 0.
 // The table is copied once, at the top: with a copy where a row is kept there would be two tables to hand back, and each way out would copy again.
-pub fn with_equation(t: Table, e: Row, p: Number) -> Table
+pub(crate) fn with_equation(t: Table, e: Row, p: Number) -> Table
     requires { ⌜ Ready p t e ⌝ }
     ensures { λ r. ⌜ r ≡ with-row p t e ⌝ }
 {
@@ -121,7 +121,7 @@ pub fn with_equation(t: Table, e: Row, p: Number) -> Table
 }
 
 // The same on a table that is lent.
-pub fn add_equation(t: &mut Table, e: Row, p: Number)
+pub(crate) fn add_equation(t: &mut Table, e: Row, p: Number)
     requires { ⌜ Ready p (now t) e ⌝ }
     ensures { λ _. ⌜ now (t .exit) ≡ with-row p (now (t .entry)) e ⌝ }
 {
@@ -130,7 +130,7 @@ pub fn add_equation(t: &mut Table, e: Row, p: Number)
 }
 
 // The lender: by value outside, lent inside, so that a loop over equations carries the table by value.
-pub fn with_added(t: Table, e: Row, p: Number) -> Table
+pub(crate) fn with_added(t: Table, e: Row, p: Number) -> Table
     requires { ⌜ Ready p t e ⌝ }
     ensures { λ r. ⌜ r ≡ with-row p t e ⌝ }
 {
@@ -189,7 +189,7 @@ fn values_of(t: Table, p: Number) -> Cells
     values
 }
 
-pub fn solution(t: Table, p: Number) -> Solved
+pub(crate) fn solution(t: Table, p: Number) -> Solved
     requires { ⌜ TableReady p t ⌝ }
     ensures { λ r. ⌜ r ≡ solved p t ⌝ }
 {

@@ -13,7 +13,7 @@ use poly::Term;
 use poly::division::WORK_ROOM;
 
 // The number, and the count of the terms that are written.
-pub struct Verdict {
+pub(crate) struct Verdict {
     pub number: Number,
     pub terms: usize,
 }
@@ -86,7 +86,7 @@ fn divided(
     }
 }
 
-pub fn settle(
+pub(crate) fn settle(
     p: Number,
     first: &[Term],
     second: &[Term],

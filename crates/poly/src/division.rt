@@ -1,6 +1,6 @@
 // Division by leading terms in a lent work room: one number for each key holds the remainder, the next as many hold the quotient's coefficients.
 ghost use mathlib.Core.Path.{_≡_};
-ghost use Prim.Native.Nat.{_≤_, max};
+ghost use Prim.Native.Nat.{min, max};
 ghost use lib.ListN.{length};
 ghost use Rattle.poly.specs.Keys.{keys};
 ghost use Rattle.poly.specs.Room.{zeroed};
@@ -63,13 +63,13 @@ fn fits(k: u16, lead: u16, bound: Key) -> bool
     at_most(Key { bits: k - lead }, bound)
 }
 
-// The first `n` numbers set to 0.
+// The first `n` numbers set to 0, or all of them where there are fewer.
 pub fn clear(n: usize, numbers: &mut [Number])
-    requires { ⌜ n ≤ length (now numbers) ⌝ }
-    ensures { λ _. ⌜ now (numbers .exit) ≡ zeroed n (now (numbers .entry)) ⌝ }
+    ensures { λ _. ⌜ now (numbers .exit) ≡ zeroed (min n (length (now (numbers .entry)))) (now (numbers .entry)) ⌝ }
 {
+    let end = if n < numbers.len() { n } else { numbers.len() };
     let mut i: usize = 0;
-    while i < n {
+    while i < end {
         numbers[i] = 0;
         i += 1;
     }

@@ -12,7 +12,7 @@ use field::Number;
 
 // The powers 0 to 7 of a number: for the value below, and for the equations of the layer above.
 pub fn powers(p: Number, y: Number) -> Eight
-    requires { ⌜ 1 < p ⌝ }
+    requires { ⌜ 0 < p ⌝ }
     ensures { λ r. ⌜ r ≡ powers-of p y ⌝ }
 {
     let mut r: Eight = [Element::ONE; POWERS];

@@ -2,6 +2,8 @@
 use mathlib.Core.Path.{ap}
 use borrow.Author.Needs.{needs}
 use Rattle.field.specs.declared.Fault.{Fault}
+use Rattle.poly.specs.Room.{work-room}
+use Rattle.poly.specs.Laws.Room.{zeroed-all}
 use Rattle.divisor.proofs.no_good_point.Statement.{statement}
 use Rattle.divisor.proofs.no_good_point.Tie as tie
 
@@ -17,7 +19,7 @@ same-length c = search needs
 returns : tie.Need-returns
 returns c = record {
   is = ap (λ (f : Fault). record { fault = f; degree = 0; bad = c .before .before .before .before .before .before .args .n; unlucky = 0; kept = 0; terms = 0 }) (c .at .ensures);
-  clears = c .before .before .before .clear .ensures;
+  clears = zeroed-all work-room _ (c .before .before .before .before .before .before .pre) (c .before .before .before .clear .ensures);
 }
 
 pub no-good-point-spec : {M : Type 1} → statement M

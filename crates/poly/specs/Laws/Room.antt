@@ -1,7 +1,7 @@
 -- The first n numbers of a list set to 0, one after the other; what stands where then. Assumes nothing.
 use mathlib.Core.Path.{_≡_, sym, _∙_, ap}
 use mathlib.Core.List.{List, _++_}
-use Prim.Native.Nat.{ℕ, _+_, _-_, _≤_, _<_}
+use Prim.Native.Nat.{ℕ, _+_, _-_, _≤_, _<_, min}
 use native.Mathlib.Omega.{arith}
 use borrow.Author.Fill.{fill-none, fill-more}
 use lib.ListN.{length, getD, set, drop, replicate, length-append, length-drop, length-replicate, getD-replicate, List·getD-append}
@@ -15,6 +15,10 @@ zeroed-none l = fill-none l 0
 pub zeroed-more : (i : ℕ) (l : List ℕ) → i < length l → set (zeroed i l) i 0 ≡ zeroed (i + 1) l
 unfolding zeroed
 zeroed-more i l h = fill-more i 0 l h
+
+-- where there are n numbers, all n are set
+pub zeroed-all : (n : ℕ) (l : List ℕ) {m : List ℕ} → n ≤ length l → m ≡ zeroed (min n (length l)) l → m ≡ zeroed n l
+zeroed-all n l h e = e ∙ ap (λ (k : ℕ). zeroed k l) (omega arith)
 
 zeros-long : (n : ℕ) → length {A = ℕ} (replicate n 0) ≡ n
 zeros-long n = length-replicate {A = ℕ} n 0

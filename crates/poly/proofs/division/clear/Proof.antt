@@ -1,7 +1,8 @@
 -- `clear` meets its contract. The invariant: the first i numbers are 0, the others as they were. Assumes nothing.
 use mathlib.Core.Path.{_≡_, refl, _∙_, ap}
+use mathlib.Core.Logic.{⊎-elim}
 use mathlib.Core.List.{List}
-use Prim.Native.Nat.{ℕ, _-_, _≤_, _<_}
+use Prim.Native.Nat.{ℕ, _-_, _≤_, _<_, min}
 use native.Mathlib.Omega.{arith}
 use lib.ListN.{length, set, length-set}
 use Rattle.poly.specs.Room.{zeroed}
@@ -11,13 +12,21 @@ use Rattle.poly.proofs.division.clear.Statement.{statement}
 use Rattle.poly.proofs.division.clear.Tie as tie
 
 abbrev Inv-loop : tie.InvT-loop
-Inv-loop n numbers₀ i₀ numbers i = (i ≤ n) × (length numbers ≡ length numbers₀) × (numbers ≡ zeroed i numbers₀)
+Inv-loop n numbers₀ end i₀ numbers i =
+    (end ≡ min n (length numbers₀)) × (i ≤ end) × (length numbers ≡ length numbers₀) × (numbers ≡ zeroed i numbers₀)
 
 abbrev μ-loop : tie.MeasureT-loop
-μ-loop n numbers₀ i₀ numbers i = n - i
+μ-loop n numbers₀ end i₀ numbers i = end - i
 
 loop-holds : tie.Need-loop-holds Inv-loop μ-loop
-loop-holds c = (omega arith, refl, zeroed-none (c .args .numbers .now))
+loop-holds c =
+    (⊎-elim (λ w. w .1 ∙ shorter (w .0 .taken)) (λ w. w .1 ∙ longer (w .0 .left)) (c .if1 .came), omega arith, refl, zeroed-none (c .before .args .numbers .now))
+  where
+    shorter : {n m : ℕ} → n < m → n ≡ min n m
+    shorter l = omega arith
+
+    longer : {n m : ℕ} → m ≤ n → m ≡ min n m
+    longer l = omega arith
 
 mul-numbers : tie.Need-mul-numbers Inv-loop μ-loop
 mul-numbers c = search needs
@@ -34,9 +43,10 @@ loop-less c = search needs
 loop-again : tie.Need-loop-again Inv-loop μ-loop
 loop-again c =
     let a = c .before in
-    let old = a .before .args .numbers .now in
-    let h : a .loop .i < length old = omega (arith, a .before .pre, c .loop-test .taken) in
-    (omega arith, simp length-set (a .loop .inv .1), ap (λ (l : List ℕ). set l (a .loop .i) 0) (a .loop .inv .2) ∙ zeroed-more (a .loop .i) old h)
+    let i = a .loop .i in
+    let old = a .before .before .args .numbers .now in
+    let h : i < length old = omega (arith, a .loop .inv .0, c .loop-test .taken) in
+    (a .loop .inv .0, omega arith, simp length-set (a .loop .inv .2), ap (λ (l : List ℕ). set l i 0) (a .loop .inv .3) ∙ zeroed-more i old h)
 
 same-length : tie.Need-same-length Inv-loop μ-loop
 same-length c = search needs
@@ -44,8 +54,9 @@ same-length c = search needs
 returns : tie.Need-returns Inv-loop μ-loop
 returns c =
     let a = c .before in
-    let e : a .loop .i ≡ a .before .args .n = omega arith in
-    a .loop .inv .2 ∙ ap (λ (i : ℕ). zeroed i (a .before .args .numbers .now)) e
+    let z = a .before .before .args in
+    let e : a .loop .i ≡ min (z .n) (length (z .numbers .now)) = omega (arith, a .loop .inv .0, a .loop .inv .1, c .loop-test .left) in
+    a .loop .inv .3 ∙ ap (λ (i : ℕ). zeroed i (z .numbers .now)) e
 
 pub clear-spec : {M : Type 1} → statement M
 clear-spec =

@@ -1,10 +1,20 @@
 -- `divides` meets its contract, from what its calls say: the remainder's cells cleared, the division, and the whole room cleared. Assumes nothing.
+use mathlib.Core.Path.{_≡_}
 use native.Mathlib.Omega.{arith}
 use Rattle.poly.specs.Keys.{keys}
+use Rattle.poly.specs.Room.{work-room, zeroed}
+use Rattle.poly.specs.Laws.Room.{zeroed-all}
 use Rattle.poly.specs.Laws.DivisionBegins.{cleared-begins, cleared-says, cleared-room}
 use borrow.Author.Needs.{needs}
 use Rattle.poly.proofs.division.divides.Statement.{statement}
 use Rattle.poly.proofs.division.divides.Tie as tie
+
+-- the remainder's cells are 0 when the division begins
+abbrev start : tie.After-clear → tie.Start
+start l = l .before .before .before .before .before
+
+begun : (l : tie.After-clear) → l .clear .last .1 .0 ≡ zeroed keys (start l .args .work .now)
+begun l = zeroed-all keys (start l .args .work .now) (omega (arith, start l .pre .room)) (l .clear .ensures)
 
 clear-requires : tie.Need-clear-requires
 clear-requires c κs = search needs
@@ -12,8 +22,8 @@ clear-requires c κs = search needs
 divide-requires : tie.Need-divide-requires
 divide-requires c κs =
     let l = c .before .before .before in
-    let z = l .before .before .before .before .before in
-    rw (l .clear .ensures)
+    let z = start l in
+    rw (begun l)
     (cleared-begins (z .args .p) (z .args .dividend .now) (z .args .divisor .now) (z .args .work .now) (z .pre) keys (omega arith) (omega arith))
 
 clear-requires-2 : tie.Need-clear-requires-2
@@ -27,14 +37,14 @@ returns c =
     let e = c .before .before in
     let d = e .before .before .before .before in
     let l = d .before .before .before .before in
-    let z = l .before .before .before .before .before in
+    let z = start l in
     let a = z .args in
     record {
       says =
-          cleared-says (a .p) (a .dividend .now) (a .divisor .now) (a .work .now) (z .pre) keys (omega arith) (omega arith) _ _ (d .divide .result) (l .clear .ensures) (d .divide .ensures);
+          cleared-says (a .p) (a .dividend .now) (a .divisor .now) (a .work .now) (z .pre) keys (omega arith) (omega arith) _ _ (d .divide .result) (begun l) (d .divide .ensures);
       room =
-          cleared-room (a .p) (a .dividend .now) (a .divisor .now) (a .work .now) (z .pre) keys (omega arith) (omega arith) _ _ (d .divide .result) (l .clear .ensures) (d .divide .ensures) _
-          (e .clear2 .ensures);
+          cleared-room (a .p) (a .dividend .now) (a .divisor .now) (a .work .now) (z .pre) keys (omega arith) (omega arith) _ _ (d .divide .result) (begun l) (d .divide .ensures) _
+          (zeroed-all work-room _ (omega (arith, z .pre .room)) (e .clear2 .ensures));
     }
 
 pub divides-spec : {M : Type 1} → statement M

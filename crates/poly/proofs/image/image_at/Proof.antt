@@ -4,7 +4,7 @@ use mathlib.Core.List.{List}
 use Prim.Native.Nat.{ℕ, _/_, _<_}
 use native.Mathlib.Omega.{arith}
 use lib.ListN.{getD}
-use Rattle.field.specs.ModuliLaws.{listed-prime, listed-above}
+use Rattle.field.specs.ModuliLaws.{listed-prime, listed-above, listed-positive}
 use Rattle.poly.specs.Coefficients.{Eight}
 use Rattle.poly.specs.LeadingPart.{x-of}
 use Rattle.poly.specs.Models.Value.{Ready, value-of}
@@ -18,9 +18,6 @@ use Rattle.poly.proofs.image.image_at.Tie as tie
 -- what passing the checks gives
 right : (c : tie.Start) → RightLists (c .args .p) (c .args .first .now) (c .args .second .now)
 right c = lists-are-right _ _ _ (c .pre .lists)
-
-above : (c : tie.Start) → 1 < c .args .p
-above c = listed-above (right c .is-listed)
 
 -- with the three tables worked
 module _ (c : tie.After-powers3) where
@@ -43,7 +40,7 @@ module _ (c : tie.After-powers3) where
   ws = c .powers3 .result
 
   ready : (ts : List ℕ) → RightList p ts → Ready p ys zs ws ts
-  ready = tables-ready p point ys zs ws (c .before .before .before .before .powers .ensures) (c .before .before .powers2 .ensures) (c .powers3 .ensures) (above start)
+  ready = tables-ready p point ys zs ws (c .before .before .before .before .powers .ensures) (c .before .before .powers2 .ensures) (c .powers3 .ensures) (listed-above (right start .is-listed))
 
   worked : (ts : List ℕ) {r : List ℕ} → r ≡ value-of p ys zs ws ts → r ≡ value-at p point ts
   worked ts e = e ∙ value-by-tables p point ys zs ws (c .before .before .before .before .powers .ensures) (c .before .before .powers2 .ensures) (c .powers3 .ensures) ts
@@ -59,19 +56,19 @@ shared-slice-read-powers : tie.Need-shared-slice-read-powers
 shared-slice-read-powers c = search needs
 
 powers-requires : tie.Need-powers-requires
-powers-requires c κs = above (c .before .before .before .before)
+powers-requires c κs = listed-positive (right (c .before .before .before .before) .is-listed)
 
 shared-slice-read-powers-2 : tie.Need-shared-slice-read-powers-2
 shared-slice-read-powers-2 c = search needs
 
 powers-requires-2 : tie.Need-powers-requires-2
-powers-requires-2 c κs = above (c .before .before .before .before .before .before)
+powers-requires-2 c κs = listed-positive (right (c .before .before .before .before .before .before) .is-listed)
 
 shared-slice-read-powers-3 : tie.Need-shared-slice-read-powers-3
 shared-slice-read-powers-3 c = search needs
 
 powers-requires-3 : tie.Need-powers-requires-3
-powers-requires-3 c κs = above (c .before .before .before .before .before .before .before .before)
+powers-requires-3 c κs = listed-positive (right (c .before .before .before .before .before .before .before .before) .is-listed)
 
 value-requires : tie.Need-value-requires
 value-requires c κs = ready c (start c .args .first .now) (right (start c) .first)

@@ -1,9 +1,11 @@
 -- `exact` meets its contract, from what its calls say: the room cleared, the division, the quotient's terms gathered, and the room cleared again. Assumes nothing.
+use mathlib.Core.Path.{_≡_}
 use Prim.Native.Nat.{_≤_}
 use native.Mathlib.Omega.{arith}
 use borrow.Author.Tests.{not-true, not-false}
 use lib.ListN.{length}
-use Rattle.poly.specs.Room.{work-room}
+use Rattle.poly.specs.Room.{work-room, zeroed}
+use Rattle.poly.specs.Laws.Room.{zeroed-all}
 use Rattle.poly.specs.Quotient.{QuotientCall}
 use Rattle.poly.specs.Laws.WorkRoom.{quotient-long}
 use Rattle.poly.specs.Laws.Quotient.{call, passed-lists, passed-output}
@@ -17,25 +19,30 @@ abbrev lent : tie.Start → QuotientCall
 lent z = call (z .args .p) (z .args .first .now) (z .args .second .now) (z .args .out .now) (z .args .work .now)
 
 -- the room is as long after the division as before
+abbrev opened : tie.After-clear → tie.Start
+opened l = l .before .before .before .before .before .before
+
 abbrev start : tie.After-divide → tie.Start
-start d = d .before .before .before .before .before .before .before .before .before .before
+start d = opened (d .before .before .before .before)
 
 room-long : (d : tie.After-divide) → work-room ≤ length (d .divide .last .1 .1 .1 .0)
 room-long d = omega (arith, passed-lists (lent (start d)) (start d .pre) .room)
 
+-- the room is cleared before the division
+begun : (l : tie.After-clear) → l .clear .last .1 .0 ≡ zeroed work-room (opened l .args .work .now)
+begun l = zeroed-all work-room (opened l .args .work .now) (passed-lists (lent (opened l)) (opened l .pre) .room) (l .clear .ensures)
+
 clear-requires : tie.Need-clear-requires
-clear-requires c κs =
-    let z = c .before .before .before .before .before in
-    passed-lists (lent z) (z .pre) .room
+clear-requires c κs = search needs
 
 divide-requires : tie.Need-divide-requires
 divide-requires c κs =
     let l = c .before .before .before in
-    let z = l .before .before .before .before .before .before in
-    rw (l .clear .ensures) (exact-begins (lent z) (z .pre))
+    let z = opened l in
+    rw (begun l) (exact-begins (lent z) (z .pre))
 
 clear-requires-2 : tie.Need-clear-requires-2
-clear-requires-2 c κs = room-long (c .before .before .before .before)
+clear-requires-2 c κs = search needs
 
 at-requires : tie.Need-at-requires
 at-requires c κs = search needs
@@ -50,7 +57,7 @@ returns c =
     let d = t .before .before .before in
     let l = d .before .before .before .before in
     let z = start d in
-    exact-none (lent z) (z .pre) _ _ _ (d .divide .result) (l .clear .ensures) (d .divide .ensures) (e .clear2 .ensures) (not-true _ (t .if1 .taken)) (c .at .ensures)
+    exact-none (lent z) (z .pre) _ _ _ (d .divide .result) (begun l) (d .divide .ensures) (zeroed-all work-room _ (room-long d) (e .clear2 .ensures)) (not-true _ (t .if1 .taken)) (c .at .ensures)
 
 sub-gather : tie.Need-sub-gather
 sub-gather c = search needs
@@ -68,7 +75,7 @@ gather-requires c κs =
     record { few = omega (arith, long); room = omega (arith, long, passed-output (lent (start d)) (start d .pre)) }
 
 clear-requires-3 : tie.Need-clear-requires-3
-clear-requires-3 c κs = room-long (c .before .before .before .before .before .before .before .before .before .before)
+clear-requires-3 c κs = search needs
 
 none-requires : tie.Need-none-requires
 none-requires c κs = search needs
@@ -87,7 +94,7 @@ returns-2 c =
     let d = n .before .before .before in
     let l = d .before .before .before .before in
     let z = start d in
-    exact-found (lent z) (z .pre) _ _ _ (d .divide .result) (l .clear .ensures) (d .divide .ensures) (e .clear3 .ensures) (not-false _ (n .if1 .left)) (quotient-long (d .divide .last .1 .1 .1 .0) (room-long d)) _ _ (g .gather .ensures)
+    exact-found (lent z) (z .pre) _ _ _ (d .divide .result) (begun l) (d .divide .ensures) (zeroed-all work-room _ (room-long d) (e .clear3 .ensures)) (not-false _ (n .if1 .left)) (quotient-long (d .divide .last .1 .1 .1 .0) (room-long d)) _ _ (g .gather .ensures)
     (c .none .ensures)
 
 pub exact-spec : {M : Type 1} → statement M

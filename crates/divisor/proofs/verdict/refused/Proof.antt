@@ -1,0 +1,22 @@
+-- `divisor::verdict::refused` meets its contract: the work room is long enough, so all of it is cleared. Assumes nothing.
+use mathlib.Core.Path.{refl}
+use borrow.Author.Needs.{needs}
+use Rattle.poly.specs.Room.{work-room}
+use Rattle.poly.specs.Laws.Room.{zeroed-all}
+use Rattle.divisor.proofs.verdict.refused.Statement.{statement}
+use Rattle.divisor.proofs.verdict.refused.Tie as tie
+
+clear-requires : tie.Need-clear-requires
+clear-requires c κs = search needs
+
+same-length : tie.Need-same-length
+same-length c = search needs
+
+returns : tie.Need-returns
+returns c = record {
+  is = refl;
+  clears = zeroed-all work-room _ (c .before .before .before .before .before .pre) (c .before .before .clear .ensures);
+}
+
+pub refused-spec : {M : Type 1} → statement M
+refused-spec = tie.close (tie.spec clear-requires same-length returns)
