@@ -5,7 +5,9 @@ ghost use Rattle.field.specs.Refusal.{Tested};
 ghost use Rattle.poly.specs.Lists.{WrongNumber};
 ghost use Rattle.poly.specs.ImageCall.{image-call, refusal, of-point, image-table, ImageAnswer};
 ghost use Rattle.poly.specs.Models.Search.{Searched};
-ghost use Rattle.poly.specs.Models.Image.{Values, Fine, image-of-values, image-of};
+ghost use Rattle.poly.specs.Models.Eight.{gcd};
+ghost use Rattle.poly.specs.Models.Steps.{Pair};
+ghost use Rattle.poly.specs.Models.Image.{Fine, found, image-of};
 use crate::COORDINATES;
 use crate::Eight;
 use crate::ImageRecord;
@@ -30,14 +32,11 @@ fn refused(fault: Fault) -> ImageRecord
     }
 }
 
-// The answer where the values are a and b; the point is bad if a has 0 at A's highest power of x.
-fn image_of_values(p: Number, x: usize, a: Eight, b: Eight) -> ImageRecord
-    requires { ⌜ Values p x a b ⌝ }
-    ensures { λ r. ⌜ r ≡ image-of-values p x a b ⌝ }
+// The image where the values are a, which is not 0, and b.
+fn image_of_values(p: Number, a: Eight, b: Eight) -> ImageRecord
+    requires { ⌜ Pair p a b ⌝ }
+    ensures { λ r. ⌜ r ≡ found (gcd p a b) ⌝ }
 {
-    if a[x] == 0 {
-        return refused(Fault::at(Fault::NO_GOOD_POINT, 0));
-    }
     let u = euclid::gcd(p, a, b);
     let d = euclid::size(u) - 1;
     ImageRecord {
@@ -47,7 +46,8 @@ fn image_of_values(p: Number, x: usize, a: Eight, b: Eight) -> ImageRecord
     }
 }
 
-// The image at a point, of inputs that are in order: for the service below, and for the layer above.
+// The image at a point, of inputs that are in order: for the service below, and for the layer above. The point is bad if A's value has 0 at
+// A's highest power of x; then B's value is not worked.
 pub fn image_at(p: Number, first: &[Term], second: &[Term], point: &[Number]) -> ImageRecord
     requires { ⌜ Fine p (now first) (now second) (now point) ⌝ }
     ensures { λ r. ⌜ r ≡ image-of p (now (first .entry)) (now (second .entry)) (now (point .entry)) ⌝ }
@@ -56,9 +56,12 @@ pub fn image_at(p: Number, first: &[Term], second: &[Term], point: &[Number]) ->
     let zs = value::powers(p, point[1]);
     let ws = value::powers(p, point[2]);
     let a = value::value(p, ys, zs, ws, first);
-    let b = value::value(p, ys, zs, ws, second);
     let x = Key::of(first[0]).x() as usize;
-    image_of_values(p, x, a, b)
+    if a[x] == 0 {
+        return refused(Fault::at(Fault::NO_GOOD_POINT, 0));
+    }
+    let b = value::value(p, ys, zs, ws, second);
+    image_of_values(p, a, b)
 }
 
 // The place of the first point number that is at least p, or the length.

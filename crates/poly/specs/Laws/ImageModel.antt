@@ -46,10 +46,8 @@ pub size-positive : (p x : ℕ) (a : List ℕ) → Eight p a → ¬ (getD a x 0 
 size-positive p x a h n =
     elim (ℕ-discrete (size a) 0) [ yes e ↦ absurd (n (size-clear 8 a (eight-clear p a h) x (omega arith))) | no q ↦ omega arith ]
 
-pub gcd-positive : {p : ℕ} (P : Prime p) (x : ℕ) (a b : List ℕ) → Eight p a → Eight p b → ¬ (getD a x 0 ≡ 0) → 0 < size (gcd p a b)
-gcd-positive {p} P x a b ha hb n =
-    let filled : ¬ (size a ≡ 0) = λ e. omega (arith, size-positive p x a ha n) in
-    omega (arith, gcd-nonzero P a b ha filled hb)
+pub gcd-positive : {p : ℕ} (P : Prime p) (a b : List ℕ) → Eight p a → 0 < size a → Eight p b → 0 < size (gcd p a b)
+gcd-positive P a b ha l hb = omega (arith, gcd-nonzero P a b ha (λ e. omega arith) hb)
 
 -- with the tables that the code has worked
 module _ (p : ℕ) (point ys zs ws : List ℕ) (y : ys ≡ powers p (getD point 0 0)) (z : zs ≡ powers p (getD point 1 0)) (w : ws ≡ powers p (getD point 2 0)) where
@@ -113,7 +111,7 @@ module _ {p : ℕ} (P : Prime p) (point : List ℕ) where
       model-is-image =
           record {
             good = λ z. el-nonzero p (getD a x 0) (value-at-eight A .below x) n (leading ∙ z);
-            small = omega (arith, size-le 8 (gcd p a b), gcd-positive P x a b (value-at-eight A) (value-at-eight B) n);
+            small = omega (arith, size-le 8 (gcd p a b), gcd-positive P a b (value-at-eight A) (size-positive p x a (value-at-eight A) n) (value-at-eight B));
             monic =
                 record {
                   leads = ap (el p) (greatest .monic .one);

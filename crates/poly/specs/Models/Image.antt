@@ -5,12 +5,10 @@ use mathlib.Core.List.{List}
 use Prim.Native.Nat.{ℕ, _-_, _<_}
 use lib.Dec.{eqb}
 use lib.ListN.{length, getD}
-use Rattle.field.specs.Moduli.{Listed}
 use Rattle.field.specs.Numbers.{NO_GOOD_POINT}
 use Rattle.field.specs.Refusal.{fault, none, Passes}
 use Rattle.poly.specs.declared.ImageRecord.{ImageRecord}
 use Rattle.poly.specs.Lists.{of-lists}
-use Rattle.poly.specs.Coefficients.{Eight}
 use Rattle.poly.specs.LeadingPart.{x-of}
 use Rattle.poly.specs.ImageCall.{refusal}
 use Rattle.poly.specs.Models.Powers.{powers}
@@ -22,13 +20,6 @@ pub record Fine (p : ℕ) (A B point : List ℕ) : Type 0 where
   pub lists : Passes (of-lists p A B)
   pub three : length point ≡ 3
   pub below : (i : ℕ) → i < 3 → getD point i 0 < p
-
--- the two values a and b, and a power of x
-pub record Values (p x : ℕ) (a b : List ℕ) : Type 0 where
-  pub is-listed : Listed p
-  pub first : Eight p a
-  pub second : Eight p b
-  pub power : x < 8
 
 -- the value at a point of three numbers
 unfoldable pub value-at : ℕ → List ℕ → List ℕ → List ℕ

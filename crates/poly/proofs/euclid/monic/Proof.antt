@@ -1,6 +1,6 @@
 -- `poly::euclid::monic` meets its contract: the inverse is the model's. Assumes nothing.
 use mathlib.Core.Path.{ap, _∙_}
-use Prim.Native.Nat.{ℕ, _-_}
+use Prim.Native.Nat.{ℕ}
 use Rattle.field.specs.ModuliLaws.{listed-prime, listed-positive}
 use Rattle.field.specs.Link.{inverse-val}
 use Rattle.poly.specs.Models.Eight.{scaled, monic}

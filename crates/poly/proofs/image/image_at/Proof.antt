@@ -1,16 +1,18 @@
--- `poly::image::image_at` meets its contract: the tables, the two values and what is made of them are the model's. Assumes nothing.
+-- `poly::image::image_at` meets its contract: the tables, A's value and the test of the point, B's value and what is made of both are the model's. Assumes nothing.
 use mathlib.Core.Path.{_≡_, sym, ap, _∙_, subst}
 use mathlib.Core.List.{List}
-use Prim.Native.Nat.{ℕ, _/_, _<_}
+use Prim.Native.Nat.{ℕ, _/_}
 use native.Mathlib.Omega.{arith}
 use lib.ListN.{getD}
 use Rattle.field.specs.ModuliLaws.{listed-prime, listed-above, listed-positive}
 use Rattle.poly.specs.Coefficients.{Eight}
 use Rattle.poly.specs.LeadingPart.{x-of}
 use Rattle.poly.specs.Models.Value.{Ready, value-of}
-use Rattle.poly.specs.Models.Image.{value-at, image-of-values, image-of}
+use Rattle.poly.specs.ImageCall.{refusal}
+use Rattle.poly.specs.Models.Eight.{gcd}
+use Rattle.poly.specs.Models.Image.{value-at, found, image-of}
 use Rattle.poly.specs.Laws.RightLists.{RightList, RightLists, lists-are-right}
-use Rattle.poly.specs.Laws.ImageModel.{tables-ready, value-by-tables, value-at-eight, first-power-small}
+use Rattle.poly.specs.Laws.ImageModel.{values-bad, values-good, size-positive, tables-ready, value-by-tables, value-at-eight, first-power-small}
 use borrow.Author.Needs.{needs}
 use Rattle.poly.proofs.image.image_at.Statement.{statement}
 use Rattle.poly.proofs.image.image_at.Tie as tie
@@ -48,9 +50,26 @@ module _ (c : tie.After-powers3) where
   in-range : (ts : List ℕ) {r : List ℕ} → r ≡ value-of p ys zs ws ts → Eight p r
   in-range ts e = subst (Eight p) (sym (worked ts e)) (value-at-eight (listed-prime (right start .is-listed)) point ts)
 
--- the power of x of A's first term
-power : (c : tie.After-x) → c .x .result ≡ x-of (getD (start (c .before .before .before .before .before) .args .first .now) 0 0)
-power c = c .x .ensures ∙ ap (λ (k : ℕ). k / 512) (c .before .of .ensures)
+-- with A's value and its highest power of x
+module _ (c : tie.After-x) where
+  abbrev tables : tie.After-powers3
+  tables = c .before .before .before .before
+
+  abbrev A : List ℕ
+  A = start tables .args .first .now
+
+  abbrev B : List ℕ
+  B = start tables .args .second .now
+
+  first-value : c .before .before .before .value .result ≡ value-at (p tables) (point tables) A
+  first-value = worked tables A (c .before .before .before .value .ensures)
+
+  power : c .x .result ≡ x-of (getD A 0 0)
+  power = c .x .ensures ∙ ap (λ (k : ℕ). k / 512) (c .before .of .ensures)
+
+  -- the number that is tested is the model's
+  lead : getD (c .before .before .before .value .result) (c .x .result) 0 ≡ getD (value-at (p tables) (point tables) A) (x-of (getD A 0 0)) 0
+  lead = λ i. getD (first-value i) (power i) 0
 
 shared-slice-read-powers : tie.Need-shared-slice-read-powers
 shared-slice-read-powers c = search needs
@@ -73,11 +92,8 @@ powers-requires-3 c κs = listed-positive (right (c .before .before .before .bef
 value-requires : tie.Need-value-requires
 value-requires c κs = ready c (start c .args .first .now) (right (start c) .first)
 
-value-requires-2 : tie.Need-value-requires-2
-value-requires-2 c κs = ready (c .before) (start (c .before) .args .second .now) (right (start (c .before)) .second)
-
 shared-slice-read-of : tie.Need-shared-slice-read-of
-shared-slice-read-of c = let l = right (start (c .before .before .before)) .first .some in omega arith
+shared-slice-read-of c = let l = right (start (c .before .before)) .first .some in omega arith
 
 of-requires : tie.Need-of-requires
 of-requires c κs = search needs
@@ -88,27 +104,49 @@ x-requires c κs = search needs
 cast-x : tie.Need-cast-x
 cast-x c = search needs
 
-image-of-values-requires : tie.Need-image-of-values-requires
-image-of-values-requires c κs =
-    let k = c .before .before .before .before .before in
-    let s = start k in
-    record {
-      is-listed = right s .is-listed;
-      first = in-range k (s .args .first .now) (c .before .before .before .before .value .ensures);
-      second = in-range k (s .args .second .now) (c .before .before .before .value2 .ensures);
-      power = subst (λ (x : ℕ). x < 8) (sym (power c)) (first-power-small (s .args .p) (s .args .first .now) (right s .first));
-    }
+mul-if1 : tie.Need-mul-if1
+mul-if1 c = search needs
+
+array-read-if1 : tie.Need-array-read-if1
+array-read-if1 c =
+    let s = start (tables c) in
+    omega (arith, power c, first-power-small (s .args .p) (s .args .first .now) (right s .first))
+
+at-requires : tie.Need-at-requires
+at-requires c κs = search needs
+
+refused-requires : tie.Need-refused-requires
+refused-requires c κs = search needs
 
 returns : tie.Need-returns
 unfolding image-of
 returns c =
-    let at-x = c .before in
-    let k = at-x .before .before .before .before .before in
-    let s = start k in
+    let at-x = c .before .before .before in
+    c .refused .ensures ∙ ap refusal (c .before .at .ensures) ∙ sym (values-bad _ _ _ _ (sym (lead at-x) ∙ c .before .before .if1 .taken))
+
+value-requires-2 : tie.Need-value-requires-2
+value-requires-2 c κs = ready (tables (c .before)) (B (c .before)) (right (start (tables (c .before))) .second)
+
+image-of-values-requires : tie.Need-image-of-values-requires
+image-of-values-requires c κs =
+    let at-x = c .before .before in
+    let k = tables at-x in
+    let first = in-range k (A at-x) (at-x .before .before .before .value .ensures) in
+    record {
+      is-listed = right (start k) .is-listed;
+      first = first;
+      second = in-range k (B at-x) (c .value2 .ensures);
+      nonzero = size-positive (p k) (at-x .x .result) _ first (c .before .if1 .left);
+    }
+
+returns-2 : tie.Need-returns-2
+unfolding image-of
+returns-2 c =
+    let at-x = c .before .before .before in
+    let k = tables at-x in
     c .image-of-values .ensures
-    ∙ (λ i.
-    image-of-values (s .args .p) (power at-x i) (worked k (s .args .first .now) (at-x .before .before .before .before .value .ensures) i)
-    (worked k (s .args .second .now) (at-x .before .before .before .value2 .ensures) i))
+    ∙ (λ i. found (gcd (p k) (first-value at-x i) (worked k (B at-x) (c .before .value2 .ensures) i)))
+    ∙ sym (values-good _ _ _ _ (λ z. c .before .before .if1 .left (lead at-x ∙ z)))
 
 pub image-at-spec : {M : Type 1} → statement M
 image-at-spec =
@@ -121,10 +159,15 @@ image-at-spec =
     shared-slice-read-powers-3
     powers-requires-3
     value-requires
-    value-requires-2
     shared-slice-read-of
     of-requires
     x-requires
     cast-x
+    mul-if1
+    array-read-if1
+    at-requires
+    refused-requires
+    returns
+    value-requires-2
     image-of-values-requires
-    returns)
+    returns-2)
