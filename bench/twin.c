@@ -124,10 +124,10 @@ static size_t image(uint16_t p, const uint32_t *first, size_t n, const uint32_t 
     powers(p, point[1], zs);
     powers(p, point[2], ws);
     value(p, ys, zs, ws, first, n, f);
-    value(p, ys, zs, ws, second, m, g);
     memset(u, 0, 8 * sizeof *u);
     if (f[x_of(key_of(first[0]))] == 0)
         return 0;
+    value(p, ys, zs, ws, second, m, g);
     make_monic(p, f, size(f));
     for (size_t s = size(g); s > 0; s = size(g)) {
         uint16_t *h = f;
