@@ -1,5 +1,5 @@
-/* The library's three calls that are measured. A length is 64 bits wide in the proved module, also where the module is compiled for a core
-   whose own size_t has 32. */
+/* The library's three calls that are measured, by the types that their plain C twins have too. A length is 64 bits wide in the proved module,
+   also where the module is compiled for a core whose own size_t has 32. */
 #ifndef CALLS_H
 #define CALLS_H
 
@@ -7,14 +7,18 @@
 
 typedef uint64_t length;
 
-void balungkiro_candidate(uint16_t modulus, const uint32_t *first, length first_terms, const uint32_t *second, length second_terms,
-                          const uint16_t *skeleton, length keys, const uint16_t *points, length numbers,
-                          uint32_t *out, length out_terms, uint16_t *work, length work_numbers, length record[7]);
+typedef void candidate_call(uint16_t modulus, const uint32_t *first, length first_terms, const uint32_t *second, length second_terms,
+                            const uint16_t *skeleton, length keys, const uint16_t *points, length numbers,
+                            uint32_t *out, length out_terms, uint16_t *work, length work_numbers, length record[7]);
 
-void balungkiro_quotient(uint16_t modulus, const uint32_t *first, length first_terms, const uint32_t *second, length second_terms,
-                         uint32_t *out, length out_terms, uint16_t *work, length work_numbers, length record[3]);
+typedef void quotient_call(uint16_t modulus, const uint32_t *first, length first_terms, const uint32_t *second, length second_terms,
+                           uint32_t *out, length out_terms, uint16_t *work, length work_numbers, length record[3]);
 
-void balungkiro_image(uint16_t modulus, const uint32_t *first, length first_terms, const uint32_t *second, length second_terms,
-                      const uint16_t *point, length numbers, uint16_t coefficients[8], length record[3]);
+typedef void image_call(uint16_t modulus, const uint32_t *first, length first_terms, const uint32_t *second, length second_terms,
+                        const uint16_t *point, length numbers, uint16_t coefficients[8], length record[3]);
+
+candidate_call balungkiro_candidate;
+quotient_call balungkiro_quotient;
+image_call balungkiro_image;
 
 #endif

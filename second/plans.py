@@ -291,18 +291,28 @@ def add_unlucky_points(rng, plan):
     put_in_points(rng, plan, pinned(random_points(rng, p, rng.randint(1, 4)), variable, value))
 
 
-def add_bad_points(rng, plan):
-    """The x-leading coefficient of A is 0 wherever v = value."""
-    variable, value = spoil_leading_coefficient(rng, plan)
-    put_in_points(rng, plan, pinned(random_points(rng, plan.p, rng.randint(1, 4)), variable, value))
+def add_points_of(rng, plan, spoil, most):
+    """More points, all where the plan is spoiled."""
+    variable, value = spoil(rng, plan)
+    put_in_points(rng, plan, pinned(random_points(rng, plan.p, rng.randint(1, most)), variable, value))
 
 
-def only_bad_points(rng, plan):
-    variable, value = spoil_leading_coefficient(rng, plan)
+def only_points_of(rng, plan, spoil):
+    """Every point is moved to where the plan is spoiled."""
+    variable, value = spoil(rng, plan)
     plan.points = pinned(plan.points, variable, value)
 
 
+def add_bad_points(rng, plan):
+    add_points_of(rng, plan, spoil_leading_coefficient, 4)
+
+
+def only_bad_points(rng, plan):
+    only_points_of(rng, plan, spoil_leading_coefficient)
+
+
 def spoil_leading_coefficient(rng, plan):
+    """The x-leading coefficient of A is 0 wherever v = value."""
     variable, value = random_pin(rng, plan.p)
     x_degree = greatest_exponents(plan.first_cofactor)[0]
     leading = {k: c for k, c in plan.first_cofactor.items() if exponents(k)[0] == x_degree}
@@ -312,17 +322,15 @@ def spoil_leading_coefficient(rng, plan):
 
 
 def add_points_with_zero_second(rng, plan):
-    """B is 0 wherever v = value."""
-    variable, value = make_second_vanish(rng, plan)
-    put_in_points(rng, plan, pinned(random_points(rng, plan.p, rng.randint(1, 3)), variable, value))
+    add_points_of(rng, plan, make_second_vanish, 3)
 
 
 def only_points_with_zero_second(rng, plan):
-    variable, value = make_second_vanish(rng, plan)
-    plan.points = pinned(plan.points, variable, value)
+    only_points_of(rng, plan, make_second_vanish)
 
 
 def make_second_vanish(rng, plan):
+    """B is 0 wherever v = value."""
     variable, value = random_pin(rng, plan.p)
     plan.second_cofactor = multiply(linear(variable, value, plan.p), plan.second_cofactor, plan.p)
     return variable, value
