@@ -18,6 +18,7 @@ use Rattle.poly.specs.Image.{Divides}
 use Rattle.poly.specs.Lists.{WrongModulo, of-lists}
 use Rattle.poly.specs.Room.{work-room, written, cleared}
 
+-- what the service is lent
 pub record QuotientCall : Type 0 where
   pub modulus : ℕ
   pub first-list : List ℕ
@@ -38,6 +39,7 @@ pub record IsQuotient (p : ℕ) (P : Prime p) (A B qs : List ℕ) : Type 0 where
   pub right : (i : ℕ) → ¬ WrongModulo p qs i
   pub product : S4 (Modulo p P .ring) .mul (poly p P B) (poly p P qs) ≡ poly p P A
 
+-- what it answers, and the output and the work room afterwards
 pub record QuotientResult : Type 0 where
   pub found : QuotientRecord
   pub output : List ℕ

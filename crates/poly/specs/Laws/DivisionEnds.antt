@@ -62,16 +62,16 @@ no-cells-empty = empty-cells no-cells (length-replicate {A = ℕ} keys 0) (λ i 
 
 -- a list spread over them
 module _ (p : ℕ) (P : Prime p) (f : List ℕ) (hf : Falling p keys f) (l : List ℕ) (empty : Empty l) where
-  pub begun-long : length (spread f l) ≡ keys
+  begun-long : length (spread f l) ≡ keys
   begun-long = spread-length f l ∙ empty .long
 
   enough : keys ≤ length l
   enough = subst (λ (n : ℕ). keys ≤ n) (sym (empty .long)) (omega arith)
 
-  pub begun-reduced : Reduced p (spread f l)
+  begun-reduced : Reduced p (spread f l)
   begun-reduced = spread-reduced p P f l keys hf enough (λ i. subst (λ (n : ℕ). n < p) (sym (empty .zeros i)) (prime-positive P))
 
-  pub begun-means : dense p P (spread f l) ≡ poly p P f
+  begun-means : dense p P (spread f l) ≡ poly p P f
   begun-means =
       spread-dense p P f l keys hf enough (λ i h. empty .zeros i)
       ∙ ap (λ (d : S4 (Modulo p P .ring) .Car). S4 (Modulo p P .ring) .add d (poly p P f)) (dense-zero p P l (empty .zeros))
@@ -79,13 +79,13 @@ module _ (p : ℕ) (P : Prime p) (f : List ℕ) (hf : Falling p keys f) (l : Lis
 
 -- where the divisor's greatest exponents are at most the dividend's
 module _ (p : ℕ) (P : Prime p) (t : ℕ) (ts : List ℕ) (u : ℕ) (us : List ℕ) (hf : Falling p keys (t ∷ ts)) (hg : Falling p keys (u ∷ us)) where
-  pub lead-inverse : mul (el p (setting p (t ∷ ts) (u ∷ us) .inverse)) (el p (coefficient-of u)) ≡ el p 1
+  lead-inverse : mul (el p (setting p (t ∷ ts) (u ∷ us) .inverse)) (el p (coefficient-of u)) ≡ el p 1
   lead-inverse =
       ap (λ (x : Fp p). mul x (el p (coefficient-of u))) (el-val (inv (el p (coefficient-of u))))
       ∙ Fp-mul-comm (inv (el p (coefficient-of u))) (el p (coefficient-of u))
       ∙ mul-inv P (el p (coefficient-of u)) (el-nonzero p (coefficient-of u) (hg .2) (let l = hg .1 in omega arith))
 
-  pub spare : at-most (most-key (u ∷ us)) (most-key (t ∷ ts)) ≡ true → exponents (setting p (t ∷ ts) (u ∷ us) .bound) ⊞ most-of (u ∷ us) ≡ most-of (t ∷ ts)
+  spare : at-most (most-key (u ∷ us)) (most-key (t ∷ ts)) ≡ true → exponents (setting p (t ∷ ts) (u ∷ us) .bound) ⊞ most-of (u ∷ us) ≡ most-of (t ∷ ts)
   spare h =
       let b = most-key (t ∷ ts) - most-key (u ∷ us) in
       ap (λ (e : Exponents). exponents b ⊞ e) (sym (most-exponents (u ∷ us) (falling-keys p keys (u ∷ us) hg)))

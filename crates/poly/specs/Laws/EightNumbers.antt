@@ -21,11 +21,11 @@ pub record Leads (n : ℕ) (f : List ℕ) : Type 0 where
   pub clear : Clear (suc n) f
 
 -- what a test decides, the number at n says
-pub size-to-zero : (n : ℕ) (f : List ℕ) → getD f n 0 ≡ 0 → size-to (suc n) f ≡ size-to n f
+size-to-zero : (n : ℕ) (f : List ℕ) → getD f n 0 ≡ 0 → size-to (suc n) f ≡ size-to n f
 unfolding size-to
 size-to-zero n f e = rw (eq-eqb (getD f n 0) 0 e, size-to)
 
-pub size-to-here : (n : ℕ) (f : List ℕ) → ¬ (getD f n 0 ≡ 0) → size-to (suc n) f ≡ suc n
+size-to-here : (n : ℕ) (f : List ℕ) → ¬ (getD f n 0 ≡ 0) → size-to (suc n) f ≡ suc n
 unfolding size-to
 size-to-here n f q = rw (ne-eqb (getD f n 0) 0 q, size-to)
 
@@ -120,7 +120,7 @@ module _ (p : ℕ) (pos : 0 < p) where
       ])
 
   -- a step clears the power k + m, where g is monic of degree m and c stands there
-  pub subtract-clear : (k m : ℕ) (f g : List ℕ) → Eight p f → Clear (suc k + m) f → getD g m 0 ≡ 1 → Clear (suc m) g
+  subtract-clear : (k m : ℕ) (f g : List ℕ) → Eight p f → Clear (suc k + m) f → getD g m 0 ≡ 1 → Clear (suc m) g
       → Clear (k + m) (subtract p (getD f (k + m) 0) k f g)
   unfolding subtract
   subtract-clear k m f g h cf g1 cg i l =

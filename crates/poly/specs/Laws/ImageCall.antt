@@ -56,7 +56,7 @@ point-determined p P A B at r q (good d u h i) (good e v k j) =
     let c : u ≡ v = ext-getD 0 u v (h .eight ∙ sym (k .eight)) (λ n l. series-injective p u v h k (w .1) n) in
     λ i. record { fault = none; coefficients = c i; degree = w .0 i }
 
-pub image-table-one-place : (c : ImageCall) → OnePlaceEach (image-table c)
+image-table-one-place : (c : ImageCall) → OnePlaceEach (image-table c)
 image-table-one-place c =
     one-place-append (of-lists (c .modulus) (c .first-list) (c .second-list)) (of-point (c .modulus) (c .point))
     (lists-one-place (c .modulus) (c .first-list) (c .second-list))

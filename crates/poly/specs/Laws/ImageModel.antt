@@ -24,7 +24,7 @@ use Rattle.poly.specs.ImageCall.{point-of, refusal, PointAnswer, bad, go
 use Rattle.poly.specs.Models.Powers.{powers}
 use Rattle.poly.specs.Models.Value.{Ready, value-of}
 use Rattle.poly.specs.Models.Eight.{size, gcd}
-use Rattle.poly.specs.Models.Image.{value-at, found, image-of-values, image-of}
+use Rattle.poly.specs.Models.Image.{value-at, image-record, image-of-values, image-of}
 use Rattle.poly.specs.Laws.Powers.{powers-eight}
 use Rattle.poly.specs.Laws.EightNumbers.{eight-clear, size-clear, size-le}
 use Rattle.poly.specs.Laws.EightMeaning.{clear-ends, IsGcd, gcd-is-gcd, gcd-nonzero}
@@ -37,7 +37,7 @@ pub values-bad : (p x : ℕ) (a b : List ℕ) → getD a x 0 ≡ 0 → image-of-
 unfolding image-of-values
 values-bad p x a b e = rw (eq-eqb (getD a x 0) 0 e, image-of-values)
 
-pub values-good : (p x : ℕ) (a b : List ℕ) → ¬ (getD a x 0 ≡ 0) → image-of-values p x a b ≡ found (gcd p a b)
+pub values-good : (p x : ℕ) (a b : List ℕ) → ¬ (getD a x 0 ≡ 0) → image-of-values p x a b ≡ image-record (gcd p a b)
 unfolding image-of-values
 values-good p x a b n = rw (ne-eqb (getD a x 0) 0 n, image-of-values)
 
@@ -75,7 +75,7 @@ module _ {p : ℕ} (P : Prime p) (point : List ℕ) where
   unfolding value-at
   value-at-eight ts = value-of-eight p (powers p (getD point 0 0)) (powers p (getD point 1 0)) (powers p (getD point 2 0)) (prime-positive P) ts
 
-  pub value-at-series : (ts : List ℕ) → RightList p ts → series p (value-at p point ts) ≡ value (Modulo p P .ring) (terms-of p P ts) (point-of p P point)
+  value-at-series : (ts : List ℕ) → RightList p ts → series p (value-at p point ts) ≡ value (Modulo p P .ring) (terms-of p P ts) (point-of p P point)
   unfolding value-at
   value-at-series ts h = value-of-series p P (getD point 0 0) (getD point 1 0) (getD point 2 0) ts (falling-key p keys ts (h .falls))
 

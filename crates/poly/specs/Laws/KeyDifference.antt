@@ -91,7 +91,7 @@ module _ (a b : ℕ) (m n : Exponents) (em : exponents b ≡ m) (en : exponents 
   plain-at-least = at-least (key less) (key n) (key m) b a keys-sum m-key n-key
 
 module _ (a b : ℕ) (h : exponents a ≼ exponents b) where
-  pub below-key : a ≤ b
+  below-key : a ≤ b
   below-key = plain-at-least a b (exponents b) (exponents a) refl refl h
 
   pub exponents-difference : exponents b ≡ exponents (b - a) ⊞ exponents a

@@ -1,7 +1,7 @@
 -- The key of a monomial and its exponents are each other's; the order of keys is that of the exponents; keys add where no exponent passes 7. Assumes nothing.
 use mathlib.Core.Path.{_≡_, sym, _∙_, ap, ap₂}
 use mathlib.Core.Logic.{_⊎_, inl, inr}
-use Prim.Native.Nat.{ℕ, _+_, _-_, _*_, _/_, _%_, _<_}
+use Prim.Native.Nat.{ℕ, _+_, _*_, _/_, _%_, _<_}
 use native.Mathlib.Omega.{arith}
 use Rattle.algebra.specs.Four.{Exponents, _⊞_, _≺_, by-x, by-y, by-z, by-w, exponents-path, compare}
 use Rattle.poly.specs.Keys.{key, exponents}

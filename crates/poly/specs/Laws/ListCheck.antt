@@ -58,7 +58,7 @@ module _ (bound : ℕ) (ts : List ℕ) (i : ℕ) (l : i < length ts) where
 
 -- without a modulus: no coefficient reaches the bound
 module _ (ts : List ℕ) where
-  pub small-coefficient : (i : ℕ) → WrongModulo base ts i → WrongTerm ts i
+  small-coefficient : (i : ℕ) → WrongModulo base ts i → WrongTerm ts i
   small-coefficient i (wrong-term w) = w
   small-coefficient i (coefficient-large l m) = absurd (omega arith)
 

@@ -14,12 +14,12 @@ use Rattle.poly.specs.Coefficients.{Eight}
 use Rattle.poly.specs.Models.Cells.{cells-length, cells-at, cells-past}
 use Rattle.poly.specs.Models.Powers.{power, powers}
 
-pub power-below : (p y : ℕ) → 1 < p → (k : ℕ) → power p y k < p
+power-below : (p y : ℕ) → 1 < p → (k : ℕ) → power p y k < p
 unfolding power
 power-below p y h zero = h
 power-below p y h (suc k) = mod-lt (power p y k * y) (omega arith)
 
-pub power-el : (p : ℕ) (h : 0 < p) (y k : ℕ) → el p (power p y k) ≡ pow (Residues p h) (el p y) k
+power-el : (p : ℕ) (h : 0 < p) (y k : ℕ) → el p (power p y k) ≡ pow (Residues p h) (el p y) k
 unfolding power pow
 power-el p h y zero = refl
 power-el p h y (suc k) = el-mod p (power p y k * y) ∙ el-mul p (power p y k) y ∙ ap (λ (u : Fp p). mul u (el p y)) (power-el p h y k)

@@ -30,7 +30,7 @@ use Rattle.poly.specs.Laws.Terms.{poly-lead, right-lists-equal}
 use Rattle.poly.specs.Laws.DivisionEnds.{poly-finite}
 
 module _ (p : ℕ) (P : Prime p) where
-  pub quotient-divides : (f g qs : List ℕ) → IsQuotient p P f g qs → Divides (Modulo p P) (poly p P g) (poly p P f)
+  quotient-divides : (f g qs : List ℕ) → IsQuotient p P f g qs → Divides (Modulo p P) (poly p P g) (poly p P f)
   quotient-divides f g qs q = record { quo = poly p P qs; fin = poly-finite p P qs; eq = q .product }
 
   -- one quotient at most
@@ -48,7 +48,7 @@ abbrev pub call : ℕ → List ℕ → List ℕ → List ℕ → List ℕ → Qu
 call p first second output work = record { modulus = p; first-list = first; second-list = second; output = output; work = work }
 
 module _ (c : QuotientCall) where
-  pub quotient-one-place : OnePlaceEach (quotient-table c)
+  quotient-one-place : OnePlaceEach (quotient-table c)
   quotient-one-place =
       (placed-one-place 0 _, (placed-one-place 0 _, (first-one-place _, (placed-one-place 0 _, (first-one-place _, (placed-one-place 0 _, (placed-one-place 0 _, tt)))))))
 

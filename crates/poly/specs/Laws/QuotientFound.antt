@@ -50,7 +50,7 @@ module _ (p : ℕ) (P : Prime p) where
       (key-order-of (key-of q) b (h .0), positive q (h .1), r .1, falls-below-list qs (key-of q) (r .2) (h .2))
 
   -- terms that fall, in range, are a list that falls
-  pub falls-list : (qs : List ℕ) → InRange p qs → Falls R (terms-of p P qs) → Falling p keys qs
+  falls-list : (qs : List ℕ) → InRange p qs → Falls R (terms-of p P qs) → Falling p keys qs
   falls-list [] r h = tt
   falls-list (q ∷ qs) r h = (r .0, positive q (h .0), r .1, falls-below-list qs (key-of q) (r .2) (h .1))
 
@@ -81,7 +81,7 @@ module _ (p : ℕ) (P : Prime p) (word : p ≤ base) (f g : List ℕ) (sf : 0 < 
   rule : Division (Modulo p P .ring) (poly p P f) (poly p P g) (terms-of p P (found p f g l)) (divided p f g l c .whole)
   rule = divided-division p P word f g sf hf sg hg l c empty
 
-  pub found-falling : Falling p keys (found p f g l)
+  found-falling : Falling p keys (found p f g l)
   found-falling =
       falls-list p P (found p f g l) found-in
       (division-falls (Modulo p P .ring) (domain (Modulo p P)) (λ a. tt) (poly p P f) (poly p P g) (terms-of p P (found p f g l)) (divided p f g l c .whole) rule)

@@ -34,7 +34,7 @@ pub record RightList (p : ℕ) (ts : List ℕ) : Type 0 where
   pub most : length ts ≤ most-terms
   pub falls : Falling p keys ts
 
-pub list-is-right : (count term p : ℕ) (ts : List ℕ) → Passes (of-terms count term p ts) → RightList p ts
+list-is-right : (count term p : ℕ) (ts : List ℕ) → Passes (of-terms count term p ts) → RightList p ts
 list-is-right count term p ts h =
     let counted = never-placed (h .0) in
     record {

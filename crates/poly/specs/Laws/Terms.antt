@@ -20,7 +20,7 @@ use Rattle.poly.specs.Laws.Keys.{exponents-order, exponents-injective, k
 use Rattle.poly.specs.Laws.Lists.{terms-fall}
 
 -- a term is known by its key and its coefficient
-pub same-term : (t u : ℕ) → key-of t ≡ key-of u → coefficient-of t ≡ coefficient-of u → t ≡ u
+same-term : (t u : ℕ) → key-of t ≡ key-of u → coefficient-of t ≡ coefficient-of u → t ≡ u
 same-term t u a b = omega arith
 
 module _ (p : ℕ) (P : Prime p) where
@@ -28,7 +28,7 @@ module _ (p : ℕ) (P : Prime p) where
   R = Modulo p P .ring
 
   -- no coefficient where no key below b stands
-  pub poly-none : (ts : List ℕ) (b : ℕ) (e : Exponents) → Falling p b ts → ((k : ℕ) → k < b → ¬ (exponents k ≡ e)) → coef R (poly p P ts) e ≡ el p 0
+  poly-none : (ts : List ℕ) (b : ℕ) (e : Exponents) → Falling p b ts → ((k : ℕ) → k < b → ¬ (exponents k ≡ e)) → coef R (poly p P ts) e ≡ el p 0
   unfolding polynomial
   poly-none [] b e h n = refl
   poly-none (t ∷ ts) b e h n =
@@ -37,7 +37,7 @@ module _ (p : ℕ) (P : Prime p) where
       ∙ R .add-zero _
 
   -- no coefficient at a key from b on
-  pub poly-above : (ts : List ℕ) (b k : ℕ) → Falling p b ts → b ≤ k → coef R (poly p P ts) (exponents k) ≡ el p 0
+  poly-above : (ts : List ℕ) (b k : ℕ) → Falling p b ts → b ≤ k → coef R (poly p P ts) (exponents k) ≡ el p 0
   poly-above ts b k h l = poly-none ts b (exponents k) h (λ j m e. let q = exponents-injective j k e in omega arith)
 
   pub poly-head : (t : ℕ) (ts : List ℕ) → Falling p (key-of t) ts → coef R (poly p P (t ∷ ts)) (exponents (key-of t)) ≡ el p (coefficient-of t)

@@ -52,7 +52,7 @@ module _ (p : ℕ) (ys zs ws : List ℕ) where
   unfolding value-from
   value-end ts i r l = ap (λ (u : List ℕ). value-from p ys zs ws u r) (drop-of-length-le ts l)
 
-  pub value-from-eight : 0 < p → (ts r : List ℕ) → Eight p r → Eight p (value-from p ys zs ws ts r)
+  value-from-eight : 0 < p → (ts r : List ℕ) → Eight p r → Eight p (value-from p ys zs ws ts r)
   unfolding value-from
   value-from-eight pos [] r h = h
   value-from-eight pos (t ∷ ts) r h =

@@ -1,7 +1,7 @@
 -- `poly::euclid::size` meets its contract: the loop keeps the model's answer. Assumes nothing.
 use borrow.Author.Needs.{needs}
 use mathlib.Core.Path.{_≡_, refl, sym, _∙_}
-use Prim.Native.Nat.{_-_, _≤_}
+use Prim.Native.Nat.{_≤_}
 use native.Mathlib.Omega.{arith}
 use Rattle.poly.specs.Models.Eight.{size-to, size}
 use Rattle.poly.specs.Laws.EightNumbers.{size-down, size-found, size-none}
