@@ -2,7 +2,7 @@
 -- So it is decided whether one list divides another. Assumes nothing.
 use mathlib.Core.Path.{_≡_, refl, sym, _∙_, ap, subst}
 use mathlib.Core.Logic.{_↔_}
-use mathlib.Core.Bool.{Bool, true, false}
+use mathlib.Core.Bool.{Bool, true, false, true≢false}
 use mathlib.Core.List.{List, [], _∷_}
 use Prim.Native.Nat.{ℕ, _-_, _≤_, _<_}
 use native.Mathlib.Omega.{arith}
@@ -108,9 +108,7 @@ module _ (p : ℕ) (P : Prime p) (t : ℕ) (ts : List ℕ) (u : ℕ) (us : List 
       never l =
           let m : exponents (most-key (u ∷ us)) ≼ exponents (most-key (t ∷ ts)) =
           rw (most-exponents (u ∷ us) (falling-keys p keys (u ∷ us) hg), most-exponents (t ∷ ts) (falling-keys p keys (t ∷ ts) hf)) l in
-          let e = at-most-of (most-key (u ∷ us)) (most-key (t ∷ ts)) m in
-          let z : _≡_ {A = ℕ} 0 1 = cc in
-          omega arith
+          true≢false (sym (at-most-of (most-key (u ∷ us)) (most-key (t ∷ ts)) m) ∙ h)
 
   -- the division on cells goes by the rule, and finds its terms
   lists-division : p ≤ base → (l c : List ℕ) → Empty l → (a : Bool) → at-most (most-key (u ∷ us)) (most-key (t ∷ ts)) ≡ a

@@ -1,8 +1,9 @@
 -- The division on cells goes by the rule: a cell that is not 0 is one step. Assumes nothing.
 use mathlib.Core.Path.{_≡_, refl, sym, _∙_, ap, ap₂, subst}
 use mathlib.Core.Logic.{_⊎_, inl, inr}
-use mathlib.Core.Bool.{Bool, true, false}
+use mathlib.Core.Bool.{Bool, true, false, true≢false}
 use mathlib.Core.List.{List, [], _∷_}
+use mathlib.Mathlib.Data.Bool.Basic.{and-elim-left, and-elim-right, and-intro}
 use Prim.Native.Nat.{ℕ, zero, suc, _+_, _-_, _/_, _≤_, _<_}
 use native.Mathlib.Nat.{add-comm, mod-lt}
 use native.Mathlib.Decide.{ℕ-discrete}
@@ -26,7 +27,7 @@ use Rattle.field.specs.Link.{product-el}
 use Rattle.poly.specs.Keys.{exponents, keys}
 use Rattle.poly.specs.Terms.{key-of, coefficient-of, term-of, terms-of, poly, base, packed}
 use Rattle.poly.specs.Laws.Keys.{exponents-add, exponents-order}
-use Rattle.poly.specs.Laws.KeyDifference.{and-left, and-right, and-both, at-most-says, at-most-of, exponents-difference, difference-only}
+use Rattle.poly.specs.Laws.KeyDifference.{at-most-says, at-most-of, exponents-difference, difference-only}
 use Rattle.poly.specs.Lists.{Falling}
 use Rattle.poly.specs.Laws.Falling.{falling-keys}
 use Rattle.poly.specs.Laws.Terms.{poly-head}
@@ -35,9 +36,6 @@ use Rattle.poly.specs.Laws.Spread.{key-of-term, coefficient-of-term}
 use Rattle.poly.specs.Laws.GreatestExponents.{most-small, sizes}
 use Rattle.poly.specs.Laws.DivisionSteps.{outcome-passed, outcome-taken, outcome-stopped, found-passed, found-taken, found-stopped}
 use Rattle.poly.specs.Models.Division.{most, most-of, at-most, Setting, fits-in, fits, factor, less, Outcome, divide-from, found-from}
-
-not-both : (c : Bool) → c ≡ true → c ≡ false → ⊥
-not-both c p q = let z : _≡_ {A = ℕ} 0 1 = cc in omega arith
 
 -- The test of a cell is the rule's: the bound is what the greatest exponents of f are above those of g.
 module _ (d : Setting) (f g : Exponents) (spare : exponents (d .bound) ⊞ g ≡ f) (k : ℕ) where
@@ -60,17 +58,17 @@ module _ (d : Setting) (f g : Exponents) (spare : exponents (d .bound) ⊞ g ≡
   unfolding fits-in
   fits-says h =
       record {
-        exact = exponents-difference (d .lead) k (at-most-says (d .lead) k (and-left (at-most (d .lead) k) _ h));
+        exact = exponents-difference (d .lead) k (at-most-says (d .lead) k (and-elim-left (at-most (d .lead) k) _ h));
         bounded =
             within-spare (exponents (k - d .lead)) (exponents (d .bound))
-            (at-most-says (k - d .lead) (d .bound) (and-right (at-most (d .lead) k) _ h)) spare;
+            (at-most-says (k - d .lead) (d .bound) (and-elim-right (at-most (d .lead) k) _ h)) spare;
       }
 
   pub fits-of : (e : Exponents) → exponents k ≡ e ⊞ exponents (d .lead) → e ⊞ g ≼ f → fits d k ≡ true
   unfolding fits-in
   fits-of e p l =
       let o = difference-only (d .lead) k e p in
-      and-both _ _ (at-most-of (d .lead) k (o .0))
+      and-intro (at-most-of (d .lead) k (o .0))
       (at-most-of (k - d .lead) (d .bound)
       (subst (λ (i : Exponents). i ≼ exponents (d .bound)) (sym (o .1)) (spare-within e (exponents (d .bound)) l spare)))
 
@@ -205,7 +203,7 @@ module _ (p : ℕ) (P : Prime p) (word : p ≤ base) (t : ℕ) (ts : List ℕ) (
     unfolding Run
     stop-cell h =
         stop (exponents k) leads
-        (λ e o. not-both (fits d k) (fits-of d (most-of (t ∷ ts)) (most-of (u ∷ us)) spare k e (o .exact) (o .bounded)) h)
+        (λ e o. true≢false (sym (fits-of d (most-of (t ∷ ts)) (most-of (u ∷ us)) spare k e (o .exact) (o .bounded)) ∙ h))
 
   -- one cell after the other, the model takes the rule's steps
   goes : (k : ℕ) (l c : List ℕ) → length l ≡ keys → Reduced p l → ((i : ℕ) → k ≤ i → getD l i 0 ≡ 0) → Run l (found-from d k l) (divide-from d k l c .whole)

@@ -1,6 +1,6 @@
 -- What the quotient service answers to inputs that pass, from what the division, the gathering and the clearing say. Assumes nothing.
 use mathlib.Core.Path.{_≡_, sym, _∙_, ap, ap₂}
-use mathlib.Core.Bool.{Bool, true, false}
+use mathlib.Core.Bool.{Bool, true, false, true≢false}
 use mathlib.Core.List.{List}
 use Prim.Native.Nat.{ℕ, _≤_}
 use native.Mathlib.Omega.{arith}
@@ -54,8 +54,9 @@ module _ (c : QuotientCall) (h : Passes (quotient-table c)) where
     exact-none w {r} e =
         rw (room, e)
         (no-quotient h (can .is-listed)
-        (λ d. let t = cleared-says p f g (c .work) can work-room (omega arith) (omega arith) begun after whole clears ran (listed-prime (can .is-listed)) .1 d in
-        let z : _≡_ {A = ℕ} 0 1 = cc in omega arith))
+        (λ d.
+        true≢false
+        (sym (cleared-says p f g (c .work) can work-room (omega arith) (omega arith) begun after whole clears ran (listed-prime (can .is-listed)) .1 d) ∙ w)))
 
     word : p ≤ base
     word = let w = listed-below (can .is-listed) in omega arith
