@@ -10,9 +10,9 @@ use lib.ListN.{length, getD, replicate, length-map, length-replicate, getD-repli
 use native.Mathlib.Decide.{decLt}
 use Rattle.algebra.specs.Ring.{zero-add}
 use Rattle.algebra.specs.Series.{S4}
-use Rattle.algebra.specs.Four.{Exponents, _⊞_, _≼_, D4}
+use Rattle.algebra.specs.Four.{Exponents, _⊞_, _≼_}
 use Rattle.algebra.specs.Field.{domain}
-use Rattle.algebra.specs.Monomial.{Term, polynomial-fin}
+use Rattle.algebra.specs.Monomial.{Term}
 use Rattle.algebra.specs.Division.{stop, Division}
 use Rattle.algebra.specs.DivisionLaws.{division-says}
 use Rattle.field.specs.Fp.{Fp, el, inv, mul}
@@ -27,7 +27,7 @@ use Rattle.poly.specs.Image.{Divides}
 use Rattle.poly.specs.Laws.KeyDifference.{at-most-says, at-most-of, exponents-difference}
 use Rattle.poly.specs.Lists.{Falling}
 use Rattle.poly.specs.Laws.Falling.{falling-keys}
-use Rattle.poly.specs.Laws.Terms.{poly-lead}
+use Rattle.poly.specs.Laws.Terms.{poly-finite, poly-lead}
 use Rattle.poly.specs.Laws.GreatestExponents.{most-exponents, sizes}
 use Rattle.poly.specs.Laws.Dense.{Reduced, dense, dense-zero}
 use Rattle.poly.specs.Laws.Spread.{spread-length, spread-reduced, spread-dense}
@@ -36,10 +36,6 @@ use Rattle.poly.specs.Laws.DivisionModel.{model-division}
 use Rattle.poly.specs.Models.Cells.{past-end}
 use Rattle.poly.specs.Models.Spread.{spread}
 use Rattle.poly.specs.Models.Division.{most-of, most-key, at-most, setting, divided, found}
-
--- a list means a polynomial
-pub poly-finite : (p : ℕ) (P : Prime p) (ts : List ℕ) → D4 (Modulo p P .ring) (domain (Modulo p P)) .P (poly p P ts)
-poly-finite p P ts = polynomial-fin (Modulo p P .ring) (domain (Modulo p P)) (λ c. tt) (terms-of p P ts)
 
 -- cells, one for each key, that are 0
 pub record Empty (l : List ℕ) : Type 0 where

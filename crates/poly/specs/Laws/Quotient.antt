@@ -26,8 +26,7 @@ use Rattle.poly.specs.Quotient.{QuotientCall, quotient-table, IsQuotient
 use Rattle.poly.specs.TrialDivision.{CanDivide}
 use Rattle.poly.specs.Laws.RightLists.{lists-are-right}
 use Rattle.poly.specs.Models.WorkRoom.{of-rooms}
-use Rattle.poly.specs.Laws.Terms.{poly-lead, right-lists-equal}
-use Rattle.poly.specs.Laws.DivisionEnds.{poly-finite}
+use Rattle.poly.specs.Laws.Terms.{poly-finite, poly-lead, right-lists-equal}
 
 module _ (p : ℕ) (P : Prime p) where
   quotient-divides : (f g qs : List ℕ) → IsQuotient p P f g qs → Divides (Modulo p P) (poly p P g) (poly p P f)
