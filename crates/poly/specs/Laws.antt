@@ -1,4 +1,5 @@
 -- Laws of the definitions and models of this layer, each file one subject.
+pub mod Places
 pub mod Keys
 pub mod Value
 pub mod Lists

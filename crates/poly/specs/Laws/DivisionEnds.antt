@@ -29,7 +29,7 @@ use Rattle.poly.specs.Lists.{Falling}
 use Rattle.poly.specs.Laws.Falling.{falling-keys}
 use Rattle.poly.specs.Laws.Terms.{poly-finite, poly-lead}
 use Rattle.poly.specs.Laws.GreatestExponents.{most-exponents, sizes}
-use Rattle.poly.specs.Laws.Dense.{Reduced, dense, dense-zero}
+use Rattle.poly.specs.Laws.Dense.{Reduced, zeros-reduced, dense, dense-zero}
 use Rattle.poly.specs.Laws.Spread.{spread-length, spread-reduced, spread-dense}
 use Rattle.poly.specs.Laws.DivisionSteps.{found-few}
 use Rattle.poly.specs.Laws.DivisionModel.{model-division}
@@ -65,7 +65,7 @@ module _ (p : ℕ) (P : Prime p) (f : List ℕ) (hf : Falling p keys f) (l : Lis
   enough = subst (λ (n : ℕ). keys ≤ n) (sym (empty .long)) (omega arith)
 
   begun-reduced : Reduced p (spread f l)
-  begun-reduced = spread-reduced p P f l keys hf enough (λ i. subst (λ (n : ℕ). n < p) (sym (empty .zeros i)) (prime-positive P))
+  begun-reduced = spread-reduced p P f l keys hf (zeros-reduced p l (prime-positive P) (empty .zeros))
 
   begun-means : dense p P (spread f l) ≡ poly p P f
   begun-means =

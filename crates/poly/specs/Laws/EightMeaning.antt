@@ -24,7 +24,8 @@ use Rattle.field.specs.Link.{minus-times-el}
 use Rattle.poly.specs.Coefficients.{Eight, series}
 use Rattle.poly.specs.Models.Cells.{cells, cells-at, cells-past, past-end}
 use Rattle.poly.specs.Models.Eight.{size, scaled, monic, less-at, subtract, remainder, euclid, gcd}
-use Rattle.poly.specs.Laws.EightNumbers.{Clear, Leads, eight-clear, size-clear, size-lead, size-below, size-le, size-is, scaled-eight, less-low, less-high, subtract-eight, remainder-eight, remainder-clear}
+use Rattle.poly.specs.Laws.Places.{Clear}
+use Rattle.poly.specs.Laws.EightNumbers.{Leads, eight-clear, size-clear, size-lead, size-below, size-le, size-is, scaled-eight, less-low, less-high, subtract-eight, remainder-eight, remainder-clear}
 
 pub clear-ends : (p : ℕ) (h : 0 < p) (n : ℕ) (f : List ℕ) → Clear n f → Ends (Residues p h) n (series p f)
 clear-ends p h n f c i l = ap (λ (x : ℕ). el p x) (c i l)

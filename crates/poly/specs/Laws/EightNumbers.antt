@@ -8,12 +8,9 @@ use native.Mathlib.Omega.{arith}
 use borrow.Author.Tests.{eq-eqb, ne-eqb, lt-ltb, le-ltb}
 use lib.ListN.{getD}
 use Rattle.poly.specs.Coefficients.{Eight}
-use Rattle.poly.specs.Models.Cells.{cells, cells-length, cells-at, cells-past, past-end}
+use Rattle.poly.specs.Models.Cells.{cells, cells-length, cells-all, past-end}
+use Rattle.poly.specs.Laws.Places.{Clear, clear-one-less}
 use Rattle.poly.specs.Models.Eight.{size-to, scaled, less-at, subtract, remainder}
-
--- zeros from n on
-abbrev pub Clear : ℕ → List ℕ → Type 0
-Clear n f = (i : ℕ) → n ≤ i → getD f i 0 ≡ 0
 
 -- the highest number is 1, and stands at n
 pub record Leads (n : ℕ) (f : List ℕ) : Type 0 where
@@ -28,9 +25,6 @@ size-to-zero n f e = rw (eq-eqb (getD f n 0) 0 e, size-to)
 size-to-here : (n : ℕ) (f : List ℕ) → ¬ (getD f n 0 ≡ 0) → size-to (suc n) f ≡ suc n
 unfolding size-to
 size-to-here n f q = rw (ne-eqb (getD f n 0) 0 q, size-to)
-
-pub clear-one-less : (n : ℕ) (f : List ℕ) → getD f n 0 ≡ 0 → Clear (suc n) f → Clear n f
-clear-one-less n f e h i l = elim (ℕ-discrete i n) [ yes q ↦ ap (λ (k : ℕ). getD f k 0) q ∙ e | no q ↦ h i (omega arith) ]
 
 -- a list is clear from its size on
 pub size-clear : (n : ℕ) (f : List ℕ) → Clear n f → Clear (size-to n f) f
@@ -85,21 +79,12 @@ pub eight-clear : (p : ℕ) (f : List ℕ) → Eight p f → Clear 8 f
 eight-clear p f h i l = past-end 8 i f (h .eight) l
 
 module _ (p : ℕ) (pos : 0 < p) where
-  cells-below : (h : ℕ → ℕ) → ((i : ℕ) → i < 8 → h i < p) → Eight p (cells h 8)
-  cells-below h s =
-      record {
-        eight = cells-length h 8;
-        below =
-            λ i.
-            elim (decLt i 8) [
-              | yes l ↦ subst (λ (n : ℕ). n < p) (sym (cells-at h 8 i l)) (s i l)
-              | no l ↦ subst (λ (n : ℕ). n < p) (sym (cells-past h 8 i (omega arith))) pos
-            ];
-      }
+  pub cells-eight : (h : ℕ → ℕ) → ((i : ℕ) → i < 8 → h i < p) → Eight p (cells h 8)
+  cells-eight h s = record { eight = cells-length h 8; below = λ i. cells-all (λ n. n < p) h 8 i (s i) (λ l. pos) }
 
   pub scaled-eight : (c : ℕ) (f : List ℕ) → Eight p (scaled p c f)
   unfolding scaled
-  scaled-eight c f = cells-below _ (λ i l. mod-lt _ pos)
+  scaled-eight c f = cells-eight _ (λ i l. mod-lt _ pos)
 
   pub less-low : (c k : ℕ) (f g : List ℕ) (i : ℕ) → i < k → less-at p c k f g i ≡ getD f i 0
   unfolding less-at
@@ -112,7 +97,7 @@ module _ (p : ℕ) (pos : 0 < p) where
   pub subtract-eight : (c k : ℕ) (f g : List ℕ) → Eight p f → Eight p (subtract p c k f g)
   unfolding subtract
   subtract-eight c k f g h =
-      cells-below (less-at p c k f g)
+      cells-eight (less-at p c k f g)
       (λ i l.
       elim (decLt i k) [
         | yes b ↦ subst (λ (n : ℕ). n < p) (sym (less-low c k f g i b)) (h .below i)
@@ -124,10 +109,7 @@ module _ (p : ℕ) (pos : 0 < p) where
       → Clear (k + m) (subtract p (getD f (k + m) 0) k f g)
   unfolding subtract
   subtract-clear k m f g h cf g1 cg i l =
-      elim (decLt i 8) [
-        | yes b ↦ cells-at (less-at p c k f g) 8 i b ∙ less-high c k f g i (omega arith) ∙ value (ℕ-discrete i (k + m))
-        | no b ↦ cells-past (less-at p c k f g) 8 i (omega arith)
-      ]
+      cells-all (λ n. n ≡ 0) (less-at p c k f g) 8 i (λ b. less-high c k f g i (omega arith) ∙ value (ℕ-discrete i (k + m))) (λ b. refl)
     where
       c : ℕ
       c = getD f (k + m) 0

@@ -23,9 +23,10 @@ use Rattle.poly.specs.Laws.Keys.{key-order-of}
 use Rattle.poly.specs.Lists.{Falling}
 use Rattle.poly.specs.Laws.Falling.{falling-right}
 use Rattle.poly.specs.Laws.Terms.{poly-determines}
+use Rattle.poly.specs.Laws.Dense.{zeros-reduced}
 use Rattle.poly.specs.Laws.Spread.{key-of-term, coefficient-of-term, gather-falling, gather-dense}
 use Rattle.poly.specs.Laws.DivisionSteps.{found-passed, found-taken, found-stopped}
-use Rattle.poly.specs.Laws.QuotientCells.{Stored, nothing-stored, zeros-reduced, quotient-stored, stored-means}
+use Rattle.poly.specs.Laws.QuotientCells.{Stored, nothing-stored, quotient-stored, stored-means}
 use Rattle.poly.specs.Laws.DivisionEnds.{Empty, no-cells, no-cells-empty, divided-division}
 use Rattle.poly.specs.Models.Cells.{past-end}
 use Rattle.poly.specs.Models.Spread.{spread, gathered}
@@ -93,7 +94,7 @@ module _ (p : ℕ) (P : Prime p) (word : p ≤ base) (f g : List ℕ) (sf : 0 < 
     where
       go : (a : Bool) → at-most (most-key g) (most-key f) ≡ a → Stored p P keys c (divided p f g l c .quotient) (found p f g l)
       go true e = rw (e, found, divided) (quotient-stored (setting p f g) P word keys (spread f l) c (free .long) (free .zeros))
-      go false e = rw (e, found, divided) (nothing-stored p P keys c (free .long) (zeros-reduced p P keys c (free .zeros)))
+      go false e = rw (e, found, divided) (nothing-stored p P keys c (free .long) (zeros-reduced p c (prime-positive P) (free .zeros)))
 
   -- hold the terms found, and no other
   pub gathered-found : gathered keys (divided p f g l c .quotient) ≡ found p f g l

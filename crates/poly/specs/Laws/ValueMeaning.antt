@@ -19,6 +19,7 @@ use Rattle.poly.specs.Value.{Point, number-at, value}
 use Rattle.poly.specs.Coefficients.{series}
 use Rattle.poly.specs.Models.Powers.{powers}
 use Rattle.poly.specs.Models.Value.{plus-term, value-from, value-of}
+use Rattle.poly.specs.Laws.Places.{replicate-all}
 use Rattle.poly.specs.Laws.Powers.{powers-el}
 
 module _ (p : ℕ) (P : Prime p) (y z w : ℕ) where
@@ -84,9 +85,4 @@ module _ (p : ℕ) (P : Prime p) (y z w : ℕ) where
       → series p (value-of p ys zs ws ts) ≡ value R (terms-of p P ts) at-numbers
   unfolding value-of
   value-of-series ts h = fun-ext λ i.
-      from-series ts (replicate 8 0) refl h i ∙ ap (λ (n : ℕ). add (el p n) (value R (terms-of p P ts) at-numbers i)) (nought 8 i) ∙ zero-add R _
-    where
-      nought : (n i : ℕ) → _≡_ {A = ℕ} (getD (replicate n 0) i 0) 0
-      nought zero i = refl
-      nought (suc n) zero = refl
-      nought (suc n) (suc i) = nought n i
+      from-series ts (replicate 8 0) refl h i ∙ ap (λ (n : ℕ). add (el p n) (value R (terms-of p P ts) at-numbers i)) (replicate-all (λ n. n ≡ 0) 8 i 0 0 refl refl) ∙ zero-add R _
