@@ -13,6 +13,7 @@ pub mod Powers
 pub mod EightNumbers
 pub mod EightMeaning
 pub mod EightTurns
+pub mod EuclidMeaning
 pub mod ValueModel
 pub mod ValueMeaning
 pub mod KeyDifference

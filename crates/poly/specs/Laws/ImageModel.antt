@@ -27,7 +27,8 @@ use Rattle.poly.specs.Models.Eight.{size, gcd}
 use Rattle.poly.specs.Models.Image.{value-at, image-record, image-of-values, image-of}
 use Rattle.poly.specs.Laws.Powers.{powers-eight}
 use Rattle.poly.specs.Laws.EightNumbers.{eight-clear, size-clear, size-le}
-use Rattle.poly.specs.Laws.EightMeaning.{clear-ends, IsGcd, gcd-is-gcd, gcd-nonzero}
+use Rattle.poly.specs.Laws.EightMeaning.{clear-ends}
+use Rattle.poly.specs.Laws.EuclidMeaning.{IsGcd, gcd-is-gcd, gcd-nonzero}
 use Rattle.poly.specs.Laws.ValueModel.{value-of-eight}
 use Rattle.poly.specs.Laws.ValueMeaning.{value-of-series}
 use Rattle.poly.specs.Laws.RightLists.{falling-key, falling-coefficient, RightList}
@@ -48,8 +49,7 @@ size-positive p x a h n =
 
 pub gcd-positive : {p : ℕ} (P : Prime p) (x : ℕ) (a b : List ℕ) → Eight p a → Eight p b → ¬ (getD a x 0 ≡ 0) → 0 < size (gcd p a b)
 gcd-positive {p} P x a b ha hb n =
-    let filled : ¬ (size a ≡ 0) = λ e. omega (arith, size-positive p x a ha n) in
-    omega (arith, gcd-nonzero P a b ha filled hb)
+    gcd-nonzero P a b ha (λ e. omega (arith, size-positive p x a ha n)) hb
 
 -- with the tables that the code has worked
 module _ (p : ℕ) (point ys zs ws : List ℕ) (y : ys ≡ powers p (getD point 0 0)) (z : zs ≡ powers p (getD point 1 0)) (w : ws ≡ powers p (getD point 2 0)) where
