@@ -21,6 +21,7 @@ pub mod GreatestExponents
 pub mod Dense
 pub mod Spread
 pub mod DivisionSteps
+pub mod Fitting
 pub mod DivisionModel
 pub mod QuotientCells
 pub mod Falling
