@@ -4,7 +4,7 @@ use mathlib.Core.List.{List, [], _∷_}
 use Prim.Native.Nat.{ℕ, suc, _≤_, _<_}
 use native.Mathlib.Decide.{decLt}
 use native.Mathlib.Omega.{arith}
-use Rattle.algebra.specs.Ring.{CommRing, add-cancel}
+use Rattle.algebra.specs.Ring.{CommRing, zero-add, add-cancel}
 use Rattle.algebra.specs.Series.{S4}
 use Rattle.algebra.specs.Four.{Exponents, _≺_, coef, D4}
 use Rattle.algebra.specs.Lead.{Lead}
@@ -34,7 +34,8 @@ module _ (p : ℕ) (P : Prime p) where
   poly-finite ts = polynomial-finite (Modulo p P) (terms-of p P ts)
 
   -- no coefficient where no key below b stands
-  poly-none : (ts : List ℕ) (b : ℕ) (e : Exponents) → Falling p b ts → ((k : ℕ) → k < b → ¬ (exponents k ≡ e)) → coef R (poly p P ts) e ≡ el p 0
+  poly-none : (ts : List ℕ) (b : ℕ) (e : Exponents) → Falling p b ts → ((k : ℕ) → k < b → ¬ (exponents k ≡ e))
+      → coef R (poly p P ts) e ≡ el p 0
   unfolding polynomial
   poly-none [] b e h n = refl
   poly-none (t ∷ ts) b e h n =
@@ -51,6 +52,14 @@ module _ (p : ℕ) (P : Prime p) where
   poly-head t ts h =
       ap₂ (R .add) (monomial-at R (exponents (key-of t)) (el p (coefficient-of t))) (poly-above ts (key-of t) (key-of t) h (omega arith))
       ∙ R .add-zero _
+
+  -- at another key than the first term's, the coefficient of the rest
+  pub poly-rest : (t : ℕ) (ts : List ℕ) (k : ℕ) → ¬ (key-of t ≡ k) → coef R (poly p P (t ∷ ts)) (exponents k) ≡ coef R (poly p P ts) (exponents k)
+  unfolding polynomial
+  poly-rest t ts k n =
+      ap (λ (c : R .Car). R .add c (coef R (poly p P ts) (exponents k)))
+      (monomial-off R (exponents (key-of t)) (exponents k) (el p (coefficient-of t)) (λ q. n (exponents-injective (key-of t) k q)))
+      ∙ zero-add R _
 
   -- the first term is the leading term
   pub poly-lead : (t : ℕ) (ts : List ℕ) (b : ℕ) → Falling p b (t ∷ ts) → Lead R (exponents (key-of t)) (poly p P (t ∷ ts))
@@ -92,6 +101,7 @@ module _ (p : ℕ) (P : Prime p) where
           (e ∙ ap (λ (i : ℕ). S4 R .add (term R (term-of p P i)) (poly p P us)) (sym s))))
 
   -- the same of lists that pass the check of their terms
-  pub right-lists-equal : (ts us : List ℕ) → ((i : ℕ) → ¬ WrongModulo p ts i) → ((i : ℕ) → ¬ WrongModulo p us i) → poly p P ts ≡ poly p P us → ts ≡ us
+  pub right-lists-equal : (ts us : List ℕ) → ((i : ℕ) → ¬ WrongModulo p ts i) → ((i : ℕ) → ¬ WrongModulo p us i)
+      → poly p P ts ≡ poly p P us → ts ≡ us
   right-lists-equal ts us h k e =
       poly-determines ts us keys keys (terms-fall p ts (λ i w. h i (w .0))) (terms-fall p us (λ i w. k i (w .0))) e

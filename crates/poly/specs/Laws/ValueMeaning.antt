@@ -56,33 +56,33 @@ module _ (p : ℕ) (P : Prime p) (y z w : ℕ) where
       (powers-el p h z (k / 8 % 8) (omega arith)))
       (powers-el p h w (k % 8) (omega arith)))
 
-  from-series : (ts r : List ℕ) → length r ≡ 8 → ((j : ℕ) → j < length ts → key-of (getD ts j 0) < keys) → (i : ℕ)
+  -- a number stored at the power x adds a monomial
+  set-series : (r : List ℕ) (x v : ℕ) (n : Fp p) → x < length r → el p v ≡ add (series p r x) n → (i : ℕ)
+      → series p (set r x v) i ≡ add (series p r i) (mono R x n i)
+  set-series r x v n b e i = go (ℕ-discrete x i)
+    where
+      go : Dec (x ≡ i) → series p (set r x v) i ≡ add (series p r i) (mono R x n i)
+      go (yes q) =
+          ap (series p (set r x v)) (sym q) ∙ ap (el p) (getD-set-same r x v 0 b) ∙ e ∙ ap (add (series p r x)) (sym (mono-at R x n))
+          ∙ ap (λ (j : ℕ). add (series p r j) (mono R x n j)) q
+      go (no q) = ap (el p) (getD-set-other r x i v 0 (λ s. q (sym s))) ∙ sym (ap (add (series p r i)) (mono-off R x n i q) ∙ R .add-zero _)
+
+  value-from-series : (ts r : List ℕ) → length r ≡ 8 → ((j : ℕ) → j < length ts → key-of (getD ts j 0) < keys) → (i : ℕ)
       → series p (value-from p ys zs ws ts r) i ≡ add (series p r i) (value R (terms-of p P ts) at-numbers i)
   unfolding value-from value
-  from-series [] r e h i = sym (R .add-zero (series p r i))
-  from-series (t ∷ ts) r e h i =
+  value-from-series [] r e h i = sym (R .add-zero (series p r i))
+  value-from-series (t ∷ ts) r e h i =
       let x = exponents (key-of t) .x in
       let v = plus-term p ys zs ws t (getD r x 0) in
-      from-series ts (set r x v) (length-set r x v ∙ e) (λ j l. h (suc j) (omega arith)) i
-      ∙ ap (λ (u : Fp p). add u (value R (terms-of p P ts) at-numbers i)) (go (ℕ-discrete x i) (h zero (omega arith)))
+      let b : x < length r = let k : key-of t < keys = h zero (omega arith) in omega arith in
+      value-from-series ts (set r x v) (length-set r x v ∙ e) (λ j l. h (suc j) (omega arith)) i
+      ∙ ap (λ (u : Fp p). add u (value R (terms-of p P ts) at-numbers i))
+      (set-series r x v (number-at R at-numbers (term-of p P t)) b (term-el t (getD r x 0)) i)
       ∙ R .add-assoc _ _ _
-    where
-      go : Dec (key-of t / 512 ≡ i) → key-of t < keys
-          → series p (set r (key-of t / 512) (plus-term p ys zs ws t (getD r (key-of t / 512) 0))) i
-          ≡ add (series p r i) (mono R (key-of t / 512) (number-at R at-numbers (term-of p P t)) i)
-      go (yes q) k =
-          ap (λ (j : ℕ). series p (set r (key-of t / 512) (plus-term p ys zs ws t (getD r (key-of t / 512) 0))) j) (sym q)
-          ∙ ap (el p) (getD-set-same r (key-of t / 512) (plus-term p ys zs ws t (getD r (key-of t / 512) 0)) 0 (omega arith))
-          ∙ term-el t (getD r (key-of t / 512) 0)
-          ∙ ap (add (series p r (key-of t / 512))) (sym (mono-at R (key-of t / 512) (number-at R at-numbers (term-of p P t))))
-          ∙ ap (λ (j : ℕ). add (series p r j) (mono R (key-of t / 512) (number-at R at-numbers (term-of p P t)) j)) q
-      go (no q) k =
-          ap (el p) (getD-set-other r (key-of t / 512) i (plus-term p ys zs ws t (getD r (key-of t / 512) 0)) 0 (λ s. q (sym s)))
-          ∙ sym (ap (add (series p r i)) (mono-off R (key-of t / 512) _ i q) ∙ R .add-zero _)
 
   -- the numbers that the code sums up are the coefficients of the value
   pub value-of-series : (ts : List ℕ) → ((j : ℕ) → j < length ts → key-of (getD ts j 0) < keys)
       → series p (value-of p ys zs ws ts) ≡ value R (terms-of p P ts) at-numbers
   unfolding value-of
   value-of-series ts h = fun-ext λ i.
-      from-series ts (replicate 8 0) refl h i ∙ ap (λ (n : ℕ). add (el p n) (value R (terms-of p P ts) at-numbers i)) (replicate-all (λ n. n ≡ 0) 8 i 0 0 refl refl) ∙ zero-add R _
+      value-from-series ts (replicate 8 0) refl h i ∙ ap (λ (n : ℕ). add (el p n) (value R (terms-of p P ts) at-numbers i)) (replicate-all (λ n. n ≡ 0) 8 i 0 0 refl refl) ∙ zero-add R _
