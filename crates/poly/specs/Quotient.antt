@@ -50,7 +50,8 @@ pub data Quotient (c : QuotientCall) : QuotientResult → Type 0 where
   refused : (f : Fault) → Refuses (quotient-table c) f
       → Quotient c (record { found = record { fault = f; terms = 0 }; output = c .output; work = c .work })
   no-quotient : Passes (quotient-table c) → (listed : Listed (c .modulus))
-      → ¬ Divides (Modulo (c .modulus) (listed-prime listed)) (poly (c .modulus) (listed-prime listed) (c .second-list)) (poly (c .modulus) (listed-prime listed) (c .first-list))
+      → ¬ Divides (Modulo (c .modulus) (listed-prime listed)) (poly (c .modulus) (listed-prime listed) (c .second-list))
+      (poly (c .modulus) (listed-prime listed) (c .first-list))
       → Quotient c (record { found = record { fault = fault DOES_NOT_DIVIDE 0; terms = 0 }; output = c .output; work = cleared (c .work) })
   quotient : Passes (quotient-table c) → (listed : Listed (c .modulus)) (qs : List ℕ)
       → IsQuotient (c .modulus) (listed-prime listed) (c .first-list) (c .second-list) qs

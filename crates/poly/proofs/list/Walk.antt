@@ -29,7 +29,8 @@ module _ (bound : ℕ) (ts : List ℕ) where
   walk-ends before i h l = search-ends (h .searching) l
 
   -- at the term with the key k and the coefficient c
-  module _ (before i : ℕ) (h : Walked bound ts before i) (l : i < length ts) (k c : ℕ) (ek : k ≡ key-of (getD ts i 0)) (ec : c ≡ coefficient-of (getD ts i 0)) where
+  module _ (before i : ℕ) (h : Walked bound ts before i) (l : i < length ts) (k c : ℕ) (ek : k ≡ key-of (getD ts i 0))
+      (ec : c ≡ coefficient-of (getD ts i 0)) where
     wrong-by : (x y z : Bool) → ltb k before ≡ x → ltb 0 c ≡ y → ltb c bound ≡ z → (x && (y && z)) ≡ false → WrongModulo bound ts i
     wrong-by false y z ex ey ez e = key-is-wrong bound ts i l (omega (arith, h .key, ltb-false k before ex))
     wrong-by true false z ex ey ez e = wrong-term (coefficient-zero l (omega (arith, ltb-false 0 c ey)))

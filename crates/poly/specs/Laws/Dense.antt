@@ -71,7 +71,8 @@ module _ (p : ℕ) (P : Prime p) where
       ∙ ap₂ add (monomial-at R (exponents k) (el p c)) (dense-from-none (suc k) l (exponents k) (λ i h r. let s = exponents-injective i k r in omega arith))
       ∙ R .add-zero _
   dense-from-at k (c ∷ l) (suc i) j e =
-      ap₂ add (monomial-off R (exponents k) (exponents j) (el p c) (λ r. let s = exponents-injective k j r in omega arith)) (dense-from-at (suc k) l i j (omega arith))
+      ap₂ add (monomial-off R (exponents k) (exponents j) (el p c) (λ r. let s = exponents-injective k j r in omega arith))
+      (dense-from-at (suc k) l i j (omega arith))
       ∙ zero-add R _
 
   -- the coefficient at a key is the cell
@@ -88,12 +89,14 @@ module _ (p : ℕ) (P : Prime p) where
   dense-from-set k (c ∷ l) zero v j e h =
       let q : k ≡ j = omega arith in
       ap (λ (f : S4 R .Car). S4 R .add f (dense-from (suc k) l)) (grown (el p c) (el p v) (exponents k))
-      ∙ ring3 (S4 R) (λ a b c. (a ⊕ b) ⊕ c ≗ (a ⊕ c) ⊕ b) tt (monomial R (exponents k) (el p c)) (monomial R (exponents k) (add (el p v) (neg (el p c)))) (dense-from (suc k) l)
+      ∙ ring3 (S4 R) (λ a b c. (a ⊕ b) ⊕ c ≗ (a ⊕ c) ⊕ b) tt (monomial R (exponents k) (el p c))
+      (monomial R (exponents k) (add (el p v) (neg (el p c)))) (dense-from (suc k) l)
       ∙ ap (λ (n : ℕ). S4 R .add (dense-from k (c ∷ l)) (monomial R (exponents n) (add (el p v) (neg (el p c))))) q
   dense-from-set k (c ∷ l) (suc i) v j e h =
       ap (S4 R .add (monomial R (exponents k) (el p c))) (dense-from-set (suc k) l i v j (omega arith) (omega arith)) ∙ sym (S4 R .add-assoc _ _ _)
 
-  pub dense-set : (l : List ℕ) (k v : ℕ) → k < length l → dense (set l k v) ≡ S4 R .add (dense l) (monomial R (exponents k) (add (el p v) (neg (el p (getD l k 0)))))
+  pub dense-set : (l : List ℕ) (k v : ℕ) → k < length l
+      → dense (set l k v) ≡ S4 R .add (dense l) (monomial R (exponents k) (add (el p v) (neg (el p (getD l k 0)))))
   dense-set l k v h = dense-from-set 0 l k v k (omega arith) h
 
   -- a number stored where 0 stood
@@ -120,7 +123,9 @@ module _ (p : ℕ) (P : Prime p) where
   dense-from-upto k m (c ∷ l) h e o = ap₂ add (go (decLt m k)) (dense-from-upto (suc k) m l (λ i q. h (suc i) (omega arith)) e o) ∙ R .add-zero _
     where
       go : Dec (m < k) → coef R (monomial R (exponents k) (el p c)) e ≡ el p 0
-      go (yes q) = ap (λ (n : ℕ). coef R (monomial R (exponents k) (el p n)) e) (h 0 (omega arith)) ∙ ap (λ (f : S4 R .Car). coef R f e) (monomial-zero R (exponents k))
+      go (yes q) =
+          ap (λ (n : ℕ). coef R (monomial R (exponents k) (el p n)) e) (h 0 (omega arith))
+          ∙ ap (λ (f : S4 R .Car). coef R f e) (monomial-zero R (exponents k))
       go (no q) = monomial-off R (exponents k) e (el p c)
           (λ r. let s = key-order-of m k (subst (λ (i : Exponents). exponents m ≺ i) (sym r) o) in omega arith)
 

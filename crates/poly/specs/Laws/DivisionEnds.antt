@@ -111,7 +111,8 @@ module _ (p : ℕ) (P : Prime p) (t : ℕ) (ts : List ℕ) (u : ℕ) (us : List 
 
   -- the division on cells goes by the rule, and finds its terms
   lists-division : p ≤ base → (l c : List ℕ) → Empty l
-      → Division (Modulo p P .ring) (poly p P (t ∷ ts)) (poly p P (u ∷ us)) (terms-of p P (found p (t ∷ ts) (u ∷ us) l)) (divided p (t ∷ ts) (u ∷ us) l c .whole)
+      → Division (Modulo p P .ring) (poly p P (t ∷ ts)) (poly p P (u ∷ us)) (terms-of p P (found p (t ∷ ts) (u ∷ us) l))
+      (divided p (t ∷ ts) (u ∷ us) l c .whole)
   lists-division word l c empty =
       by-lists p (t ∷ ts) (u ∷ us) l c (λ qs o. Division (Modulo p P .ring) (poly p P (t ∷ ts)) (poly p P (u ∷ us)) (terms-of p P qs) (o .whole)) too-wide
       (λ e.

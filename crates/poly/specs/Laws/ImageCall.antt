@@ -43,7 +43,9 @@ module _ (p : ℕ) (A B point : List ℕ) where
     image-answered z e =
         let pass = image-passes z in
         let right = lists-are-right p A B (image-fine pass .lists) in
-        rw e (answered pass (right .is-listed) (image-of p A B point) (image-of-answers (listed-prime (right .is-listed)) point A B (right .first) (right .second)))
+        rw e
+        (answered pass (right .is-listed) (image-of p A B point)
+        (image-of-answers (listed-prime (right .is-listed)) point A B (right .first) (right .second)))
 
 -- a point settles its answer
 pub point-determined : (p : ℕ) (P : Prime p) (A B : Polynomial (Modulo p P)) (at : Point (Modulo p P .ring)) (r q : ImageRecord)

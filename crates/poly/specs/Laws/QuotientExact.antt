@@ -77,4 +77,5 @@ module _ (c : QuotientCall) (h : Passes (quotient-table c)) where
         let same = gathered-terms long in
         rw (gathers .count ∙ ap length same, gathers .output ∙ ap (λ (qs : List ℕ). written qs (c .output)) same, room, e)
         (quotient h (can .is-listed) terms
-        (quotient-found p (listed-prime (can .is-listed)) f g (dividing can) (remainder-cells begun) (quotient-cells begun) begun-remainder begun-quotient (ap (λ (o : Outcome). o .whole) (sym (ran .outcome)) ∙ w)))
+        (quotient-found p (listed-prime (can .is-listed)) f g (dividing can) (remainder-cells begun) (quotient-cells begun) begun-remainder begun-quotient
+        (ap (λ (o : Outcome). o .whole) (sym (ran .outcome)) ∙ w)))

@@ -40,7 +40,8 @@ unfolding spread
 spread-above [] l i h = refl
 spread-above (t ∷ ts) l i h =
     let first : key-of t < i = h 0 (omega arith) in
-    spread-above ts (set l (key-of t) (coefficient-of t)) i (λ j b. h (suc j) (omega arith)) ∙ getD-set-other l (key-of t) i (coefficient-of t) 0 (λ e. omega arith)
+    spread-above ts (set l (key-of t) (coefficient-of t)) i (λ j b. h (suc j) (omega arith))
+    ∙ getD-set-other l (key-of t) i (coefficient-of t) 0 (λ e. omega arith)
 
 pub gather-passed : (k : ℕ) (l : List ℕ) → getD l k 0 ≡ 0 → gathered (suc k) l ≡ gathered k l
 unfolding gathered
@@ -58,7 +59,9 @@ gather-step k l m e h (no n) = gather-taken k l n ∙ ap₂ (λ (c : ℕ) (r : L
 gather-set : (k j v : ℕ) (l : List ℕ) → k ≤ j → gathered k (set l j v) ≡ gathered k l
 unfolding gathered
 gather-set zero j v l h = refl
-gather-set (suc k) j v l h = gather-step k (set l j v) l (getD-set-other l j k v 0 (λ e. omega arith)) (gather-set k j v l (omega arith)) (ℕ-discrete (getD (set l j v) k 0) 0)
+gather-set (suc k) j v l h =
+    gather-step k (set l j v) l (getD-set-other l j k v 0 (λ e. omega arith)) (gather-set k j v l (omega arith))
+    (ℕ-discrete (getD (set l j v) k 0) 0)
 
 module _ (p : ℕ) (P : Prime p) where
   abbrev R : CommRing
@@ -70,7 +73,8 @@ module _ (p : ℕ) (P : Prime p) where
   spread-reduced (t ∷ ts) l b h red =
       spread-reduced ts (set l (key-of t) (coefficient-of t)) (key-of t) (h .3) (set-reduced p l (key-of t) (coefficient-of t) (h .2) red)
 
-  pub spread-dense : (ts l : List ℕ) (b : ℕ) → Falling p b ts → b ≤ length l → ((i : ℕ) → i < b → getD l i 0 ≡ 0) → dense p P (spread ts l) ≡ S4 R .add (dense p P l) (poly p P ts)
+  pub spread-dense : (ts l : List ℕ) (b : ℕ) → Falling p b ts → b ≤ length l → ((i : ℕ) → i < b → getD l i 0 ≡ 0)
+      → dense p P (spread ts l) ≡ S4 R .add (dense p P l) (poly p P ts)
   unfolding spread polynomial
   spread-dense [] l b h m z = sym (S4 R .add-zero (dense p P l))
   spread-dense (t ∷ ts) l b h m z =

@@ -85,4 +85,5 @@ module _ (p : ℕ) (P : Prime p) (y z w : ℕ) where
       → series p (value-of p ys zs ws ts) ≡ value R (terms-of p P ts) at-numbers
   unfolding value-of
   value-of-series ts h = fun-ext λ i.
-      value-from-series ts (replicate 8 0) refl h i ∙ ap (λ (n : ℕ). add (el p n) (value R (terms-of p P ts) at-numbers i)) (replicate-all (λ n. n ≡ 0) 8 i 0 0 refl refl) ∙ zero-add R _
+      value-from-series ts (replicate 8 0) refl h i
+      ∙ ap (λ (n : ℕ). add (el p n) (value R (terms-of p P ts) at-numbers i)) (replicate-all (λ n. n ≡ 0) 8 i 0 0 refl refl) ∙ zero-add R _

@@ -43,10 +43,14 @@ module _ (c : tie.After-powers3) where
   ws = c .powers3 .result
 
   ready : (ts : List ℕ) → RightList p ts → Ready p ys zs ws ts
-  ready = tables-ready p point ys zs ws (c .before .before .before .before .powers .ensures) (c .before .before .powers2 .ensures) (c .powers3 .ensures) (above start)
+  ready =
+      tables-ready p point ys zs ws (c .before .before .before .before .powers .ensures) (c .before .before .powers2 .ensures) (c .powers3 .ensures)
+      (above start)
 
   worked : (ts : List ℕ) {r : List ℕ} → r ≡ value-of p ys zs ws ts → r ≡ value-at p point ts
-  worked ts e = e ∙ value-by-tables p point ys zs ws (c .before .before .before .before .powers .ensures) (c .before .before .powers2 .ensures) (c .powers3 .ensures) ts
+  worked ts e =
+      e
+      ∙ value-by-tables p point ys zs ws (c .before .before .before .before .powers .ensures) (c .before .before .powers2 .ensures) (c .powers3 .ensures) ts
 
   in-range : (ts : List ℕ) {r : List ℕ} → r ≡ value-of p ys zs ws ts → Eight p r
   in-range ts e = subst (Eight p) (sym (worked ts e)) (value-at-eight (listed-prime (right start .is-listed)) point ts)
