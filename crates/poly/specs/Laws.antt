@@ -5,6 +5,7 @@ pub mod Value
 pub mod Lists
 pub mod Search
 pub mod ListCheck
+pub mod Falling
 pub mod RightLists
 pub mod LeadingPart
 pub mod PointCheck
@@ -24,7 +25,6 @@ pub mod DivisionSteps
 pub mod Fitting
 pub mod DivisionModel
 pub mod QuotientCells
-pub mod Falling
 pub mod DivisionEnds
 pub mod QuotientFound
 pub mod Quotient

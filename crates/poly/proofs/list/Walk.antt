@@ -40,7 +40,7 @@ module _ (bound : ℕ) (ts : List ℕ) where
     term-right : (ltb k before && (ltb 0 c && ltb c bound)) ≡ true → ¬ WrongModulo bound ts i
     term-right e =
         let coefficient = and-elim-right (ltb k before) _ e in
-        term-is-right bound ts i l (omega (arith, h .key, h .in-range)) (omega (arith, h .key, ltb-true k before (and-elim-left _ _ e)))
+        term-is-right bound ts i (omega (arith, h .key, h .in-range)) (omega (arith, h .key, ltb-true k before (and-elim-left _ _ e)))
         (omega (arith, ltb-true 0 c (and-elim-left _ _ coefficient)))
         (omega (arith, ltb-true c bound (and-elim-right (ltb 0 c) _ coefficient)))
 

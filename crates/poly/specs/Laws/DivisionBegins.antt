@@ -18,8 +18,7 @@ use Rattle.poly.specs.Terms.{key-of, coefficient-of, poly}
 use Rattle.poly.specs.Image.{Divides}
 use Rattle.poly.specs.Room.{work-room, zeroed, cleared}
 use Rattle.poly.specs.TrialDivision.{CanDivide}
-use Rattle.poly.specs.Laws.RightLists.{falling-coefficient}
-use Rattle.poly.specs.Laws.Falling.{falling-keys, falling-first, falling-positive}
+use Rattle.poly.specs.Laws.Falling.{falling-coefficient, falling-keys, falling-first, falling-positive}
 use Rattle.poly.specs.Laws.Room.{zeroed-length, zeroed-at, zeroed-beyond, zeroed-same}
 use Rattle.poly.specs.Laws.Spread.{spread-length, spread-above}
 use Rattle.poly.specs.Laws.WorkRoom.{take-spread, drop-spread, same-quotient-cells, same-beyond, remainder-empty}

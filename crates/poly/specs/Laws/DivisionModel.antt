@@ -44,13 +44,13 @@ module _ (p : ℕ) (P : Prime p) (word : p ≤ base) (t : ℕ) (ts : List ℕ) (
   abbrev R : CommRing
   R = Modulo p P .ring
 
-  abbrev F : S4 (Modulo p P .ring) .Car
+  abbrev F : S4 R .Car
   F = poly p P (t ∷ ts)
 
-  abbrev G : S4 (Modulo p P .ring) .Car
+  abbrev G : S4 R .Car
   G = poly p P (u ∷ us)
 
-  abbrev S : Sizes (Modulo p P .ring) F G
+  abbrev S : Sizes R F G
   S = sizes p P t ts u us hf hg
 
   abbrev d : Setting
@@ -162,8 +162,8 @@ module _ (p : ℕ) (P : Prime p) (word : p ≤ base) (t : ℕ) (ts : List ℕ) (
       (λ k l c n f long red z. stop-cell k l long red z n f)
 
   -- the division of the cells that mean f
-  pub model-division : (l c : List ℕ) → length l ≡ keys → Reduced p l → dense p P l ≡ poly p P (t ∷ ts)
-      → Division (Modulo p P .ring) (poly p P (t ∷ ts)) (poly p P (u ∷ us)) (terms-of p P (found-from d keys l)) (divide-from d keys l c .whole)
+  pub model-division : (l c : List ℕ) → length l ≡ keys → Reduced p l → dense p P l ≡ F
+      → Division R F G (terms-of p P (found-from d keys l)) (divide-from d keys l c .whole)
   unfolding Run
   model-division l c long red e =
       record {

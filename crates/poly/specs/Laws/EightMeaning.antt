@@ -62,10 +62,10 @@ module _ {p : ℕ} (P : Prime p) where
       below : (i : ℕ) → el p (less-at p c k f g i) ≡ less (Modulo p P) k (el p c) (series p f) (series p g) i
       below i =
           elim (decLt i k) [
-            | yes a ↦ ap (el p) (less-low p (prime-positive P) c k f g i a) ∙ none i (mono-low ring k (el p c) (series p g) i a)
+            | yes a ↦ ap (el p) (less-low p c k f g i a) ∙ none i (mono-low ring k (el p c) (series p g) i a)
             | no a ↦
                 let e : k + (i - k) ≡ i = omega arith in
-                ap (el p) (less-high p (prime-positive P) c k f g i (omega arith))
+                ap (el p) (less-high p c k f g i (omega arith))
                 ∙ minus-times-el p (getD f i 0) c (getD g (i - k) 0) (prime-positive P) (omega arith)
                 ∙ ap (λ (u : Fp p). add (series p f i) (neg u))
                 (sym (mono-high ring k (el p c) (series p g) (i - k)) ∙ ap (conv ring (mono ring k (el p c)) (series p g)) e)

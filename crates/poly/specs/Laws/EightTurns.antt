@@ -51,9 +51,6 @@ module _ {p : ℕ} (P : Prime p) (f g : List ℕ) (hf : Eight p f) (hg : Eight p
   turn-leads : Leads m (turned p (size g) g)
   turn-leads = highest-leads P g hg q
 
-  pub turn-fits : (8 - m) + m ≡ 8
-  turn-fits = omega (arith, size-le 8 g)
-
   pub turn-rest : Eight p (rest p (size g) f g)
   turn-rest = remainder-eight p (prime-positive P) m (turned p (size g) g) (8 - m) f hf
 
@@ -61,7 +58,7 @@ module _ {p : ℕ} (P : Prime p) (f g : List ℕ) (hf : Eight p f) (hg : Eight p
   turn-smaller =
       size-below 8 m (rest p (size g) f g)
       (remainder-clear p (prime-positive P) m (turned p (size g) g) (turn-leads .one) (turn-leads .clear) (8 - m) f hf
-      (λ i l. eight-clear p f hf i (omega (arith, turn-fits))))
+      (λ i l. eight-clear p f hf i (omega (arith, size-le 8 g))))
 
 -- as the code goes on, where n is the size of g
 module _ (p n : ℕ) (f g : List ℕ) (e : n ≡ size g) (pos : 0 < n) where

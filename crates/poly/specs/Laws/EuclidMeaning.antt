@@ -12,9 +12,9 @@ use Rattle.field.specs.PrimeLaws.{prime-positive}
 use Rattle.field.specs.Modulo.{Modulo}
 use Rattle.poly.specs.Coefficients.{Eight, series}
 use Rattle.poly.specs.Models.Eight.{size, monic, euclid, gcd}
-use Rattle.poly.specs.Laws.EightNumbers.{Leads, eight-clear, size-clear, size-is}
+use Rattle.poly.specs.Laws.EightNumbers.{Leads, eight-clear, size-clear, size-le, size-is}
 use Rattle.poly.specs.Laws.EightMeaning.{clear-ends, Greatest, remainder-greatest, monic-eight, highest-leads, highest-associate}
-use Rattle.poly.specs.Laws.EightTurns.{turned, rest, euclid-next, euclid-end, turn-fits, turn-rest, turn-smaller}
+use Rattle.poly.specs.Laws.EightTurns.{turned, rest, euclid-next, euclid-end, turn-rest, turn-smaller}
 
 -- u is the monic greatest common divisor of a and b, and of degree d
 pub record IsGcd {p : ℕ} (P : Prime p) (a b : ℕ → Fp p) (u : List ℕ) (d : ℕ) : Type 0 where
@@ -47,7 +47,7 @@ module _ {p : ℕ} (P : Prime p) where
       let h = turned p (size g) g in
       greatest-second (Poly (Modulo p P)) (PolyD (Modulo p P)) (series p f) (series p h) (series p g) u
       (highest-associate P g hg q)
-      (remainder-greatest P m h (highest-leads P g hg q .clear) (8 - m) f hf (omega (arith, turn-fits P f g hf hg q)) u
+      (remainder-greatest P m h (highest-leads P g hg q .clear) (8 - m) f hf (omega (arith, size-le 8 g)) u
       (greatest-swap (Poly (Modulo p P)) (PolyD (Modulo p P)) (series p h) (series p (rest p (size g) f g)) u s))
 
   euclid-is-gcd : (fuel n : ℕ) (f g : List ℕ) → size g ≤ fuel → Eight p f → Leads n f → Eight p g

@@ -31,7 +31,8 @@ use Rattle.poly.specs.Laws.EightMeaning.{clear-ends}
 use Rattle.poly.specs.Laws.EuclidMeaning.{IsGcd, gcd-is-gcd, gcd-nonzero}
 use Rattle.poly.specs.Laws.ValueModel.{value-of-eight}
 use Rattle.poly.specs.Laws.ValueMeaning.{value-of-series}
-use Rattle.poly.specs.Laws.RightLists.{falling-key, falling-coefficient, RightList}
+use Rattle.poly.specs.Laws.Falling.{falling-key, falling-coefficient}
+use Rattle.poly.specs.Laws.RightLists.{RightList}
 
 -- what the code's test of a's number at x settles
 pub values-bad : (p x : ℕ) (a b : List ℕ) → getD a x 0 ≡ 0 → image-of-values p x a b ≡ refusal (fault NO_GOOD_POINT 0)
