@@ -3,7 +3,7 @@ use mathlib.Core.Path.{_≡_, sym, _∙_, ap, subst}
 use mathlib.Core.Bool.{true}
 use mathlib.Core.List.{List, [], _∷_}
 use mathlib.Mathlib.Data.Bool.Basic.{and-elim-left, and-elim-right, and-intro}
-use Prim.Native.Nat.{ℕ, _+_, _-_, _/_, _≤_, _<_}
+use Prim.Native.Nat.{ℕ, _+_, _-_, _≤_, _<_}
 use native.Mathlib.Nat.{add-comm}
 use native.Mathlib.Omega.{arith}
 use Rattle.algebra.specs.Four.{Exponents, _⊞_, _≼_}
@@ -51,7 +51,7 @@ module _ (d : Setting) (f g : Exponents) (spare : exponents (d .bound) ⊞ g ≡
       (subst (λ (i : Exponents). i ≼ exponents (d .bound)) (sym (o .1)) (spare-within e (exponents (d .bound)) l spare)))
 
 -- a divisor moved up within the bound stays among the cells
-below-eight : (n : ℕ) → n / 512 < 8 → n < keys
+below-eight : (n : ℕ) → exponents n .x < 8 → n < keys
 below-eight n h = omega arith
 
 pub moves-up : (s : ℕ) (f g : Exponents) → exponents s ⊞ g ≼ f → f .x < 8 → f .y < 8 → f .z < 8 → f .w < 8
@@ -67,6 +67,6 @@ moves-up s f g l fx fy fz fw (t ∷ ts) x y z w =
 
     small : key-of t + s < keys
     small =
-        let q : (key-of t + s) / 512 ≡ s / 512 + key-of t / 512 = ap (λ (i : Exponents). i .x) sum in
+        let q : exponents (key-of t + s) .x ≡ exponents s .x + exponents (key-of t) .x = ap (λ (i : Exponents). i .x) sum in
         let a = l .x in
         below-eight (key-of t + s) (omega arith)

@@ -1,7 +1,7 @@
 -- The model of the value means the value: the numbers that the code sums up are the coefficients of the value at the point. Assumes nothing.
 use mathlib.Core.Path.{_≡_, refl, sym, ap, ap₂, _∙_, fun-ext}
 use mathlib.Core.List.{List, [], _∷_}
-use Prim.Native.Nat.{ℕ, zero, suc, _+_, _*_, _/_, _%_, _<_}
+use Prim.Native.Nat.{ℕ, zero, suc, _+_, _*_, _%_, _<_}
 use native.Mathlib.Decide.{ℕ-discrete}
 use native.Mathlib.Omega.{arith}
 use lib.ListN.{length, getD, set, replicate, length-set}
@@ -19,6 +19,7 @@ use Rattle.poly.specs.Value.{Point, number-at, value}
 use Rattle.poly.specs.Coefficients.{series}
 use Rattle.poly.specs.Models.Powers.{powers}
 use Rattle.poly.specs.Models.Value.{plus-term, value-from, value-of}
+use Rattle.poly.specs.Laws.Keys.{digits-of}
 use Rattle.poly.specs.Laws.Places.{replicate-all}
 use Rattle.poly.specs.Laws.Powers.{powers-el}
 
@@ -42,19 +43,20 @@ module _ (p : ℕ) (P : Prime p) (y z w : ℕ) where
   term-el : (t r : ℕ) → el p (plus-term p ys zs ws t r) ≡ add (el p r) (number-at R at-numbers (term-of p P t))
   unfolding plus-term
   term-el t r =
-      let k = key-of t in
-      let a = coefficient-of t * getD ys (k / 64 % 8) 0 in
-      let b = a % p * getD zs (k / 8 % 8) 0 in
+      let e = exponents (key-of t) in
+      let small = digits-of (key-of t) in
+      let a = coefficient-of t * getD ys (e .y) 0 in
+      let b = a % p * getD zs (e .z) 0 in
       let h = prime-positive P in
-      el-mod p (r + b % p * getD ws (k % 8) 0) ∙ el-add p r (b % p * getD ws (k % 8) 0)
+      el-mod p (r + b % p * getD ws (e .w) 0) ∙ el-add p r (b % p * getD ws (e .w) 0)
       ∙ ap (add (el p r))
-      (el-mul p (b % p) (getD ws (k % 8) 0)
+      (el-mul p (b % p) (getD ws (e .w) 0)
       ∙ ap₂ mul
-      (el-mod p b ∙ el-mul p (a % p) (getD zs (k / 8 % 8) 0)
+      (el-mod p b ∙ el-mul p (a % p) (getD zs (e .z) 0)
       ∙ ap₂ mul
-      (el-mod p a ∙ el-mul p (coefficient-of t) (getD ys (k / 64 % 8) 0) ∙ ap (mul (el p (coefficient-of t))) (powers-el p h y (k / 64 % 8) (omega arith)))
-      (powers-el p h z (k / 8 % 8) (omega arith)))
-      (powers-el p h w (k % 8) (omega arith)))
+      (el-mod p a ∙ el-mul p (coefficient-of t) (getD ys (e .y) 0) ∙ ap (mul (el p (coefficient-of t))) (powers-el p h y (e .y) (small .y)))
+      (powers-el p h z (e .z) (small .z)))
+      (powers-el p h w (e .w) (small .w)))
 
   -- a number stored at the power x adds a monomial
   set-series : (r : List ℕ) (x v : ℕ) (n : Fp p) → x < length r → el p v ≡ add (series p r x) n → (i : ℕ)

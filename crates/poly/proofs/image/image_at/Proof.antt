@@ -1,11 +1,12 @@
 -- `poly::image::image_at` meets its contract: the tables, the two values and what is made of them are the model's. Assumes nothing.
 use mathlib.Core.Path.{_≡_, sym, ap, _∙_, subst}
 use mathlib.Core.List.{List}
-use Prim.Native.Nat.{ℕ, _/_, _<_}
+use Prim.Native.Nat.{ℕ, _<_}
 use native.Mathlib.Omega.{arith}
 use lib.ListN.{getD}
 use Rattle.field.specs.ModuliLaws.{listed-prime, listed-above}
 use Rattle.poly.specs.Coefficients.{Eight}
+use Rattle.poly.specs.Keys.{exponents}
 use Rattle.poly.specs.LeadingPart.{x-of}
 use Rattle.poly.specs.Models.Value.{Ready, value-of}
 use Rattle.poly.specs.Models.Image.{value-at, image-of-values, image-of}
@@ -57,7 +58,7 @@ module _ (c : tie.After-powers3) where
 
 -- the power of x of A's first term
 power : (c : tie.After-x) → c .x .result ≡ x-of (getD (start (c .before .before .before .before .before) .args .first .now) 0 0)
-power c = c .x .ensures ∙ ap (λ (k : ℕ). k / 512) (c .before .of .ensures)
+power c = c .x .ensures ∙ ap (λ (k : ℕ). exponents k .x) (c .before .of .ensures)
 
 shared-slice-read-powers : tie.Need-shared-slice-read-powers
 shared-slice-read-powers c = search needs
