@@ -18,13 +18,14 @@ use Rattle.poly.specs.Image.{Bad, Image}
 use Rattle.poly.specs.Lists.{WrongNumber, of-lists}
 use Rattle.poly.specs.Coefficients.{Eight, series}
 
+-- what the service is lent
 pub record ImageCall : Type 0 where
   pub modulus : ℕ
   pub first-list : List ℕ
   pub second-list : List ℕ
   pub point : List ℕ
 
--- what the service is lent
+-- a call by its parts
 abbrev pub image-call : ℕ → List ℕ → List ℕ → List ℕ → ImageCall
 image-call p A B point = record { modulus = p; first-list = A; second-list = B; point = point }
 

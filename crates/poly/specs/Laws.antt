@@ -1,9 +1,11 @@
 -- Laws of the definitions and models of this layer, each file one subject.
+pub mod Places
 pub mod Keys
 pub mod Value
 pub mod Lists
 pub mod Search
 pub mod ListCheck
+pub mod Falling
 pub mod RightLists
 pub mod LeadingPart
 pub mod PointCheck
@@ -12,6 +14,7 @@ pub mod Powers
 pub mod EightNumbers
 pub mod EightMeaning
 pub mod EightTurns
+pub mod EuclidMeaning
 pub mod ValueModel
 pub mod ValueMeaning
 pub mod KeyDifference
@@ -19,9 +22,9 @@ pub mod GreatestExponents
 pub mod Dense
 pub mod Spread
 pub mod DivisionSteps
+pub mod Fitting
 pub mod DivisionModel
 pub mod QuotientCells
-pub mod Falling
 pub mod DivisionEnds
 pub mod QuotientFound
 pub mod Quotient

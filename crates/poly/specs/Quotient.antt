@@ -18,6 +18,7 @@ use Rattle.poly.specs.Image.{Divides}
 use Rattle.poly.specs.Lists.{WrongModulo, of-lists}
 use Rattle.poly.specs.Room.{work-room, written, cleared}
 
+-- what the service is lent
 pub record QuotientCall : Type 0 where
   pub modulus : ℕ
   pub first-list : List ℕ
@@ -38,6 +39,7 @@ pub record IsQuotient (p : ℕ) (P : Prime p) (A B qs : List ℕ) : Type 0 where
   pub right : (i : ℕ) → ¬ WrongModulo p qs i
   pub product : S4 (Modulo p P .ring) .mul (poly p P B) (poly p P qs) ≡ poly p P A
 
+-- what it answers, and the output and the work room afterwards
 pub record QuotientResult : Type 0 where
   pub found : QuotientRecord
   pub output : List ℕ
@@ -48,7 +50,8 @@ pub data Quotient (c : QuotientCall) : QuotientResult → Type 0 where
   refused : (f : Fault) → Refuses (quotient-table c) f
       → Quotient c (record { found = record { fault = f; terms = 0 }; output = c .output; work = c .work })
   no-quotient : Passes (quotient-table c) → (listed : Listed (c .modulus))
-      → ¬ Divides (Modulo (c .modulus) (listed-prime listed)) (poly (c .modulus) (listed-prime listed) (c .second-list)) (poly (c .modulus) (listed-prime listed) (c .first-list))
+      → ¬ Divides (Modulo (c .modulus) (listed-prime listed)) (poly (c .modulus) (listed-prime listed) (c .second-list))
+      (poly (c .modulus) (listed-prime listed) (c .first-list))
       → Quotient c (record { found = record { fault = fault DOES_NOT_DIVIDE 0; terms = 0 }; output = c .output; work = cleared (c .work) })
   quotient : Passes (quotient-table c) → (listed : Listed (c .modulus)) (qs : List ℕ)
       → IsQuotient (c .modulus) (listed-prime listed) (c .first-list) (c .second-list) qs

@@ -7,7 +7,7 @@ ghost use Rattle.poly.specs.ImageCall.{image-call, refusal, of-point, im
 ghost use Rattle.poly.specs.Models.Search.{Searched};
 ghost use Rattle.poly.specs.Models.Eight.{gcd};
 ghost use Rattle.poly.specs.Models.Steps.{Pair};
-ghost use Rattle.poly.specs.Models.Image.{Fine, found, image-of};
+ghost use Rattle.poly.specs.Models.Image.{Fine, image-record, image-of};
 use crate::COORDINATES;
 use crate::Eight;
 use crate::ImageRecord;
@@ -35,7 +35,7 @@ fn refused(fault: Fault) -> ImageRecord
 // The image where the values are a, which is not 0, and b.
 fn image_of_values(p: Number, a: Eight, b: Eight) -> ImageRecord
     requires { ⌜ Pair p a b ⌝ }
-    ensures { λ r. ⌜ r ≡ found (gcd p a b) ⌝ }
+    ensures { λ r. ⌜ r ≡ image-record (gcd p a b) ⌝ }
 {
     let u = euclid::gcd(p, a, b);
     let d = euclid::size(u) - 1;

@@ -2,6 +2,7 @@
 use mathlib.Core.Path.{_≡_, refl, ap, ap₂, subst}
 use mathlib.Core.Bool.{Bool, true, false, false≢true}
 use mathlib.Core.List.{List, [], _∷_}
+use mathlib.Mathlib.Data.Bool.Basic.{and-elim-left, and-elim-right}
 use Prim.Native.Nat.{ℕ, _≤_}
 use native.Mathlib.Omega.{arith}
 use lib.Dec.{eqb}
@@ -19,7 +20,6 @@ use Rattle.poly.specs.Terms.{Polynomial, terms-of}
 use Rattle.poly.specs.ImageCall.{image-table}
 use Rattle.poly.specs.Room.{work-room, written, cleared}
 use Rattle.poly.specs.Laws.ImageCall.{image-answered}
-use Rattle.poly.specs.Laws.KeyDifference.{and-left, and-right}
 use Rattle.divisor.specs.declared.CandidateRecord.{CandidateRecord}
 use Rattle.divisor.specs.Rule.{report}
 use Rattle.divisor.specs.Candidate.{Call, table, Candidate}
@@ -36,7 +36,7 @@ unfolding same-numbers
 same-is [] [] h = refl
 same-is [] (n ∷ ns) h = absurd (false≢true h)
 same-is (m ∷ ms) [] h = absurd (false≢true h)
-same-is (m ∷ ms) (n ∷ ns) h = ap₂ _∷_ (eqb-true m n (and-left (eqb m n) (same-numbers ms ns) h)) (same-is ms ns (and-right (eqb m n) (same-numbers ms ns) h))
+same-is (m ∷ ms) (n ∷ ns) h = ap₂ _∷_ (eqb-true m n (and-elim-left (eqb m n) (same-numbers ms ns) h)) (same-is ms ns (and-elim-right (eqb m n) (same-numbers ms ns) h))
 
 -- a record and terms are known by their numbers
 numbers-settle : (X : CandidateRecord → List ℕ → Type 0) (r q : CandidateRecord) (terms ts : List ℕ) → numbers r terms ≡ numbers q ts → X r terms → X q ts
@@ -69,10 +69,10 @@ module _ (r : Row) (output work : List ℕ) (long : length (r .skeleton) ≤ len
 
   tested-here : test r ≡ true → Candidate c (result r output work)
   unfolding test
-  tested-here h = go (listed-decided (r .modulus)) (and-right (passes r) _ h)
+  tested-here h = go (listed-decided (r .modulus)) (and-elim-right (passes r) _ h)
     where
       pass : Passes (table c)
-      pass = inputs-pass (and-left (passes r) _ h)
+      pass = inputs-pass (and-elim-left (passes r) _ h)
 
       go : (d : Dec (Listed (r .modulus))) → elim d as (λ _. Bool) [ yes h ↦ answers r h | no n ↦ false ] ≡ true
           → Candidate c (result r output work)
@@ -87,7 +87,7 @@ pub image-tested : (r : ImageRow) → image-test r ≡ true → Shows r
 unfolding image-test image-passes image-agrees
 image-tested r h =
     image-answered (r .call .modulus) (r .call .first-list) (r .call .second-list) (r .call .point) (decided (image-table (r .call)) (image-checks (r .call))) (decided-tested (image-table (r .call)) (image-checks (r .call)))
-    (eqb-true _ 0 (and-left (image-passes r) (image-agrees r) h)) (image-known (r .found) _ (same-is _ _ (and-right (image-passes r) (image-agrees r) h)))
+    (eqb-true _ 0 (and-elim-left (image-passes r) (image-agrees r) h)) (image-known (r .found) _ (same-is _ _ (and-elim-right (image-passes r) (image-agrees r) h)))
   where
     record-of : List ℕ → ImageRecord
     record-of l = record { fault = record { number = getD l 0 0; place = getD l 1 0 }; degree = getD l 2 0; coefficients = drop 3 l }
@@ -107,4 +107,4 @@ multiplied p P q h = nothing-left-means (Modulo p P) (terms-of p P (q .whole)) (
 pub each-tested : {X : Type 0} (f : X → Bool) (F : X → Type 0) → ((x : X) → f x ≡ true → F x) → (xs : List X) → each f xs ≡ true → Each F xs
 unfolding each
 each-tested f F law [] h = tt
-each-tested f F law (x ∷ xs) h = (law x (and-left (f x) (each f xs) h), each-tested f F law xs (and-right (f x) (each f xs) h))
+each-tested f F law (x ∷ xs) h = (law x (and-elim-left (f x) (each f xs) h), each-tested f F law xs (and-elim-right (f x) (each f xs) h))

@@ -9,8 +9,8 @@ use Rattle.field.specs.PrimeLaws.{prime-positive}
 use Rattle.poly.specs.Coefficients.{Eight}
 use Rattle.poly.specs.Models.Eight.{size, monic, remainder, euclid}
 use Rattle.poly.specs.Laws.EightNumbers.{remainder-eight}
-use Rattle.poly.specs.Laws.EightMeaning.{monic-eight, euclid-end}
-use Rattle.poly.specs.Laws.EightTurns.{turned, rest, turn-on, turn-falls}
+use Rattle.poly.specs.Laws.EightMeaning.{monic-eight}
+use Rattle.poly.specs.Laws.EightTurns.{turned, rest, euclid-end, turn-on, turn-falls}
 
 pub record Turning (p n₀ : ℕ) (f₀ g₀ : List ℕ) (n : ℕ) (f g : List ℕ) : Type 0 where
   pub sized : n ≡ size g
@@ -25,7 +25,7 @@ module _ {p : ℕ} (P : Prime p) (n₀ : ℕ) (f₀ g₀ : List ℕ) where
   turning-begins e hf hg = record { sized = e; first = hf; second = hg; fuel = n₀; enough = omega arith; same = refl }
 
   pub turning-ends : {n : ℕ} {f g : List ℕ} → Turning p n₀ f₀ g₀ n f g → n ≤ 0 → euclid p n₀ f₀ g₀ ≡ f
-  turning-ends {n} {f} {g} t l = t .same ∙ euclid-end P (t .fuel) f g (let e = t .sized in omega arith)
+  turning-ends {n} {f} {g} t l = t .same ∙ euclid-end p (t .fuel) f g (let e = t .sized in omega arith)
 
   -- one turn: h is g made monic, r the remainder of f by it, and m the size of r
   module _ {n : ℕ} {f g : List ℕ} (t : Turning p n₀ f₀ g₀ n f g) (pos : 0 < n) {h r : List ℕ} {m : ℕ}
@@ -35,7 +35,7 @@ module _ {p : ℕ} (P : Prime p) (n₀ : ℕ) (f₀ g₀ : List ℕ) where
 
     pub turning-falls : m < n
     turning-falls =
-        let falls : size (rest p n f g) < n = turn-falls P n n f g (t .sized) pos (t .first) (t .second) in
+        let falls : size (rest p n f g) < n = turn-falls p n f g (t .sized) pos P (t .first) (t .second) in
         omega (arith, em, ap size left)
 
     pub turning-goes-on : Turning p n₀ f₀ g₀ m h r
@@ -46,5 +46,5 @@ module _ {p : ℕ} (P : Prime p) (n₀ : ℕ) (f₀ g₀ : List ℕ) where
           second = subst (Eight p) (sym left) (remainder-eight p (prime-positive P) (n - 1) (turned p n g) (8 - (n - 1)) f (t .first));
           fuel = t .fuel - 1;
           enough = let e = t .enough in let l = turning-falls in omega arith;
-          same = t .same ∙ turn-on P n (t .fuel) f g (t .sized) pos (t .enough) ∙ ap₂ (euclid p (t .fuel - 1)) (sym eh) (sym left);
+          same = t .same ∙ turn-on p n f g (t .sized) pos (t .fuel) (t .enough) ∙ ap₂ (euclid p (t .fuel - 1)) (sym eh) (sym left);
         }

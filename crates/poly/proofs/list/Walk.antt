@@ -1,7 +1,8 @@
 -- What the search of the first wrong term keeps: no term before i is wrong, and the key before is at hand. Assumes nothing.
 use mathlib.Core.Path.{_≡_, refl, sym, _∙_}
-use mathlib.Core.Bool.{Bool, true, false, _&&_}
+use mathlib.Core.Bool.{Bool, true, false, _&&_, true≢false}
 use mathlib.Core.List.{List}
+use mathlib.Mathlib.Data.Bool.Basic.{and-elim-left, and-elim-right}
 use Prim.Native.Nat.{ℕ, _+_, _≤_, _<_}
 use native.Mathlib.Omega.{arith}
 use lib.Dec.{ltb}
@@ -28,21 +29,20 @@ module _ (bound : ℕ) (ts : List ℕ) where
   walk-ends before i h l = search-ends (h .searching) l
 
   -- at the term with the key k and the coefficient c
-  module _ (before i : ℕ) (h : Walked bound ts before i) (l : i < length ts) (k c : ℕ) (ek : k ≡ key-of (getD ts i 0)) (ec : c ≡ coefficient-of (getD ts i 0)) where
+  module _ (before i : ℕ) (h : Walked bound ts before i) (l : i < length ts) (k c : ℕ) (ek : k ≡ key-of (getD ts i 0))
+      (ec : c ≡ coefficient-of (getD ts i 0)) where
     wrong-by : (x y z : Bool) → ltb k before ≡ x → ltb 0 c ≡ y → ltb c bound ≡ z → (x && (y && z)) ≡ false → WrongModulo bound ts i
     wrong-by false y z ex ey ez e = key-is-wrong bound ts i l (omega (arith, h .key, ltb-false k before ex))
     wrong-by true false z ex ey ez e = wrong-term (coefficient-zero l (omega (arith, ltb-false 0 c ey)))
     wrong-by true true false ex ey ez e = coefficient-large l (omega (arith, ltb-false c bound ez))
-    wrong-by true true true ex ey ez e = absurd (let z : _≡_ {A = ℕ} 0 1 = cc in omega arith)
+    wrong-by true true true ex ey ez e = absurd (true≢false e)
 
-    right-by : (x y z : Bool) → ltb k before ≡ x → ltb 0 c ≡ y → ltb c bound ≡ z → (x && (y && z)) ≡ true → ¬ WrongModulo bound ts i
-    right-by false y z ex ey ez e = absurd (let z : _≡_ {A = ℕ} 0 1 = cc in omega arith)
-    right-by true false z ex ey ez e = absurd (let z : _≡_ {A = ℕ} 0 1 = cc in omega arith)
-    right-by true true false ex ey ez e = absurd (let z : _≡_ {A = ℕ} 0 1 = cc in omega arith)
-    right-by true true true ex ey ez e =
-        term-is-right bound ts i l (omega (arith, h .key, h .in-range)) (omega (arith, h .key, ltb-true k before ex))
-        (omega (arith, ltb-true 0 c ey))
-        (omega (arith, ltb-true c bound ez))
+    term-right : (ltb k before && (ltb 0 c && ltb c bound)) ≡ true → ¬ WrongModulo bound ts i
+    term-right e =
+        let coefficient = and-elim-right (ltb k before) _ e in
+        term-is-right bound ts i (omega (arith, h .key, h .in-range)) (omega (arith, h .key, ltb-true k before (and-elim-left _ _ e)))
+        (omega (arith, ltb-true 0 c (and-elim-left _ _ coefficient)))
+        (omega (arith, ltb-true c bound (and-elim-right (ltb 0 c) _ coefficient)))
 
     pub walk-stops : (ltb k before && (ltb 0 c && ltb c bound)) ≡ false → Searched (WrongModulo bound ts) (length ts) i
     walk-stops e = search-stops (h .searching) (wrong-by _ _ _ refl refl refl e)
@@ -50,11 +50,7 @@ module _ (bound : ℕ) (ts : List ℕ) where
     pub walk-goes-on : (ltb k before && (ltb 0 c && ltb c bound)) ≡ true → Walked bound ts k (i + 1)
     walk-goes-on e =
         record {
-          searching = search-goes-on (h .searching) l (right-by _ _ _ refl refl refl e);
+          searching = search-goes-on (h .searching) l (term-right e);
           key = ek ∙ sym (key-before-next ts i);
-          in-range = below _ _ refl e;
+          in-range = omega (arith, h .in-range, ltb-true k before (and-elim-left _ _ e));
         }
-      where
-        below : (x y : Bool) → ltb k before ≡ x → (x && y) ≡ true → k ≤ keys
-        below true y ex e = omega (arith, h .in-range, ltb-true k before ex)
-        below false y ex e = absurd (let z : _≡_ {A = ℕ} 0 1 = cc in omega arith)

@@ -3,12 +3,11 @@ use mathlib.Core.Path.{_≡_, refl, sym, _∙_, ap, ap₂, subst}
 use mathlib.Core.List.{List, [], _∷_}
 use Prim.Native.Nat.{ℕ, zero, suc, _+_, _-_, _*_, _%_, _≤_, _<_}
 use native.Mathlib.Nat.{mod-lt}
-use native.Mathlib.Decide.{ℕ-discrete, decLt}
+use native.Mathlib.Decide.{decLt}
 use native.Mathlib.Omega.{arith}
 use lib.ListN.{length, getD, set, length-set}
-use lib.Seq.{getD-set-same, getD-set-other}
 use Rattle.algebra.specs.Ring.{CommRing, zero-add}
-use Rattle.algebra.specs.Solver.{_⊕_, _⊗_, _⊖_, ⊝, _≗_, k0, ring2, ring3, ring4}
+use Rattle.algebra.specs.Solver.{_⊕_, _⊗_, _⊖_, ⊝, _≗_, k0, ring1, ring2, ring3, ring4}
 use Rattle.algebra.specs.Series.{S4}
 use Rattle.algebra.specs.Four.{Exponents, _⊞_, _≺_, coef}
 use Rattle.algebra.specs.Lead.{Lead, Upto}
@@ -21,12 +20,19 @@ use Rattle.field.specs.Modulo.{Modulo}
 use Rattle.field.specs.Link.{minus-times-el}
 use Rattle.poly.specs.Keys.{exponents}
 use Rattle.poly.specs.Terms.{key-of, coefficient-of, term-of, poly}
+use Rattle.poly.specs.Laws.Places.{set-all}
 use Rattle.poly.specs.Laws.Keys.{exponents-injective, key-order-of}
 use Rattle.poly.specs.Models.Division.{less-term, less-product}
 
 -- the cells of l are numbers modulo p
 abbrev pub Reduced : ℕ → List ℕ → Type 0
 Reduced p l = (i : ℕ) → getD l i 0 < p
+
+pub set-reduced : (p : ℕ) (l : List ℕ) (k v : ℕ) → v < p → Reduced p l → Reduced p (set l k v)
+set-reduced p l k v h red i = set-all (λ n. n < p) l k i v 0 h (red i)
+
+pub zeros-reduced : (p : ℕ) (l : List ℕ) → 0 < p → ((i : ℕ) → getD l i 0 ≡ 0) → Reduced p l
+zeros-reduced p l h z i = subst (λ (n : ℕ). n < p) (sym (z i)) h
 
 -- each term moved up by the key s stays within n cells, and its exponents add
 abbrev pub MovesUp : ℕ → ℕ → List ℕ → Type 0
@@ -65,7 +71,8 @@ module _ (p : ℕ) (P : Prime p) where
       ∙ ap₂ add (monomial-at R (exponents k) (el p c)) (dense-from-none (suc k) l (exponents k) (λ i h r. let s = exponents-injective i k r in omega arith))
       ∙ R .add-zero _
   dense-from-at k (c ∷ l) (suc i) j e =
-      ap₂ add (monomial-off R (exponents k) (exponents j) (el p c) (λ r. let s = exponents-injective k j r in omega arith)) (dense-from-at (suc k) l i j (omega arith))
+      ap₂ add (monomial-off R (exponents k) (exponents j) (el p c) (λ r. let s = exponents-injective k j r in omega arith))
+      (dense-from-at (suc k) l i j (omega arith))
       ∙ zero-add R _
 
   -- the coefficient at a key is the cell
@@ -82,13 +89,22 @@ module _ (p : ℕ) (P : Prime p) where
   dense-from-set k (c ∷ l) zero v j e h =
       let q : k ≡ j = omega arith in
       ap (λ (f : S4 R .Car). S4 R .add f (dense-from (suc k) l)) (grown (el p c) (el p v) (exponents k))
-      ∙ ring3 (S4 R) (λ a b c. (a ⊕ b) ⊕ c ≗ (a ⊕ c) ⊕ b) tt (monomial R (exponents k) (el p c)) (monomial R (exponents k) (add (el p v) (neg (el p c)))) (dense-from (suc k) l)
+      ∙ ring3 (S4 R) (λ a b c. (a ⊕ b) ⊕ c ≗ (a ⊕ c) ⊕ b) tt (monomial R (exponents k) (el p c))
+      (monomial R (exponents k) (add (el p v) (neg (el p c)))) (dense-from (suc k) l)
       ∙ ap (λ (n : ℕ). S4 R .add (dense-from k (c ∷ l)) (monomial R (exponents n) (add (el p v) (neg (el p c))))) q
   dense-from-set k (c ∷ l) (suc i) v j e h =
       ap (S4 R .add (monomial R (exponents k) (el p c))) (dense-from-set (suc k) l i v j (omega arith) (omega arith)) ∙ sym (S4 R .add-assoc _ _ _)
 
-  pub dense-set : (l : List ℕ) (k v : ℕ) → k < length l → dense (set l k v) ≡ S4 R .add (dense l) (monomial R (exponents k) (add (el p v) (neg (el p (getD l k 0)))))
+  pub dense-set : (l : List ℕ) (k v : ℕ) → k < length l
+      → dense (set l k v) ≡ S4 R .add (dense l) (monomial R (exponents k) (add (el p v) (neg (el p (getD l k 0)))))
   dense-set l k v h = dense-from-set 0 l k v k (omega arith) h
+
+  -- a number stored where 0 stood
+  pub dense-store : (l : List ℕ) (k v : ℕ) → k < length l → getD l k 0 ≡ 0 → dense (set l k v) ≡ S4 R .add (dense l) (monomial R (exponents k) (el p v))
+  dense-store l k v h z =
+      dense-set l k v h
+      ∙ ap (λ (x : Fp p). S4 R .add (dense l) (monomial R (exponents k) x))
+      (ap (λ (n : ℕ). add (el p v) (neg (el p n))) z ∙ ring1 R (λ a. a ⊖ k0 ≗ a) tt (el p v))
 
   dense-from-zero : (k : ℕ) (l : List ℕ) → ((i : ℕ) → getD l i 0 ≡ 0) → dense-from k l ≡ S4 R .𝟘
   unfolding dense-from
@@ -107,7 +123,9 @@ module _ (p : ℕ) (P : Prime p) where
   dense-from-upto k m (c ∷ l) h e o = ap₂ add (go (decLt m k)) (dense-from-upto (suc k) m l (λ i q. h (suc i) (omega arith)) e o) ∙ R .add-zero _
     where
       go : Dec (m < k) → coef R (monomial R (exponents k) (el p c)) e ≡ el p 0
-      go (yes q) = ap (λ (n : ℕ). coef R (monomial R (exponents k) (el p n)) e) (h 0 (omega arith)) ∙ ap (λ (f : S4 R .Car). coef R f e) (monomial-zero R (exponents k))
+      go (yes q) =
+          ap (λ (n : ℕ). coef R (monomial R (exponents k) (el p n)) e) (h 0 (omega arith))
+          ∙ ap (λ (f : S4 R .Car). coef R f e) (monomial-zero R (exponents k))
       go (no q) = monomial-off R (exponents k) e (el p c)
           (λ r. let s = key-order-of m k (subst (λ (i : Exponents). exponents m ≺ i) (sym r) o) in omega arith)
 
@@ -149,16 +167,9 @@ module _ (p : ℕ) (P : Prime p) where
       ∙ ap (λ (d : S4 R .Car). S4 R .add d (S4 R .neg (S4 R .mul (monomial R (exponents s) (el p q)) (poly p P ts)))) (less-one s q t l hq (f .0) (f .1))
       ∙ ring4 (S4 R) (λ d m a b. (d ⊖ m ⊗ a) ⊖ m ⊗ b ≗ d ⊖ m ⊗ (a ⊕ b)) tt (dense l) (monomial R (exponents s) (el p q)) (term R (term-of p P t)) (poly p P ts)
 
-  pub set-reduced : (l : List ℕ) (k v : ℕ) → k < length l → v < p → Reduced p l → Reduced p (set l k v)
-  set-reduced l k v h b red i = go (ℕ-discrete i k)
-    where
-      go : Dec (i ≡ k) → getD (set l k v) i 0 < p
-      go (yes e) = subst (λ (n : ℕ). n < p) (sym (ap (λ (n : ℕ). getD (set l k v) n 0) e ∙ getD-set-same l k v 0 h)) b
-      go (no n) = subst (λ (m : ℕ). m < p) (sym (getD-set-other l k i v 0 n)) (red i)
-
   pub less-reduced : (s q : ℕ) (ts l : List ℕ) → MovesUp s (length l) ts → Reduced p l → Reduced p (less-product p s q ts l)
   unfolding less-product
   less-reduced s q [] l f red = red
   less-reduced s q (t ∷ ts) l f red =
       less-reduced s q ts (less-term p s q t l) (moves-same s (length l) (length (less-term p s q t l)) ts (sym (length-set l _ _)) (f .2))
-      (set-reduced l (key-of t + s) _ (f .0) (mod-lt _ (prime-positive P)) red)
+      (set-reduced p l (key-of t + s) _ (mod-lt _ (prime-positive P)) red)

@@ -8,7 +8,7 @@ use native.Mathlib.Omega.{arith}
 use lib.ListN.{getD, drop}
 use Rattle.field.specs.Prime.{Prime}
 use Rattle.field.specs.Fp.{el, inv}
-use Rattle.field.specs.ModuliLaws.{listed-prime, listed-positive, listed-below}
+use Rattle.field.specs.ModuliLaws.{listed-prime, listed-positive}
 use Rattle.field.specs.Modulo.{Modulo}
 use Rattle.field.specs.Link.{inverse-val}
 use Rattle.field.specs.Contract.{Invertible, Inverse}
@@ -18,12 +18,11 @@ use Rattle.poly.specs.Terms.{key-of, coefficient-of, poly}
 use Rattle.poly.specs.Image.{Divides}
 use Rattle.poly.specs.Room.{work-room, zeroed, cleared}
 use Rattle.poly.specs.TrialDivision.{CanDivide}
-use Rattle.poly.specs.Laws.RightLists.{falling-coefficient}
-use Rattle.poly.specs.Laws.Falling.{falling-keys, falling-first, falling-positive}
+use Rattle.poly.specs.Laws.Falling.{falling-coefficient, falling-keys, falling-first, falling-positive}
 use Rattle.poly.specs.Laws.Room.{zeroed-length, zeroed-at, zeroed-beyond, zeroed-same}
 use Rattle.poly.specs.Laws.Spread.{spread-length, spread-above}
 use Rattle.poly.specs.Laws.WorkRoom.{take-spread, drop-spread, same-quotient-cells, same-beyond, remainder-empty}
-use Rattle.poly.specs.Laws.DivisionEnds.{Empty, divided-says}
+use Rattle.poly.specs.Laws.DivisionEnds.{Empty, dividing, divided-says}
 use Rattle.poly.specs.Models.Spread.{spread}
 use Rattle.poly.specs.Models.Division.{most-key, at-most, Setting, Outcome, divide-from, setting, divided}
 use Rattle.poly.specs.Models.WorkRoom.{remainder-cells, quotient-cells, beyond, CanStep, Stepped, CanBegin, Divided}
@@ -106,14 +105,12 @@ module _ (p : ℕ) (f g work : List ℕ) (can : CanDivide p f g work) where
           (ran .rest ∙ ap beyond clears ∙ ap (λ (j : ℕ). drop j (zeroed n work)) (sym m) ∙ zeroed-beyond n (work-room - n) work
           ∙ ap (λ (j : ℕ). drop j work) m)
 
-      begun-empty : Empty (remainder-cells begun)
+      pub begun-empty : Empty (remainder-cells begun)
       begun-empty = rw clears (remainder-empty (zeroed n work) (cleared-begins .lists .room) (cleared-begins .empty))
 
       -- the answer is that of the rule
       pub cleared-says : (P : Prime p) → (whole ≡ true) ↔ Divides (Modulo p P) (poly p P g) (poly p P f)
       cleared-says P =
-          let w = listed-below (can .is-listed) in
           let e : divided p f g (remainder-cells begun) (quotient-cells begun) .whole ≡ whole = ap (λ (o : Outcome). o .whole) (sym (ran .outcome)) in
-          let s =
-          divided-says p P (omega arith) f g (can .some-dividend) (can .dividend-falls) (can .some-divisor) (can .divisor-falls) (remainder-cells begun) (quotient-cells begun) begun-empty in
+          let s = divided-says p P f g (dividing can) (remainder-cells begun) (quotient-cells begun) begun-empty in
           (λ t. s .0 (e ∙ t), λ d. sym e ∙ s .1 d)

@@ -1,8 +1,8 @@
 -- The rule of division ends on any two lists that fall, within as many steps as there are keys, and the division on cells gives its answer and its terms.
 -- So it is decided whether one list divides another. Assumes nothing.
-use mathlib.Core.Path.{_≡_, refl, sym, _∙_, ap, subst}
+use mathlib.Core.Path.{_≡_, sym, _∙_, ap, subst}
 use mathlib.Core.Logic.{_↔_}
-use mathlib.Core.Bool.{Bool, true, false}
+use mathlib.Core.Bool.{Bool, true, false, true≢false}
 use mathlib.Core.List.{List, [], _∷_}
 use Prim.Native.Nat.{ℕ, _-_, _≤_, _<_}
 use native.Mathlib.Omega.{arith}
@@ -10,9 +10,9 @@ use lib.ListN.{length, getD, replicate, length-map, length-replicate, getD-repli
 use native.Mathlib.Decide.{decLt}
 use Rattle.algebra.specs.Ring.{zero-add}
 use Rattle.algebra.specs.Series.{S4}
-use Rattle.algebra.specs.Four.{Exponents, _⊞_, _≼_, D4}
+use Rattle.algebra.specs.Four.{Exponents, _⊞_, _≼_}
 use Rattle.algebra.specs.Field.{domain}
-use Rattle.algebra.specs.Monomial.{Term, polynomial-fin}
+use Rattle.algebra.specs.Monomial.{Term}
 use Rattle.algebra.specs.Division.{stop, Division}
 use Rattle.algebra.specs.DivisionLaws.{division-says}
 use Rattle.field.specs.Fp.{Fp, el, inv, mul}
@@ -20,26 +20,24 @@ use Rattle.field.specs.FpLaws.{el-val, el-nonzero, Fp-mul-comm}
 use Rattle.field.specs.InverseLaws.{mul-inv}
 use Rattle.field.specs.Prime.{Prime}
 use Rattle.field.specs.PrimeLaws.{prime-positive}
+use Rattle.field.specs.ModuliLaws.{listed-below}
 use Rattle.field.specs.Modulo.{Modulo}
 use Rattle.poly.specs.Keys.{exponents, keys}
 use Rattle.poly.specs.Terms.{key-of, coefficient-of, term-of, terms-of, poly, base}
 use Rattle.poly.specs.Image.{Divides}
+use Rattle.poly.specs.TrialDivision.{CanDivide}
 use Rattle.poly.specs.Laws.KeyDifference.{at-most-says, at-most-of, exponents-difference}
 use Rattle.poly.specs.Lists.{Falling}
 use Rattle.poly.specs.Laws.Falling.{falling-keys}
-use Rattle.poly.specs.Laws.Terms.{poly-lead}
+use Rattle.poly.specs.Laws.Terms.{poly-finite, poly-lead}
 use Rattle.poly.specs.Laws.GreatestExponents.{most-exponents, sizes}
-use Rattle.poly.specs.Laws.Dense.{Reduced, dense, dense-zero}
+use Rattle.poly.specs.Laws.Dense.{Reduced, zeros-reduced, dense, dense-zero}
 use Rattle.poly.specs.Laws.Spread.{spread-length, spread-reduced, spread-dense}
-use Rattle.poly.specs.Laws.DivisionSteps.{found-few}
+use Rattle.poly.specs.Laws.DivisionSteps.{by-lists, found-few}
 use Rattle.poly.specs.Laws.DivisionModel.{model-division}
 use Rattle.poly.specs.Models.Cells.{past-end}
 use Rattle.poly.specs.Models.Spread.{spread}
 use Rattle.poly.specs.Models.Division.{most-of, most-key, at-most, setting, divided, found}
-
--- a list means a polynomial
-pub poly-finite : (p : ℕ) (P : Prime p) (ts : List ℕ) → D4 (Modulo p P .ring) (domain (Modulo p P)) .P (poly p P ts)
-poly-finite p P ts = polynomial-fin (Modulo p P .ring) (domain (Modulo p P)) (λ c. tt) (terms-of p P ts)
 
 -- cells, one for each key, that are 0
 pub record Empty (l : List ℕ) : Type 0 where
@@ -62,16 +60,16 @@ no-cells-empty = empty-cells no-cells (length-replicate {A = ℕ} keys 0) (λ i 
 
 -- a list spread over them
 module _ (p : ℕ) (P : Prime p) (f : List ℕ) (hf : Falling p keys f) (l : List ℕ) (empty : Empty l) where
-  pub begun-long : length (spread f l) ≡ keys
+  begun-long : length (spread f l) ≡ keys
   begun-long = spread-length f l ∙ empty .long
 
   enough : keys ≤ length l
   enough = subst (λ (n : ℕ). keys ≤ n) (sym (empty .long)) (omega arith)
 
-  pub begun-reduced : Reduced p (spread f l)
-  begun-reduced = spread-reduced p P f l keys hf enough (λ i. subst (λ (n : ℕ). n < p) (sym (empty .zeros i)) (prime-positive P))
+  begun-reduced : Reduced p (spread f l)
+  begun-reduced = spread-reduced p P f l keys hf (zeros-reduced p l (prime-positive P) (empty .zeros))
 
-  pub begun-means : dense p P (spread f l) ≡ poly p P f
+  begun-means : dense p P (spread f l) ≡ poly p P f
   begun-means =
       spread-dense p P f l keys hf enough (λ i h. empty .zeros i)
       ∙ ap (λ (d : S4 (Modulo p P .ring) .Car). S4 (Modulo p P .ring) .add d (poly p P f)) (dense-zero p P l (empty .zeros))
@@ -79,13 +77,14 @@ module _ (p : ℕ) (P : Prime p) (f : List ℕ) (hf : Falling p keys f) (l : Lis
 
 -- where the divisor's greatest exponents are at most the dividend's
 module _ (p : ℕ) (P : Prime p) (t : ℕ) (ts : List ℕ) (u : ℕ) (us : List ℕ) (hf : Falling p keys (t ∷ ts)) (hg : Falling p keys (u ∷ us)) where
-  pub lead-inverse : mul (el p (setting p (t ∷ ts) (u ∷ us) .inverse)) (el p (coefficient-of u)) ≡ el p 1
+  lead-inverse : mul (el p (setting p (t ∷ ts) (u ∷ us) .inverse)) (el p (coefficient-of u)) ≡ el p 1
   lead-inverse =
       ap (λ (x : Fp p). mul x (el p (coefficient-of u))) (el-val (inv (el p (coefficient-of u))))
       ∙ Fp-mul-comm (inv (el p (coefficient-of u))) (el p (coefficient-of u))
       ∙ mul-inv P (el p (coefficient-of u)) (el-nonzero p (coefficient-of u) (hg .2) (let l = hg .1 in omega arith))
 
-  pub spare : at-most (most-key (u ∷ us)) (most-key (t ∷ ts)) ≡ true → exponents (setting p (t ∷ ts) (u ∷ us) .bound) ⊞ most-of (u ∷ us) ≡ most-of (t ∷ ts)
+  spare : at-most (most-key (u ∷ us)) (most-key (t ∷ ts)) ≡ true
+      → exponents (setting p (t ∷ ts) (u ∷ us) .bound) ⊞ most-of (u ∷ us) ≡ most-of (t ∷ ts)
   spare h =
       let b = most-key (t ∷ ts) - most-key (u ∷ us) in
       ap (λ (e : Exponents). exponents b ⊞ e) (sym (most-exponents (u ∷ us) (falling-keys p keys (u ∷ us) hg)))
@@ -108,44 +107,54 @@ module _ (p : ℕ) (P : Prime p) (t : ℕ) (ts : List ℕ) (u : ℕ) (us : List 
       never l =
           let m : exponents (most-key (u ∷ us)) ≼ exponents (most-key (t ∷ ts)) =
           rw (most-exponents (u ∷ us) (falling-keys p keys (u ∷ us) hg), most-exponents (t ∷ ts) (falling-keys p keys (t ∷ ts) hf)) l in
-          let e = at-most-of (most-key (u ∷ us)) (most-key (t ∷ ts)) m in
-          let z : _≡_ {A = ℕ} 0 1 = cc in
-          omega arith
+          true≢false (sym (at-most-of (most-key (u ∷ us)) (most-key (t ∷ ts)) m) ∙ h)
 
   -- the division on cells goes by the rule, and finds its terms
-  lists-division : p ≤ base → (l c : List ℕ) → Empty l → (a : Bool) → at-most (most-key (u ∷ us)) (most-key (t ∷ ts)) ≡ a
-      → Division (Modulo p P .ring) (poly p P (t ∷ ts)) (poly p P (u ∷ us)) (terms-of p P (found p (t ∷ ts) (u ∷ us) l)) (divided p (t ∷ ts) (u ∷ us) l c .whole)
-  unfolding found divided
-  lists-division word l c empty true e =
-      rw (e, found, divided)
-      (model-division p P word t ts u us hf hg (setting p (t ∷ ts) (u ∷ us) .inverse) lead-inverse (setting p (t ∷ ts) (u ∷ us) .bound) (spare e)
+  lists-division : p ≤ base → (l c : List ℕ) → Empty l
+      → Division (Modulo p P .ring) (poly p P (t ∷ ts)) (poly p P (u ∷ us)) (terms-of p P (found p (t ∷ ts) (u ∷ us) l))
+      (divided p (t ∷ ts) (u ∷ us) l c .whole)
+  lists-division word l c empty =
+      by-lists p (t ∷ ts) (u ∷ us) l c (λ qs o. Division (Modulo p P .ring) (poly p P (t ∷ ts)) (poly p P (u ∷ us)) (terms-of p P qs) (o .whole)) too-wide
+      (λ e.
+      model-division p P word t ts u us hf hg (setting p (t ∷ ts) (u ∷ us) .inverse) lead-inverse (setting p (t ∷ ts) (u ∷ us) .bound) (spare e)
       (spread (t ∷ ts) l) c (begun-long p P (t ∷ ts) hf l empty) (begun-reduced p P (t ∷ ts) hf l empty) (begun-means p P (t ∷ ts) hf l empty))
-  lists-division word l c empty false e = rw (e, found, divided) (too-wide e)
 
--- two lists that are not empty and fall
-module _ (p : ℕ) (P : Prime p) (word : p ≤ base) where
-  pub divided-division : (f g : List ℕ) → 0 < length f → Falling p keys f → 0 < length g → Falling p keys g → (l c : List ℕ) → Empty l
+-- two lists that are not empty and fall, modulo a number within a coefficient's place
+pub record Dividing (p : ℕ) (f g : List ℕ) : Type 0 where
+  pub word : p ≤ base
+  pub some-dividend : 0 < length f
+  pub dividend-falls : Falling p keys f
+  pub some-divisor : 0 < length g
+  pub divisor-falls : Falling p keys g
+
+pub dividing : {p : ℕ} {f g work : List ℕ} → CanDivide p f g work → Dividing p f g
+dividing can =
+    record {
+      word = let w = listed-below (can .is-listed) in omega arith;
+      some-dividend = can .some-dividend;
+      dividend-falls = can .dividend-falls;
+      some-divisor = can .some-divisor;
+      divisor-falls = can .divisor-falls;
+    }
+
+-- at most one term for each key
+pub found-terms-few : (p : ℕ) (f g l : List ℕ) → length (found p f g l) ≤ keys
+found-terms-few p f g l = by-lists p f g l [] (λ qs o. length qs ≤ keys) (λ e. omega arith) (λ e. found-few (setting p f g) keys (spread f l))
+
+module _ (p : ℕ) (P : Prime p) where
+  pub divided-division : (f g : List ℕ) → Dividing p f g → (l c : List ℕ) → Empty l
       → Division (Modulo p P .ring) (poly p P f) (poly p P g) (terms-of p P (found p f g l)) (divided p f g l c .whole)
-  divided-division [] [] sf hf sg hg l c empty = absurd (omega arith)
-  divided-division [] (u ∷ us) sf hf sg hg l c empty = absurd (omega arith)
-  divided-division (t ∷ ts) [] sf hf sg hg l c empty = absurd (omega arith)
-  divided-division (t ∷ ts) (u ∷ us) sf hf sg hg l c empty = lists-division p P t ts u us hf hg word l c empty _ refl
+  divided-division [] [] h l c empty = absurd (omega (arith, h .some-dividend))
+  divided-division [] (u ∷ us) h l c empty = absurd (omega (arith, h .some-dividend))
+  divided-division (t ∷ ts) [] h l c empty = absurd (omega (arith, h .some-divisor))
+  divided-division (t ∷ ts) (u ∷ us) h l c empty = lists-division p P t ts u us (h .dividend-falls) (h .divisor-falls) (h .word) l c empty
 
   -- it says yes exactly if g divides f, as polynomials
-  pub divided-says : (f g : List ℕ) → 0 < length f → Falling p keys f → 0 < length g → Falling p keys g → (l c : List ℕ) → Empty l
+  pub divided-says : (f g : List ℕ) → Dividing p f g → (l c : List ℕ) → Empty l
       → (divided p f g l c .whole ≡ true) ↔ Divides (Modulo p P) (poly p P g) (poly p P f)
-  divided-says f g sf hf sg hg l c empty =
+  divided-says f g h l c empty =
       division-says (Modulo p P .ring) (domain (Modulo p P)) (λ a. tt) (poly p P f) (poly p P g) (terms-of p P (found p f g l)) (divided p f g l c .whole)
-      (poly-finite p P g) (divided-division f g sf hf sg hg l c empty)
-
-  -- at most one term for each key
-  pub found-terms-few : (f g l : List ℕ) → length (found p f g l) ≤ keys
-  unfolding found
-  found-terms-few f g l = go (at-most (most-key g) (most-key f)) refl
-    where
-      go : (a : Bool) → at-most (most-key g) (most-key f) ≡ a → length (found p f g l) ≤ keys
-      go true e = rw (e, found) (found-few (setting p f g) keys (spread f l))
-      go false e = rw (e, found) (omega arith)
+      (poly-finite p P g) (divided-division f g h l c empty)
 
   -- a division that ends, with its terms and its answer
   pub record Ends (f g : List ℕ) : Type 0 where
@@ -154,13 +163,12 @@ module _ (p : ℕ) (P : Prime p) (word : p ≤ base) where
     pub division : Division (Modulo p P .ring) (poly p P f) (poly p P g) terms whole
     pub few : length terms ≤ keys
 
-  module _ (f g : List ℕ) (sf : 0 < length f) (hf : Falling p keys f) (sg : 0 < length g) (hg : Falling p keys g) where
-    -- the rule ends within as many steps as there are keys
-    pub division-ends : Ends f g
-    division-ends =
-        record {
-          terms = terms-of p P (found p f g no-cells);
-          whole = divided p f g no-cells [] .whole;
-          division = divided-division f g sf hf sg hg no-cells [] no-cells-empty;
-          few = let e = length-map (found p f g no-cells) (term-of p P) in let m = found-terms-few f g no-cells in omega arith;
-        }
+  -- the rule ends within as many steps as there are keys
+  pub division-ends : (f g : List ℕ) → Dividing p f g → Ends f g
+  division-ends f g h =
+      record {
+        terms = terms-of p P (found p f g no-cells);
+        whole = divided p f g no-cells [] .whole;
+        division = divided-division f g h no-cells [] no-cells-empty;
+        few = omega (arith, length-map (found p f g no-cells) (term-of p P), found-terms-few p f g no-cells);
+      }

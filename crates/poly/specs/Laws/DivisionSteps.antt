@@ -1,55 +1,45 @@
 -- The division on cells goes on by one cell: a cell that is 0 is passed, a leading term that can be divided is taken away, one that cannot ends it.
--- The outcome and the terms found go the same way. Assumes nothing.
-use mathlib.Core.Path.{_≡_, ap, _∙_}
+-- The outcome and the terms found go the same way, so what each step keeps holds of both. Assumes nothing.
+use mathlib.Core.Path.{_≡_, refl, sym, ap, _∙_, subst}
 use mathlib.Core.Bool.{Bool, true, false}
 use mathlib.Core.List.{List, [], _∷_}
 use Prim.Native.Nat.{ℕ, zero, suc, _-_, _≤_}
+use native.Mathlib.Decide.{ℕ-discrete}
 use native.Mathlib.Omega.{arith}
 use borrow.Author.Tests.{eq-eqb, ne-eqb}
-use lib.Dec.{eqb}
 use lib.ListN.{length, getD, set}
-use Rattle.poly.specs.Models.Division.{Setting, less-product, fits, factor, less, divide-from, found-from}
+use Rattle.poly.specs.Keys.{keys}
 use Rattle.poly.specs.Terms.{packed}
+use Rattle.poly.specs.Models.Spread.{spread}
+use Rattle.poly.specs.Models.Division.{most-key, at-most, Setting, less-product, fits, factor, less, Outcome, divide-from, found-from, setting, divided, found}
 
 module _ (d : Setting) where
-  pub outcome-passed : (k : ℕ) (l c : List ℕ) → getD l k 0 ≡ 0 → divide-from d (suc k) l c ≡ divide-from d k l c
+  outcome-passed : (k : ℕ) (l c : List ℕ) → getD l k 0 ≡ 0 → divide-from d (suc k) l c ≡ divide-from d k l c
   unfolding divide-from
   outcome-passed k l c e = rw (eq-eqb _ _ e, divide-from)
 
-  pub outcome-taken : (k : ℕ) (l c : List ℕ) → ¬ (getD l k 0 ≡ 0) → fits d k ≡ true
+  outcome-taken : (k : ℕ) (l c : List ℕ) → ¬ (getD l k 0 ≡ 0) → fits d k ≡ true
       → divide-from d (suc k) l c ≡ divide-from d k (less d k l) (set c (k - d .lead) (factor d k l))
   unfolding divide-from
   outcome-taken k l c n f = rw (ne-eqb _ _ n, divide-from) (rw (f, divide-from))
 
-  pub outcome-stopped : (k : ℕ) (l c : List ℕ) → ¬ (getD l k 0 ≡ 0) → fits d k ≡ false
+  outcome-stopped : (k : ℕ) (l c : List ℕ) → ¬ (getD l k 0 ≡ 0) → fits d k ≡ false
       → divide-from d (suc k) l c ≡ record { whole = false; quotient = c }
   unfolding divide-from
   outcome-stopped k l c n f = rw (ne-eqb _ _ n, divide-from) (rw (f, divide-from))
 
-  pub found-passed : (k : ℕ) (l : List ℕ) → getD l k 0 ≡ 0 → found-from d (suc k) l ≡ found-from d k l
+  found-passed : (k : ℕ) (l : List ℕ) → getD l k 0 ≡ 0 → found-from d (suc k) l ≡ found-from d k l
   unfolding found-from
   found-passed k l e = rw (eq-eqb _ _ e, found-from)
 
-  pub found-taken : (k : ℕ) (l : List ℕ) → ¬ (getD l k 0 ≡ 0) → fits d k ≡ true
+  found-taken : (k : ℕ) (l : List ℕ) → ¬ (getD l k 0 ≡ 0) → fits d k ≡ true
       → found-from d (suc k) l ≡ packed (k - d .lead) (factor d k l) ∷ found-from d k (less d k l)
   unfolding found-from
   found-taken k l n f = rw (ne-eqb _ _ n, found-from) (rw (f, found-from))
 
-  pub found-stopped : (k : ℕ) (l : List ℕ) → ¬ (getD l k 0 ≡ 0) → fits d k ≡ false → found-from d (suc k) l ≡ []
+  found-stopped : (k : ℕ) (l : List ℕ) → ¬ (getD l k 0 ≡ 0) → fits d k ≡ false → found-from d (suc k) l ≡ []
   unfolding found-from
   found-stopped k l n f = rw (ne-eqb _ _ n, found-from) (rw (f, found-from))
-
-  -- no more terms than cells
-  pub found-few : (k : ℕ) (l : List ℕ) → length (found-from d k l) ≤ k
-  unfolding found-from
-  found-few zero l = omega arith
-  found-few (suc k) l = few (eqb (getD l k 0) 0) (fits d k) _ _ _ (found-few k l) (found-few k (less d k l))
-    where
-      few : (a b : Bool) (m n : List ℕ) (t : ℕ) → length m ≤ k → length n ≤ k
-          → length {A = ℕ} (elim a [ true ↦ m | false ↦ elim b [ true ↦ t ∷ n | false ↦ [] ] ]) ≤ suc k
-      few true b m n t h i = omega arith
-      few false true m n t h i = omega arith
-      few false false m n t h i = omega arith
 
   -- the outcome, as the code takes its steps: from k down to k - 1
   down : (k : ℕ) → ¬ (k ≡ 0) → k ≡ suc (k - 1)
@@ -71,3 +61,44 @@ module _ (d : Setting) where
   pub division-stopped : (k : ℕ) (l c : List ℕ) → ¬ (k ≡ 0) → ¬ (getD l (k - 1) 0 ≡ 0) → fits d (k - 1) ≡ false
       → divide-from d k l c ≡ record { whole = false; quotient = c }
   division-stopped k l c n e f = ap (λ (m : ℕ). divide-from d m l c) (down k n) ∙ outcome-stopped (k - 1) l c e f
+
+-- What holds where a division ends, and of one cell more where it holds of what is left, holds of every division: of its cells l and c,
+-- the terms found and the outcome.
+module _ (d : Setting) (Holds : ℕ → List ℕ → List ℕ → List ℕ → Outcome → Type 0)
+    (ends : (l c : List ℕ) → Holds 0 l c [] (record { whole = true; quotient = c }))
+    (passes : (k : ℕ) (l c qs : List ℕ) (o : Outcome) → getD l k 0 ≡ 0 → Holds k l c qs o → Holds (suc k) l c qs o)
+    (takes : (k : ℕ) (l c qs : List ℕ) (o : Outcome) → ¬ (getD l k 0 ≡ 0) → fits d k ≡ true
+    → Holds k (less d k l) (set c (k - d .lead) (factor d k l)) qs o → Holds (suc k) l c (packed (k - d .lead) (factor d k l) ∷ qs) o)
+    (stops : (k : ℕ) (l c : List ℕ) → ¬ (getD l k 0 ≡ 0) → fits d k ≡ false → Holds (suc k) l c [] (record { whole = false; quotient = c })) where
+  pub by-cells : (k : ℕ) (l c : List ℕ) → Holds k l c (found-from d k l) (divide-from d k l c)
+  unfolding found-from divide-from
+  by-cells zero l c = ends l c
+  by-cells (suc k) l c = cell (ℕ-discrete (getD l k 0) 0) (fits d k) refl (λ m b. by-cells k m b)
+    where
+      to : (qs rs : List ℕ) (o r : Outcome) → qs ≡ rs → o ≡ r → Holds (suc k) l c rs r → Holds (suc k) l c qs o
+      to qs rs o r e f h = subst (λ (x : List ℕ). Holds (suc k) l c x o) (sym e) (subst (λ (x : Outcome). Holds (suc k) l c rs x) (sym f) h)
+
+      cell : Dec (getD l k 0 ≡ 0) → (a : Bool) → fits d k ≡ a → ((m b : List ℕ) → Holds k m b (found-from d k m) (divide-from d k m b))
+          → Holds (suc k) l c (found-from d (suc k) l) (divide-from d (suc k) l c)
+      cell (yes e) a q again = to _ _ _ _ (found-passed d k l e) (outcome-passed d k l c e) (passes k l c _ _ e (again l c))
+      cell (no n) true q again = to _ _ _ _ (found-taken d k l n q) (outcome-taken d k l c n q) (takes k l c _ _ n q (again _ _))
+      cell (no n) false q again = to _ _ _ _ (found-stopped d k l n q) (outcome-stopped d k l c n q) (stops k l c n q)
+
+-- no more terms than cells
+pub found-few : (d : Setting) (k : ℕ) (l : List ℕ) → length (found-from d k l) ≤ k
+found-few d k l =
+    by-cells d (λ k l c qs o. length qs ≤ k) (λ l c. omega arith) (λ k l c qs o e h. omega arith) (λ k l c qs o n f h. omega arith)
+    (λ k l c n f. omega arith) k l []
+
+-- the same of two lists: at once no, or by cells
+module _ (p : ℕ) (f g l c : List ℕ) (Holds : List ℕ → Outcome → Type 0)
+    (wide : at-most (most-key g) (most-key f) ≡ false → Holds [] (record { whole = false; quotient = c }))
+    (runs : at-most (most-key g) (most-key f) ≡ true
+    → Holds (found-from (setting p f g) keys (spread f l)) (divide-from (setting p f g) keys (spread f l) c)) where
+  pub by-lists : Holds (found p f g l) (divided p f g l c)
+  unfolding found divided
+  by-lists = go (at-most (most-key g) (most-key f)) refl
+    where
+      go : (a : Bool) → at-most (most-key g) (most-key f) ≡ a → Holds (found p f g l) (divided p f g l c)
+      go true e = rw (e, found, divided) (runs e)
+      go false e = rw (e, found, divided) (wide e)

@@ -1,17 +1,16 @@
--- What the model means: `series` of eight numbers, and the model's Euclid gives the monic greatest common divisor. Assumes nothing.
+-- What eight numbers mean, `series`, and what the model's steps mean: a subtraction, the remainder, and division by the highest number. Assumes nothing.
 use mathlib.Core.Path.{_≡_, refl, sym, ap, _∙_, subst, fun-ext}
 use mathlib.Core.List.{List}
 use Prim.Native.Nat.{ℕ, zero, suc, _+_, _-_, _*_, _%_, _≤_, _<_}
-use native.Mathlib.Decide.{ℕ-discrete, decLt}
+use native.Mathlib.Decide.{decLt}
 use native.Mathlib.Nat.{mod-eq-of-lt, mul-zero as mul-zeroₙ, zero-mod}
 use native.Mathlib.Omega.{arith}
-use borrow.Author.Tests.{eq-eqb, ne-eqb}
 use lib.ListN.{getD}
 use Rattle.algebra.specs.Ring.{CommRing, neg-zero, mul-zero}
 use Rattle.algebra.specs.Series.{conv}
 use Rattle.algebra.specs.Degree.{Ends, conv-ends}
 use Rattle.algebra.specs.Mono.{mono, mono-low, mono-high, mono-ends}
-use Rattle.algebra.specs.GreatestCommon.{GreatestCommon, Associate, greatest-swap, greatest-zero, greatest-first, greatest-second}
+use Rattle.algebra.specs.GreatestCommon.{GreatestCommon, Associate}
 use Rattle.algebra.specs.Univariate.{Poly, PolyD, less, greatest-less, over-lead, over-lead-associate}
 use Rattle.field.specs.Fp.{Fp, el, add, mul, neg, inv}
 use Rattle.field.specs.FpLaws.{el-val, el-mod, el-inj, el-mul, el-nonzero}
@@ -22,9 +21,10 @@ use Rattle.field.specs.Residues.{Residues}
 use Rattle.field.specs.Modulo.{Modulo}
 use Rattle.field.specs.Link.{minus-times-el}
 use Rattle.poly.specs.Coefficients.{Eight, series}
-use Rattle.poly.specs.Models.Cells.{cells, cells-at, cells-past, past-end}
-use Rattle.poly.specs.Models.Eight.{size, scaled, monic, less-at, subtract, remainder, euclid, gcd}
-use Rattle.poly.specs.Laws.EightNumbers.{Clear, Leads, eight-clear, size-clear, size-lead, size-below, size-le, size-is, scaled-eight, less-low, less-high, subtract-eight, remainder-eight, remainder-clear}
+use Rattle.poly.specs.Models.Cells.{cells-at, cells-all, past-end}
+use Rattle.poly.specs.Models.Eight.{size, scaled, monic, less-at, subtract, remainder}
+use Rattle.poly.specs.Laws.Places.{Clear}
+use Rattle.poly.specs.Laws.EightNumbers.{Leads, eight-clear, size-clear, size-lead, scaled-eight, less-low, less-high, subtract-eight}
 
 pub clear-ends : (p : ℕ) (h : 0 < p) (n : ℕ) (f : List ℕ) → Clear n f → Ends (Residues p h) n (series p f)
 clear-ends p h n f c i l = ap (λ (x : ℕ). el p x) (c i l)
@@ -34,234 +34,115 @@ pub series-injective : (p : ℕ) (f g : List ℕ) → Eight p f → Eight p g �
 series-injective p f g hf hg e i =
     sym (mod-eq-of-lt (hf .below i)) ∙ el-inj p _ _ (ap (λ (u : ℕ → Fp p). u i) e) ∙ mod-eq-of-lt (hg .below i)
 
--- u is the monic greatest common divisor of a and b, and of degree d
-pub record IsGcd {p : ℕ} (P : Prime p) (a b : ℕ → Fp p) (u : List ℕ) (d : ℕ) : Type 0 where
-  pub eight : Eight p u
-  pub monic : Leads d u
-  pub greatest : GreatestCommon (Poly (Modulo p P)) (PolyD (Modulo p P)) a b (series p u)
-
 module _ {p : ℕ} (P : Prime p) where
   abbrev ring : CommRing
   ring = Residues p (prime-positive P)
 
+  -- u is a greatest common divisor of a and b, polynomials in x modulo p
+  abbrev pub Greatest : (ℕ → Fp p) → (ℕ → Fp p) → (ℕ → Fp p) → Type 0
+  Greatest a b u = GreatestCommon (Poly (Modulo p P)) (PolyD (Modulo p P)) a b u
+
   -- a step of the model is a step of the mathematics
-  pub subtract-series : (c k n : ℕ) (f g : List ℕ) → c < p → Eight p f → Clear n g → k + n ≤ 8
+  subtract-series : (c k n : ℕ) (f g : List ℕ) → c < p → Eight p f → Clear n g → k + n ≤ 8
       → series p (subtract p c k f g) ≡ less (Modulo p P) k (el p c) (series p f) (series p g)
   unfolding less subtract
-  subtract-series c k n f g l h cg fit = fun-ext each
+  subtract-series c k n f g l h cg fit =
+      fun-ext λ i.
+      cells-all (λ x. el p x ≡ less (Modulo p P) k (el p c) (series p f) (series p g) i) (less-at p c k f g) 8 i (λ b. below i)
+      (λ b.
+      ap (el p) (sym (past-end 8 i f (h .eight) b))
+      ∙ none i
+      (conv-ends ring (suc k) n (mono ring k (el p c)) (series p g) (mono-ends ring k (el p c)) (clear-ends p (prime-positive P) n g cg) i
+      (omega arith)))
     where
       none : (i : ℕ) → conv ring (mono ring k (el p c)) (series p g) i ≡ el p 0
           → series p f i ≡ less (Modulo p P) k (el p c) (series p f) (series p g) i
       none i z = sym (ap (λ (u : Fp p). add (series p f i) (neg u)) z ∙ ap (add (series p f i)) (neg-zero ring) ∙ ring .add-zero _)
 
-      each : (i : ℕ) → el p (getD (cells (less-at p c k f g) 8) i 0) ≡ less (Modulo p P) k (el p c) (series p f) (series p g) i
-      each i =
-          elim (decLt i 8) [
-            | yes b ↦ elim (decLt i k) [
-              | yes a ↦
-                  ap (el p) (cells-at (less-at p c k f g) 8 i b ∙ less-low p (prime-positive P) c k f g i a)
-                  ∙ none i (mono-low ring k (el p c) (series p g) i a)
-              | no a ↦
-                  let e : k + (i - k) ≡ i = omega arith in
-                  ap (el p) (cells-at (less-at p c k f g) 8 i b ∙ less-high p (prime-positive P) c k f g i (omega arith))
-                  ∙ minus-times-el p (getD f i 0) c (getD g (i - k) 0) (prime-positive P) (omega arith)
-                  ∙ ap (λ (u : Fp p). add (series p f i) (neg u))
-                  (sym (mono-high ring k (el p c) (series p g) (i - k)) ∙ ap (conv ring (mono ring k (el p c)) (series p g)) e)
-            ]
-            | no b ↦
-                ap (el p) (cells-past (less-at p c k f g) 8 i (omega arith) ∙ sym (past-end 8 i f (h .eight) (omega arith)))
-                ∙ none i
-                (conv-ends ring (suc k) n (mono ring k (el p c)) (series p g) (mono-ends ring k (el p c)) (clear-ends p (prime-positive P) n g cg) i (omega arith))
+      below : (i : ℕ) → el p (less-at p c k f g i) ≡ less (Modulo p P) k (el p c) (series p f) (series p g) i
+      below i =
+          elim (decLt i k) [
+            | yes a ↦ ap (el p) (less-low p c k f g i a) ∙ none i (mono-low ring k (el p c) (series p g) i a)
+            | no a ↦
+                let e : k + (i - k) ≡ i = omega arith in
+                ap (el p) (less-high p c k f g i (omega arith))
+                ∙ minus-times-el p (getD f i 0) c (getD g (i - k) 0) (prime-positive P) (omega arith)
+                ∙ ap (λ (u : Fp p). add (series p f i) (neg u))
+                (sym (mono-high ring k (el p c) (series p g) (i - k)) ∙ ap (conv ring (mono ring k (el p c)) (series p g)) e)
           ]
 
   -- so the common divisors of f and g are those of the remainder and g
   pub remainder-greatest : (m : ℕ) (g : List ℕ) → Clear (suc m) g → (k : ℕ) (f : List ℕ) → Eight p f → k + m ≤ 8 → (u : ℕ → Fp p)
-      → GreatestCommon (Poly (Modulo p P)) (PolyD (Modulo p P)) (series p (remainder p m g k f)) (series p g) u
-      → GreatestCommon (Poly (Modulo p P)) (PolyD (Modulo p P)) (series p f) (series p g) u
+      → Greatest (series p (remainder p m g k f)) (series p g) u → Greatest (series p f) (series p g) u
   unfolding remainder
   remainder-greatest m g cg zero f h fit u s = s
   remainder-greatest m g cg (suc k) f h fit u s =
       let c = getD f (k + m) 0 in
       greatest-less (Modulo p P) k (el p c) (series p f) (series p g) u
-      (subst (λ (v : ℕ → Fp p). GreatestCommon (Poly (Modulo p P)) (PolyD (Modulo p P)) v (series p g) u)
+      (subst (λ (v : ℕ → Fp p). Greatest v (series p g) u)
       (subtract-series c k (suc m) f g (h .below (k + m)) h cg (omega arith))
       (remainder-greatest m g cg k (subtract p c k f g) (subtract-eight p (prime-positive P) c k f g h) (omega arith) u s))
-
-  -- scaling by the inverse of the highest number
-  pub monic-series : (n : ℕ) (f : List ℕ) → Eight p f → series p (monic p n f) ≡ over-lead (Modulo p P) n (series p f)
-  unfolding monic scaled over-lead
-  monic-series n f h = fun-ext each
-    where
-      v : ℕ
-      v = inv (el p (getD f n 0)) .val
-
-      each : (i : ℕ) → el p (getD (cells (λ i. (v * getD f i 0) % p) 8) i 0) ≡ mul (inv (el p (getD f n 0))) (el p (getD f i 0))
-      each i =
-          elim (decLt i 8) [
-            | yes b ↦
-                ap (el p) (cells-at (λ i. (v * getD f i 0) % p) 8 i b) ∙ el-mod p (v * getD f i 0) ∙ el-mul p v (getD f i 0)
-                ∙ ap (λ (u : Fp p). mul u (el p (getD f i 0))) (el-val (inv (el p (getD f n 0))))
-            | no b ↦
-                ap (el p) (cells-past (λ i. (v * getD f i 0) % p) 8 i (omega arith))
-                ∙ sym (ap (λ (x : ℕ). mul (inv (el p (getD f n 0))) (el p x)) (past-end 8 i f (h .eight) (omega arith)) ∙ mul-zero ring _)
-          ]
-
-  pub monic-leads : (n : ℕ) (f : List ℕ) → Eight p f → ¬ (getD f n 0 ≡ 0) → Clear (suc n) f → Leads n (monic p n f)
-  unfolding monic scaled
-  monic-leads n f h q c =
-      record {
-        one =
-            cells-at at 8 n (elim (decLt n 8) [ yes l ↦ l | no l ↦ absurd (q (past-end 8 n f (h .eight) (omega arith))) ])
-            ∙ el-inj p (v * getD f n 0) 1
-            (el-mul p v (getD f n 0) ∙ ap (λ (u : Fp p). mul u (el p (getD f n 0))) (el-val (inv (el p (getD f n 0))))
-            ∙ ring .mul-comm _ _
-            ∙ mul-inv P (el p (getD f n 0)) (el-nonzero p (getD f n 0) (h .below n) q))
-            ∙ mod-eq-of-lt (P .above);
-        clear =
-            λ i l.
-            elim (decLt i 8) [
-              | yes b ↦ cells-at at 8 i b ∙ ap (λ (x : ℕ). (v * x) % p) (c i l) ∙ ap (λ (x : ℕ). x % p) (mul-zeroₙ v) ∙ zero-mod p
-              | no b ↦ cells-past at 8 i (omega arith)
-            ];
-      }
-    where
-      v : ℕ
-      v = inv (el p (getD f n 0)) .val
-
-      at : ℕ → ℕ
-      at i = (v * getD f i 0) % p
 
   pub monic-eight : (n : ℕ) (f : List ℕ) → Eight p (monic p n f)
   unfolding monic
   monic-eight n f = scaled-eight p (prime-positive P) (inv (el p (getD f n 0)) .val) f
 
-  -- made monic, a polynomial has the divisors that it had
-  pub monic-associate : (n : ℕ) (f : List ℕ) → Eight p f → ¬ (getD f n 0 ≡ 0) → Clear (suc n) f
-      → Associate (Poly (Modulo p P)) (PolyD (Modulo p P)) (series p (monic p n f)) (series p f)
-  monic-associate n f h q c =
-      let a =
-      over-lead-associate (Modulo p P) n (series p f)
-      (record { nonzero = el-nonzero p (getD f n 0) (h .below n) q; ends = clear-ends p (prime-positive P) (suc n) f c }) in
-      subst (λ (u : ℕ → Fp p). Associate (Poly (Modulo p P)) (PolyD (Modulo p P)) u (series p f)) (sym (monic-series n f h))
-      (record { to = a .from; from = a .to })
+  -- all divided by the number at n
+  module _ (n : ℕ) (f : List ℕ) (h : Eight p f) where
+    abbrev inverse : ℕ
+    inverse = inv (el p (getD f n 0)) .val
 
-  abbrev Gcd : (ℕ → Fp p) → (ℕ → Fp p) → List ℕ → Type 0
-  Gcd a b u = (d : ℕ) × IsGcd P a b u d
+    abbrev times : ℕ → ℕ
+    times i = (inverse * getD f i 0) % p
 
-  euclid-done : (fuel : ℕ) (f g : List ℕ) → size g ≡ 0 → euclid p (suc fuel) f g ≡ f
-  unfolding euclid
-  euclid-done fuel f g e = rw (eq-eqb (size g) 0 e, euclid)
+    times-el : (i : ℕ) → el p (inverse * getD f i 0) ≡ mul (inv (el p (getD f n 0))) (el p (getD f i 0))
+    times-el i = el-mul p inverse (getD f i 0) ∙ ap (λ (u : Fp p). mul u (el p (getD f i 0))) (el-val (inv (el p (getD f n 0))))
 
-  pub euclid-next : (fuel : ℕ) (f g : List ℕ) → ¬ (size g ≡ 0)
-      → euclid p (suc fuel) f g
-      ≡ euclid p fuel (monic p (size g - 1) g) (remainder p (size g - 1) (monic p (size g - 1) g) (8 - (size g - 1)) f)
-  unfolding euclid
-  euclid-next fuel f g q = rw (ne-eqb (size g) 0 q, euclid)
+    monic-series : series p (monic p n f) ≡ over-lead (Modulo p P) n (series p f)
+    unfolding monic scaled over-lead
+    monic-series =
+        fun-ext λ i.
+        cells-all (λ x. el p x ≡ mul (inv (el p (getD f n 0))) (el p (getD f i 0))) times 8 i
+        (λ b. el-mod p (inverse * getD f i 0) ∙ times-el i)
+        (λ b. sym (ap (λ (x : ℕ). mul (inv (el p (getD f n 0))) (el p x)) (past-end 8 i f (h .eight) b) ∙ mul-zero ring _))
 
-  pub euclid-end : (fuel : ℕ) (f g : List ℕ) → size g ≡ 0 → euclid p fuel f g ≡ f
-  unfolding euclid
-  euclid-end zero f g e = refl
-  euclid-end (suc fuel) f g e = euclid-done fuel f g e
-
-  alone : (n : ℕ) (f g : List ℕ) → Eight p f → Leads n f → Eight p g → size g ≡ 0 → Gcd (series p f) (series p g) f
-  alone n f g hf lf hg e = (
-    n,
-    record {
-      eight = hf;
-      monic = lf;
-      greatest =
-          subst (λ (u : ℕ → Fp p). GreatestCommon (Poly (Modulo p P)) (PolyD (Modulo p P)) (series p f) u (series p f))
-          (sym (fun-ext (λ i. clear-ends p (prime-positive P) (size g) g (size-clear 8 g (eight-clear p g hg)) i (omega arith))))
-          (greatest-zero (Poly (Modulo p P)) (PolyD (Modulo p P)) (series p f));
-    },
-  )
-
-  -- what a turn of Euclid's algorithm makes of g: monic, with the remainder of f by it smaller
-  module _ (f g : List ℕ) (hf : Eight p f) (hg : Eight p g) (q : ¬ (size g ≡ 0)) where
-    abbrev m : ℕ
-    m = size g - 1
-
-    lead : ¬ (getD g m 0 ≡ 0)
-    lead = size-lead 8 g (omega arith)
-
-    clear : Clear (suc m) g
-    clear i l = size-clear 8 g (eight-clear p g hg) i (omega arith)
-
-    pub turn-leads : Leads m (monic p m g)
-    turn-leads = monic-leads m g hg lead clear
-
-    pub turn-fits : (8 - m) + m ≡ 8
-    turn-fits = omega (arith, size-le 8 g)
-
-    pub turn-rest : Eight p (remainder p m (monic p m g) (8 - m) f)
-    turn-rest = remainder-eight p (prime-positive P) m (monic p m g) (8 - m) f hf
-
-    pub turn-smaller : size (remainder p m (monic p m g) (8 - m) f) ≤ m
-    turn-smaller =
-        size-below 8 m (remainder p m (monic p m g) (8 - m) f)
-        (remainder-clear p (prime-positive P) m (monic p m g) (turn-leads .one) (turn-leads .clear) (8 - m) f hf
-        (λ i l. eight-clear p f hf i (omega (arith, turn-fits))))
-
-    turn-greatest : (u : ℕ → Fp p)
-        → GreatestCommon (Poly (Modulo p P)) (PolyD (Modulo p P)) (series p (monic p m g)) (series p (remainder p m (monic p m g) (8 - m) f)) u
-        → GreatestCommon (Poly (Modulo p P)) (PolyD (Modulo p P)) (series p f) (series p g) u
-    turn-greatest u s =
-        greatest-second (Poly (Modulo p P)) (PolyD (Modulo p P)) (series p f) (series p (monic p m g)) (series p g) u (monic-associate m g hg lead clear)
-        (remainder-greatest m (monic p m g) (turn-leads .clear) (8 - m) f hf (omega (arith, turn-fits)) u
-        (greatest-swap (Poly (Modulo p P)) (PolyD (Modulo p P)) (series p (monic p m g)) (series p (remainder p m (monic p m g) (8 - m) f)) u s))
-
-  pub euclid-is-gcd : (fuel n : ℕ) (f g : List ℕ) → size g ≤ fuel → Eight p f → Leads n f → Eight p g
-      → Gcd (series p f) (series p g) (euclid p fuel f g)
-  unfolding euclid
-  euclid-is-gcd zero n f g l hf lf hg = alone n f g hf lf hg (omega arith)
-  euclid-is-gcd (suc fuel) n f g l hf lf hg =
-      go (ℕ-discrete (size g) 0) (λ n f g. euclid-is-gcd fuel n f g)
-    where
-      go : Dec (size g ≡ 0)
-          → ((n : ℕ) (f g : List ℕ) → size g ≤ fuel → Eight p f → Leads n f → Eight p g → Gcd (series p f) (series p g) (euclid p fuel f g))
-          → Gcd (series p f) (series p g) (euclid p (suc fuel) f g)
-      go (yes e) again = subst (Gcd (series p f) (series p g)) (sym (euclid-done fuel f g e)) (alone n f g hf lf hg e)
-      go (no q) again =
-          let w =
-          again (size g - 1) (monic p (size g - 1) g) (remainder p (size g - 1) (monic p (size g - 1) g) (8 - (size g - 1)) f)
-          (omega (arith, turn-smaller f g hf hg q)) (monic-eight (size g - 1) g) (turn-leads f g hf hg q) (turn-rest f g hf hg q) in
-          subst (Gcd (series p f) (series p g)) (sym (euclid-next fuel f g q))
-          (w .0, record { eight = w .1 .eight; monic = w .1 .monic; greatest = turn-greatest f g hf hg q _ (w .1 .greatest) })
-
-  -- the degree is what the size says
-  gcd-size : (a b : ℕ → Fp p) (u : List ℕ) (d : ℕ) → IsGcd P a b u d → size u ≡ suc d
-  gcd-size a b u d h = size-is 8 d u (eight-clear p u (h .eight)) (λ e. omega (arith, sym (h .monic .one) ∙ e)) (h .monic .clear)
-
-  module _ (a b : List ℕ) (ha : Eight p a) (q : ¬ (size a ≡ 0)) (hb : Eight p b) where
-    abbrev n : ℕ
-    n = size a - 1
-
-    first-lead : ¬ (getD a n 0 ≡ 0)
-    first-lead = size-lead 8 a (omega arith)
-
-    first-clear : Clear (suc n) a
-    first-clear i l = size-clear 8 a (eight-clear p a ha) i (omega arith)
-
-    gcd-found : Gcd (series p a) (series p b) (gcd p a b)
-    unfolding gcd
-    gcd-found =
-        let w = euclid-is-gcd (size b) n (monic p n a) b (omega arith) (monic-eight n a) (monic-leads n a ha first-lead first-clear) hb in (
-          w .0,
+    -- where it is the highest that is not 0
+    module _ (q : ¬ (getD f n 0 ≡ 0)) (c : Clear (suc n) f) where
+      monic-leads : Leads n (monic p n f)
+      unfolding monic scaled
+      monic-leads =
           record {
-            eight = w .1 .eight;
-            monic = w .1 .monic;
-            greatest =
-                greatest-first (Poly (Modulo p P)) (PolyD (Modulo p P)) (series p (monic p n a)) (series p a) (series p b) (series p (gcd p a b))
-                (monic-associate n a ha first-lead first-clear) (w .1 .greatest);
-          },
-        )
+            one =
+                cells-at times 8 n (elim (decLt n 8) [ yes l ↦ l | no l ↦ absurd (q (past-end 8 n f (h .eight) (omega arith))) ])
+                ∙ el-inj p (inverse * getD f n 0) 1
+                (times-el n ∙ ring .mul-comm _ _ ∙ mul-inv P (el p (getD f n 0)) (el-nonzero p (getD f n 0) (h .below n) q))
+                ∙ mod-eq-of-lt (P .above);
+            clear =
+                λ i l.
+                cells-all (λ x. x ≡ 0) times 8 i
+                (λ b. ap (λ (x : ℕ). (inverse * x) % p) (c i l) ∙ ap (λ (x : ℕ). x % p) (mul-zeroₙ inverse) ∙ zero-mod p)
+                (λ b. refl);
+          }
 
-    pub gcd-nonzero : size (gcd p a b) ≡ suc (size (gcd p a b) - 1)
-    gcd-nonzero = let s = gcd-size (series p a) (series p b) (gcd p a b) (gcd-found .0) (gcd-found .1) in omega arith
+      -- made monic, a polynomial has the divisors that it had
+      monic-associate : Associate (Poly (Modulo p P)) (PolyD (Modulo p P)) (series p (monic p n f)) (series p f)
+      monic-associate =
+          let a =
+          over-lead-associate (Modulo p P) n (series p f)
+          (record { nonzero = el-nonzero p (getD f n 0) (h .below n) q; ends = clear-ends p (prime-positive P) (suc n) f c }) in
+          subst (λ (u : ℕ → Fp p). Associate (Poly (Modulo p P)) (PolyD (Modulo p P)) u (series p f)) (sym monic-series)
+          (record { to = a .from; from = a .to })
 
-    -- the model's result means the monic greatest common divisor of the two meanings
-    pub gcd-is-gcd : IsGcd P (series p a) (series p b) (gcd p a b) (size (gcd p a b) - 1)
-    gcd-is-gcd =
-        let s = gcd-size (series p a) (series p b) (gcd p a b) (gcd-found .0) (gcd-found .1) in
-        let d : gcd-found .0 ≡ size (gcd p a b) - 1 = omega arith in
-        subst (IsGcd P (series p a) (series p b) (gcd p a b)) d (gcd-found .1)
+  -- the highest stands below the size
+  module _ (f : List ℕ) (h : Eight p f) (q : ¬ (size f ≡ 0)) where
+    nonzero : ¬ (getD f (size f - 1) 0 ≡ 0)
+    nonzero = size-lead 8 f (omega arith)
+
+    clear : Clear (suc (size f - 1)) f
+    clear i l = size-clear 8 f (eight-clear p f h) i (omega arith)
+
+    pub highest-leads : Leads (size f - 1) (monic p (size f - 1) f)
+    highest-leads = monic-leads (size f - 1) f h nonzero clear
+
+    pub highest-associate : Associate (Poly (Modulo p P)) (PolyD (Modulo p P)) (series p (monic p (size f - 1) f)) (series p f)
+    highest-associate = monic-associate (size f - 1) f h nonzero clear

@@ -8,12 +8,9 @@ use native.Mathlib.Omega.{arith}
 use borrow.Author.Tests.{eq-eqb, ne-eqb, lt-ltb, le-ltb}
 use lib.ListN.{getD}
 use Rattle.poly.specs.Coefficients.{Eight}
-use Rattle.poly.specs.Models.Cells.{cells, cells-length, cells-at, cells-past, past-end}
+use Rattle.poly.specs.Models.Cells.{cells, cells-length, cells-all, past-end}
+use Rattle.poly.specs.Laws.Places.{Clear, clear-one-less}
 use Rattle.poly.specs.Models.Eight.{size-to, scaled, less-at, subtract, remainder}
-
--- zeros from n on
-abbrev pub Clear : ℕ → List ℕ → Type 0
-Clear n f = (i : ℕ) → n ≤ i → getD f i 0 ≡ 0
 
 -- the highest number is 1, and stands at n
 pub record Leads (n : ℕ) (f : List ℕ) : Type 0 where
@@ -21,59 +18,45 @@ pub record Leads (n : ℕ) (f : List ℕ) : Type 0 where
   pub clear : Clear (suc n) f
 
 -- what a test decides, the number at n says
-pub size-to-zero : (n : ℕ) (f : List ℕ) → getD f n 0 ≡ 0 → size-to (suc n) f ≡ size-to n f
+size-to-zero : (n : ℕ) (f : List ℕ) → getD f n 0 ≡ 0 → size-to (suc n) f ≡ size-to n f
 unfolding size-to
 size-to-zero n f e = rw (eq-eqb (getD f n 0) 0 e, size-to)
 
-pub size-to-here : (n : ℕ) (f : List ℕ) → ¬ (getD f n 0 ≡ 0) → size-to (suc n) f ≡ suc n
+size-to-here : (n : ℕ) (f : List ℕ) → ¬ (getD f n 0 ≡ 0) → size-to (suc n) f ≡ suc n
 unfolding size-to
 size-to-here n f q = rw (ne-eqb (getD f n 0) 0 q, size-to)
 
-pub clear-one-less : (n : ℕ) (f : List ℕ) → getD f n 0 ≡ 0 → Clear (suc n) f → Clear n f
-clear-one-less n f e h i l = elim (ℕ-discrete i n) [ yes q ↦ ap (λ (k : ℕ). getD f k 0) q ∙ e | no q ↦ h i (omega arith) ]
+-- what holds of the size of no number, past a 0, and where a number stands holds of each size
+module _ (f : List ℕ) (Holds : ℕ → ℕ → Type 0) (none : Holds 0 0)
+    (passed : (n s : ℕ) → getD f n 0 ≡ 0 → Holds n s → Holds (suc n) s) (here : (n : ℕ) → ¬ (getD f n 0 ≡ 0) → Holds (suc n) (suc n)) where
+  by-size : (n : ℕ) → Holds n (size-to n f)
+  unfolding size-to
+  by-size zero = none
+  by-size (suc n) = go (ℕ-discrete (getD f n 0) 0) (by-size n)
+    where
+      go : Dec (getD f n 0 ≡ 0) → Holds n (size-to n f) → Holds (suc n) (size-to (suc n) f)
+      go (yes e) again = subst (Holds (suc n)) (sym (size-to-zero n f e)) (passed n (size-to n f) e again)
+      go (no q) again = subst (Holds (suc n)) (sym (size-to-here n f q)) (here n q)
 
 -- a list is clear from its size on
 pub size-clear : (n : ℕ) (f : List ℕ) → Clear n f → Clear (size-to n f) f
-unfolding size-to
-size-clear zero f h = h
-size-clear (suc n) f h = go (ℕ-discrete (getD f n 0) 0) (λ k. size-clear n f k)
-  where
-    go : Dec (getD f n 0 ≡ 0) → (Clear n f → Clear (size-to n f) f) → Clear (size-to (suc n) f) f
-    go (yes e) again = subst (λ (k : ℕ). Clear k f) (sym (size-to-zero n f e)) (again (clear-one-less n f e h))
-    go (no q) again = subst (λ (k : ℕ). Clear k f) (sym (size-to-here n f q)) h
+size-clear n f =
+    by-size f (λ n s. Clear n f → Clear s f) (λ h. h) (λ n s e again h. again (clear-one-less n f e h)) (λ n q h. h) n
 
 -- the number below the size is not 0
 pub size-lead : (n : ℕ) (f : List ℕ) → 0 < size-to n f → ¬ (getD f (size-to n f - 1) 0 ≡ 0)
-unfolding size-to
-size-lead zero f l = absurd (omega arith)
-size-lead (suc n) f l = go (ℕ-discrete (getD f n 0) 0) (λ k. size-lead n f k)
-  where
-    go : Dec (getD f n 0 ≡ 0) → (0 < size-to n f → ¬ (getD f (size-to n f - 1) 0 ≡ 0)) → ¬ (getD f (size-to (suc n) f - 1) 0 ≡ 0)
-    go (yes e) again =
-        let s = size-to-zero n f e in
-        subst (λ (k : ℕ). ¬ (getD f (k - 1) 0 ≡ 0)) (sym s) (again (omega arith))
-    go (no q) again =
-        let s : size-to (suc n) f - 1 ≡ n = omega (arith, size-to-here n f q) in
-        subst (λ (k : ℕ). ¬ (getD f k 0 ≡ 0)) (sym s) q
+size-lead n f =
+    by-size f (λ n s. 0 < s → ¬ (getD f (s - 1) 0 ≡ 0)) (λ l. absurd (omega arith)) (λ n s e again. again)
+    (λ n q l. let e : suc n - 1 ≡ n = omega arith in subst (λ (k : ℕ). ¬ (getD f k 0 ≡ 0)) (sym e) q) n
 
 -- a size is at most where the list is clear
 pub size-below : (n m : ℕ) (f : List ℕ) → Clear m f → size-to n f ≤ m
-unfolding size-to
-size-below zero m f h = omega arith
-size-below (suc n) m f h = go (ℕ-discrete (getD f n 0) 0) (size-below n m f h)
-  where
-    go : Dec (getD f n 0 ≡ 0) → size-to n f ≤ m → size-to (suc n) f ≤ m
-    go (yes e) again = omega (arith, size-to-zero n f e)
-    go (no q) again = elim (decLt n m) [ yes l ↦ omega (arith, size-to-here n f q) | no l ↦ absurd (q (h n (omega arith))) ]
+size-below n m f h =
+    by-size f (λ n s. s ≤ m) (omega arith) (λ n s e again. again)
+    (λ n q. elim (decLt n m) [ yes l ↦ omega arith | no l ↦ absurd (q (h n (omega arith))) ]) n
 
 pub size-le : (n : ℕ) (f : List ℕ) → size-to n f ≤ n
-unfolding size-to
-size-le zero f = omega arith
-size-le (suc n) f = go (ℕ-discrete (getD f n 0) 0) (size-le n f)
-  where
-    go : Dec (getD f n 0 ≡ 0) → size-to n f ≤ n → size-to (suc n) f ≤ suc n
-    go (yes e) again = omega (arith, size-to-zero n f e)
-    go (no q) again = omega (arith, size-to-here n f q)
+size-le n f = by-size f (λ n s. s ≤ n) (omega arith) (λ n s e again. omega arith) (λ n q. omega arith) n
 
 -- the highest number that is not 0 stands at m
 pub size-is : (n m : ℕ) (f : List ℕ) → Clear n f → ¬ (getD f m 0 ≡ 0) → Clear (suc m) f → size-to n f ≡ suc m
@@ -84,50 +67,39 @@ size-is n m f hn q h =
 pub eight-clear : (p : ℕ) (f : List ℕ) → Eight p f → Clear 8 f
 eight-clear p f h i l = past-end 8 i f (h .eight) l
 
+-- what a subtraction leaves below k, and makes from k on
+pub less-low : (p c k : ℕ) (f g : List ℕ) (i : ℕ) → i < k → less-at p c k f g i ≡ getD f i 0
+unfolding less-at
+less-low p c k f g i l = rw (lt-ltb i k l, less-at)
+
+pub less-high : (p c k : ℕ) (f g : List ℕ) (i : ℕ) → k ≤ i → less-at p c k f g i ≡ (getD f i 0 + (p - c) * getD g (i - k) 0) % p
+unfolding less-at
+less-high p c k f g i l = rw (le-ltb i k l, less-at)
+
 module _ (p : ℕ) (pos : 0 < p) where
-  cells-below : (h : ℕ → ℕ) → ((i : ℕ) → i < 8 → h i < p) → Eight p (cells h 8)
-  cells-below h s =
-      record {
-        eight = cells-length h 8;
-        below =
-            λ i.
-            elim (decLt i 8) [
-              | yes l ↦ subst (λ (n : ℕ). n < p) (sym (cells-at h 8 i l)) (s i l)
-              | no l ↦ subst (λ (n : ℕ). n < p) (sym (cells-past h 8 i (omega arith))) pos
-            ];
-      }
+  pub cells-eight : (h : ℕ → ℕ) → ((i : ℕ) → i < 8 → h i < p) → Eight p (cells h 8)
+  cells-eight h s = record { eight = cells-length h 8; below = λ i. cells-all (λ n. n < p) h 8 i (s i) (λ l. pos) }
 
   pub scaled-eight : (c : ℕ) (f : List ℕ) → Eight p (scaled p c f)
   unfolding scaled
-  scaled-eight c f = cells-below _ (λ i l. mod-lt _ pos)
-
-  pub less-low : (c k : ℕ) (f g : List ℕ) (i : ℕ) → i < k → less-at p c k f g i ≡ getD f i 0
-  unfolding less-at
-  less-low c k f g i l = rw (lt-ltb i k l, less-at)
-
-  pub less-high : (c k : ℕ) (f g : List ℕ) (i : ℕ) → k ≤ i → less-at p c k f g i ≡ (getD f i 0 + (p - c) * getD g (i - k) 0) % p
-  unfolding less-at
-  less-high c k f g i l = rw (le-ltb i k l, less-at)
+  scaled-eight c f = cells-eight _ (λ i l. mod-lt _ pos)
 
   pub subtract-eight : (c k : ℕ) (f g : List ℕ) → Eight p f → Eight p (subtract p c k f g)
   unfolding subtract
   subtract-eight c k f g h =
-      cells-below (less-at p c k f g)
+      cells-eight (less-at p c k f g)
       (λ i l.
       elim (decLt i k) [
-        | yes b ↦ subst (λ (n : ℕ). n < p) (sym (less-low c k f g i b)) (h .below i)
-        | no b ↦ subst (λ (n : ℕ). n < p) (sym (less-high c k f g i (omega arith))) (mod-lt _ pos)
+        | yes b ↦ subst (λ (n : ℕ). n < p) (sym (less-low p c k f g i b)) (h .below i)
+        | no b ↦ subst (λ (n : ℕ). n < p) (sym (less-high p c k f g i (omega arith))) (mod-lt _ pos)
       ])
 
   -- a step clears the power k + m, where g is monic of degree m and c stands there
-  pub subtract-clear : (k m : ℕ) (f g : List ℕ) → Eight p f → Clear (suc k + m) f → getD g m 0 ≡ 1 → Clear (suc m) g
+  subtract-clear : (k m : ℕ) (f g : List ℕ) → Eight p f → Clear (suc k + m) f → getD g m 0 ≡ 1 → Clear (suc m) g
       → Clear (k + m) (subtract p (getD f (k + m) 0) k f g)
   unfolding subtract
   subtract-clear k m f g h cf g1 cg i l =
-      elim (decLt i 8) [
-        | yes b ↦ cells-at (less-at p c k f g) 8 i b ∙ less-high c k f g i (omega arith) ∙ value (ℕ-discrete i (k + m))
-        | no b ↦ cells-past (less-at p c k f g) 8 i (omega arith)
-      ]
+      cells-all (λ n. n ≡ 0) (less-at p c k f g) 8 i (λ b. less-high p c k f g i (omega arith) ∙ value (ℕ-discrete i (k + m))) (λ b. refl)
     where
       c : ℕ
       c = getD f (k + m) 0

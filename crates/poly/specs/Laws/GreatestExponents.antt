@@ -4,7 +4,7 @@ use mathlib.Core.List.{List, [], _∷_}
 use Prim.Native.Nat.{ℕ, suc, _+_, _≤_, _<_}
 use native.Mathlib.Decide.{decLe}
 use native.Mathlib.Omega.{arith}
-use Rattle.algebra.specs.Ring.{CommRing, zero-add}
+use Rattle.algebra.specs.Ring.{CommRing}
 use Rattle.algebra.specs.Four.{coef}
 use Rattle.algebra.specs.GreatestExponent.{Variable, in-x, in-y, in-z, in-w, exponent, Within, GreatestExponent}
 use Rattle.algebra.specs.Monomial.{polynomial, monomial-off}
@@ -14,9 +14,9 @@ use Rattle.field.specs.Prime.{Prime}
 use Rattle.field.specs.Modulo.{Modulo}
 use Rattle.poly.specs.Keys.{key, exponents, keys}
 use Rattle.poly.specs.Terms.{key-of, coefficient-of, poly}
-use Rattle.poly.specs.Laws.Keys.{exponents-injective, exponents-of-key}
+use Rattle.poly.specs.Laws.Keys.{exponents-of-key}
 use Rattle.poly.specs.Lists.{Falling}
-use Rattle.poly.specs.Laws.Terms.{poly-lead}
+use Rattle.poly.specs.Laws.Terms.{poly-rest, poly-lead}
 use Rattle.poly.specs.Models.Division.{KeysBelow, most, most-of, most-key}
 
 exponent-small : (v : Variable) (k : ℕ) → k < keys → exponent v (exponents k) < 8
@@ -45,7 +45,8 @@ module _ (p : ℕ) (P : Prime p) where
   unfolding polynomial
   within v [] e h = refl
   within v (t ∷ ts) e h =
-      ap₂ (R .add) (monomial-off R (exponents (key-of t)) e (el p (coefficient-of t)) (λ q. let w = ap (exponent v) q in omega arith)) (within v ts e (omega arith))
+      ap₂ (R .add) (monomial-off R (exponents (key-of t)) e (el p (coefficient-of t)) (λ q. let w = ap (exponent v) q in omega arith))
+      (within v ts e (omega arith))
       ∙ R .add-zero _
 
   -- a key of the list where the greatest exponent is reached
@@ -66,9 +67,7 @@ module _ (p : ℕ) (P : Prime p) where
         key = r .key;
         below = let a = h .0 in let c = r .below in omega arith;
         is-most = let a = r .is-most in omega arith;
-        stands = λ e. r .stands (sym (zero-add R _)
-            ∙ ap (λ c. R .add c (coef R (poly p P (u ∷ us)) (exponents (r .key)))) (sym (monomial-off R (exponents (key-of t)) (exponents (r .key)) (el p (coefficient-of t)) (λ q. let a = exponents-injective (key-of t) (r .key) q in let c = r .below in omega arith)))
-            ∙ e);
+        stands = λ e. r .stands (sym (poly-rest p P t (u ∷ us) (r .key) (λ q. let c = r .below in omega arith)) ∙ e);
       }
 
   most-is : (t : ℕ) (ts : List ℕ) (b : ℕ) → Falling p b (t ∷ ts) → (v : Variable) → GreatestExponent R v (most v (t ∷ ts)) (poly p P (t ∷ ts))
@@ -83,7 +82,8 @@ module _ (p : ℕ) (P : Prime p) where
   poly-most t ts b h in-w = most-is t ts b h in-w
 
   -- what the rule of division needs to know of two lists
-  abbrev pub sizes : (t : ℕ) (ts : List ℕ) (u : ℕ) (us : List ℕ) → Falling p keys (t ∷ ts) → Falling p keys (u ∷ us) → Sizes (Modulo p P .ring) (poly p P (t ∷ ts)) (poly p P (u ∷ us))
+  abbrev pub sizes : (t : ℕ) (ts : List ℕ) (u : ℕ) (us : List ℕ) → Falling p keys (t ∷ ts) → Falling p keys (u ∷ us)
+      → Sizes (Modulo p P .ring) (poly p P (t ∷ ts)) (poly p P (u ∷ us))
   sizes t ts u us h k = record {
     lead = exponents (key-of u);
     leads = poly-lead p P u us keys k;

@@ -23,7 +23,7 @@ module _ (K : Field) (A B : Polynomial K) where
   image-unique at e f U W i j = monic-greatest-unique K e f _ _ U W (i .monic) (j .monic) (i .greatest) (j .greatest)
 
   -- at a good point A keeps its degree
-  pub good-top : (at : Point R) → WithinX K (x-degree R A) A → ¬ Bad K A B at → Top R (x-degree R A) (value R A at)
+  good-top : (at : Point R) → WithinX K (x-degree R A) A → ¬ Bad K A B at → Top R (x-degree R A) (value R A at)
   good-top at w g = record { nonzero = g; ends = value-ends K (x-degree R A) A at w }
 
   -- if B is 0 there, the image is A's value made monic

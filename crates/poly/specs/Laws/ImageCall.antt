@@ -43,7 +43,9 @@ module _ (p : ℕ) (A B point : List ℕ) where
     image-answered z e =
         let pass = image-passes z in
         let right = lists-are-right p A B (image-fine pass .lists) in
-        rw e (answered pass (right .is-listed) (image-of p A B point) (image-of-answers (listed-prime (right .is-listed)) point A B (right .first) (right .second)))
+        rw e
+        (answered pass (right .is-listed) (image-of p A B point)
+        (image-of-answers (listed-prime (right .is-listed)) point A B (right .first) (right .second)))
 
 -- a point settles its answer
 pub point-determined : (p : ℕ) (P : Prime p) (A B : Polynomial (Modulo p P)) (at : Point (Modulo p P .ring)) (r q : ImageRecord)
@@ -56,7 +58,7 @@ point-determined p P A B at r q (good d u h i) (good e v k j) =
     let c : u ≡ v = ext-getD 0 u v (h .eight ∙ sym (k .eight)) (λ n l. series-injective p u v h k (w .1) n) in
     λ i. record { fault = none; coefficients = c i; degree = w .0 i }
 
-pub image-table-one-place : (c : ImageCall) → OnePlaceEach (image-table c)
+image-table-one-place : (c : ImageCall) → OnePlaceEach (image-table c)
 image-table-one-place c =
     one-place-append (of-lists (c .modulus) (c .first-list) (c .second-list)) (of-point (c .modulus) (c .point))
     (lists-one-place (c .modulus) (c .first-list) (c .second-list))

@@ -24,20 +24,22 @@ use Rattle.poly.specs.ImageCall.{point-of, refusal, PointAnswer, bad, go
 use Rattle.poly.specs.Models.Powers.{powers}
 use Rattle.poly.specs.Models.Value.{Ready, value-of}
 use Rattle.poly.specs.Models.Eight.{size, gcd}
-use Rattle.poly.specs.Models.Image.{value-at, found, image-of-values, image-of}
+use Rattle.poly.specs.Models.Image.{value-at, image-record, image-of-values, image-of}
 use Rattle.poly.specs.Laws.Powers.{powers-eight}
 use Rattle.poly.specs.Laws.EightNumbers.{eight-clear, size-clear, size-le}
-use Rattle.poly.specs.Laws.EightMeaning.{clear-ends, IsGcd, gcd-is-gcd, gcd-nonzero}
+use Rattle.poly.specs.Laws.EightMeaning.{clear-ends}
+use Rattle.poly.specs.Laws.EuclidMeaning.{IsGcd, gcd-is-gcd, gcd-nonzero}
 use Rattle.poly.specs.Laws.ValueModel.{value-of-eight}
 use Rattle.poly.specs.Laws.ValueMeaning.{value-of-series}
-use Rattle.poly.specs.Laws.RightLists.{falling-key, falling-coefficient, RightList}
+use Rattle.poly.specs.Laws.Falling.{falling-key, falling-coefficient}
+use Rattle.poly.specs.Laws.RightLists.{RightList}
 
 -- what the code's test of a's number at x settles
 pub values-bad : (p x : ℕ) (a b : List ℕ) → getD a x 0 ≡ 0 → image-of-values p x a b ≡ refusal (fault NO_GOOD_POINT 0)
 unfolding image-of-values
 values-bad p x a b e = rw (eq-eqb (getD a x 0) 0 e, image-of-values)
 
-pub values-good : (p x : ℕ) (a b : List ℕ) → ¬ (getD a x 0 ≡ 0) → image-of-values p x a b ≡ found (gcd p a b)
+pub values-good : (p x : ℕ) (a b : List ℕ) → ¬ (getD a x 0 ≡ 0) → image-of-values p x a b ≡ image-record (gcd p a b)
 unfolding image-of-values
 values-good p x a b n = rw (ne-eqb (getD a x 0) 0 n, image-of-values)
 
@@ -46,11 +48,9 @@ pub size-positive : (p x : ℕ) (a : List ℕ) → Eight p a → ¬ (getD a x 0 
 size-positive p x a h n =
     elim (ℕ-discrete (size a) 0) [ yes e ↦ absurd (n (size-clear 8 a (eight-clear p a h) x (omega arith))) | no q ↦ omega arith ]
 
-pub gcd-positive : {p : ℕ} (P : Prime p) (a b : List ℕ) → Eight p a → 0 < size a → Eight p b → 0 < size (gcd p a b)
-gcd-positive P a b ha l hb = omega (arith, gcd-nonzero P a b ha (λ e. omega arith) hb)
-
 -- with the tables that the code has worked
-module _ (p : ℕ) (point ys zs ws : List ℕ) (y : ys ≡ powers p (getD point 0 0)) (z : zs ≡ powers p (getD point 1 0)) (w : ws ≡ powers p (getD point 2 0)) where
+module _ (p : ℕ) (point ys zs ws : List ℕ) (y : ys ≡ powers p (getD point 0 0)) (z : zs ≡ powers p (getD point 1 0))
+    (w : ws ≡ powers p (getD point 2 0)) where
   pub tables-ready : 1 < p → (ts : List ℕ) → RightList p ts → Ready p ys zs ws ts
   tables-ready h ts r =
       record {
@@ -69,11 +69,15 @@ pub first-power-small : (p : ℕ) (ts : List ℕ) → RightList p ts → x-of (g
 first-power-small p ts h = let k : key-of (getD ts 0 0) < keys = falling-key p keys ts (h .falls) 0 (h .some) in omega arith
 
 module _ {p : ℕ} (P : Prime p) (point : List ℕ) where
+  -- the value of a list at the point
+  abbrev value-there : List ℕ → ℕ → Fp p
+  value-there ts = value (Modulo p P .ring) (terms-of p P ts) (point-of p P point)
+
   pub value-at-eight : (ts : List ℕ) → Eight p (value-at p point ts)
   unfolding value-at
   value-at-eight ts = value-of-eight p (powers p (getD point 0 0)) (powers p (getD point 1 0)) (powers p (getD point 2 0)) (prime-positive P) ts
 
-  pub value-at-series : (ts : List ℕ) → RightList p ts → series p (value-at p point ts) ≡ value (Modulo p P .ring) (terms-of p P ts) (point-of p P point)
+  value-at-series : (ts : List ℕ) → RightList p ts → series p (value-at p point ts) ≡ value-there ts
   unfolding value-at
   value-at-series ts h = value-of-series p P (getD point 0 0) (getD point 1 0) (getD point 2 0) ts (falling-key p keys ts (h .falls))
 
@@ -91,31 +95,32 @@ module _ {p : ℕ} (P : Prime p) (point : List ℕ) where
     abbrev x : ℕ
     x = x-of (getD A 0 0)
 
+    abbrev u : List ℕ
+    u = gcd p a b
+
     -- the number that the code tests is the x-leading coefficient of A at the point
-    leading : el p (getD a x 0) ≡ value (Modulo p P .ring) (terms-of p P A) (point-of p P point) (x-degree (Modulo p P .ring) (terms-of p P A))
-    leading =
-        ap (λ (u : ℕ → Fp p). u x) (value-at-series A hA)
-        ∙ ap (value (Modulo p P .ring) (terms-of p P A) (point-of p P point)) (sym (first-power A (hA .some)))
+    leading : el p (getD a x 0) ≡ value-there A (x-degree (Modulo p P .ring) (terms-of p P A))
+    leading = ap (λ (f : ℕ → Fp p). f x) (value-at-series A hA) ∙ ap (value-there A) (sym (first-power A (hA .some)))
 
     module _ (n : ¬ (getD a x 0 ≡ 0)) where
       filled : ¬ (size a ≡ 0)
       filled e = omega (arith, size-positive p x a (value-at-eight A) n)
 
-      greatest : IsGcd P (value (Modulo p P .ring) (terms-of p P A) (point-of p P point)) (value (Modulo p P .ring) (terms-of p P B) (point-of p P point)) (gcd p a b) (size (gcd p a b) - 1)
+      greatest : IsGcd P (value-there A) (value-there B) u (size u - 1)
       greatest =
-          subst (λ (v : ℕ → Fp p). IsGcd P v (value (Modulo p P .ring) (terms-of p P B) (point-of p P point)) (gcd p a b) (size (gcd p a b) - 1)) (value-at-series A hA)
-          (subst (λ (v : ℕ → Fp p). IsGcd P (series p a) v (gcd p a b) (size (gcd p a b) - 1)) (value-at-series B hB)
+          subst (λ (v : ℕ → Fp p). IsGcd P v (value-there B) u (size u - 1)) (value-at-series A hA)
+          (subst (λ (v : ℕ → Fp p). IsGcd P (series p a) v u (size u - 1)) (value-at-series B hB)
           (gcd-is-gcd P a b (value-at-eight A) filled (value-at-eight B)))
 
-      model-is-image : Image (Modulo p P) (terms-of p P A) (terms-of p P B) (point-of p P point) (size (gcd p a b) - 1) (series p (gcd p a b))
+      model-is-image : Image (Modulo p P) (terms-of p P A) (terms-of p P B) (point-of p P point) (size u - 1) (series p u)
       model-is-image =
           record {
             good = λ z. el-nonzero p (getD a x 0) (value-at-eight A .below x) n (leading ∙ z);
-            small = omega (arith, size-le 8 (gcd p a b), gcd-positive P a b (value-at-eight A) (size-positive p x a (value-at-eight A) n) (value-at-eight B));
+            small = omega (arith, size-le 8 u, gcd-nonzero P a b (value-at-eight A) filled (value-at-eight B));
             monic =
                 record {
                   leads = ap (el p) (greatest .monic .one);
-                  ends = clear-ends p (prime-positive P) (suc (size (gcd p a b) - 1)) (gcd p a b) (greatest .monic .clear);
+                  ends = clear-ends p (prime-positive P) (suc (size u - 1)) u (greatest .monic .clear);
                 };
             greatest = greatest .greatest;
           }
@@ -127,4 +132,4 @@ module _ {p : ℕ} (P : Prime p) (point : List ℕ) where
       where
         go : Dec (getD a x 0 ≡ 0) → PointAnswer p P (terms-of p P A) (terms-of p P B) (point-of p P point) (image-of-values p x a b)
         go (yes e) = rw (values-bad p x a b e) (bad (sym leading ∙ ap (el p) e))
-        go (no n) = rw (values-good p x a b n) (good (size (gcd p a b) - 1) (gcd p a b) (greatest n .eight) (model-is-image n))
+        go (no n) = rw (values-good p x a b n) (good (size u - 1) u (greatest n .eight) (model-is-image n))

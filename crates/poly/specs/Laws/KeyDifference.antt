@@ -1,6 +1,7 @@
--- Where each exponent of a key is at most that of another, the difference of the keys has the differences of the exponents; and the test of it. Assumes nothing.
+-- Where each exponent of a key is at most that of another, the keys' difference has the exponents' differences; the test of it. Assumes nothing.
 use mathlib.Core.Path.{_≡_, refl, sym, _∙_, ap, subst}
 use mathlib.Core.Bool.{Bool, true, false, _&&_}
+use mathlib.Mathlib.Data.Bool.Basic.{and-elim-left, and-elim-right, and-intro}
 use Prim.Native.Nat.{ℕ, _+_, _-_, _≤_}
 use native.Mathlib.Omega.{arith}
 use borrow.Author.Tests.{leb-true, le-leb}
@@ -9,19 +10,6 @@ use Rattle.algebra.specs.Four.{Exponents, _⊞_, _≼_, exponents-path, exponen
 use Rattle.poly.specs.Keys.{key, exponents}
 use Rattle.poly.specs.Laws.Keys.{Digits, digits-of, key-of-exponents, exponents-of-key, key-add}
 use Rattle.poly.specs.Models.Division.{at-most, fits-in}
-
--- of a test of several, each holds
-pub and-left : (a b : Bool) → a && b ≡ true → a ≡ true
-and-left true b e = refl
-and-left false b e = e
-
-pub and-right : (a b : Bool) → a && b ≡ true → b ≡ true
-and-right true b e = e
-and-right false b e = absurd (let z : _≡_ {A = ℕ} 0 1 = cc in omega arith)
-
-pub and-both : (a b : Bool) → a ≡ true → b ≡ true → a && b ≡ true
-and-both true b p q = q
-and-both false b p q = p
 
 -- the test says that each exponent is at most the other's
 module _ (a b : ℕ) where
@@ -37,19 +25,19 @@ module _ (a b : ℕ) where
   pub at-most-says : at-most a b ≡ true → exponents a ≼ exponents b
   unfolding at-most
   at-most-says h =
-      let xyz : X && Y && Z ≡ true = and-left (X && Y && Z) _ h in
-      let xy : X && Y ≡ true = and-left (X && Y) Z xyz in
+      let xyz : X && Y && Z ≡ true = and-elim-left (X && Y && Z) _ h in
+      let xy : X && Y ≡ true = and-elim-left (X && Y) Z xyz in
       record {
-        x = leb-true _ _ (and-left X Y xy);
-        y = leb-true _ _ (and-right X Y xy);
-        z = leb-true _ _ (and-right (X && Y) Z xyz);
-        w = leb-true _ _ (and-right (X && Y && Z) _ h);
+        x = leb-true _ _ (and-elim-left X Y xy);
+        y = leb-true _ _ (and-elim-right X Y xy);
+        z = leb-true _ _ (and-elim-right (X && Y) Z xyz);
+        w = leb-true _ _ (and-elim-right (X && Y && Z) _ h);
       }
 
   pub at-most-of : exponents a ≼ exponents b → at-most a b ≡ true
   unfolding at-most
   at-most-of h =
-      and-both _ _ (and-both _ _ (and-both _ _ (le-leb _ _ (h .x)) (le-leb _ _ (h .y))) (le-leb _ _ (h .z))) (le-leb _ _ (h .w))
+      and-intro (and-intro (and-intro (le-leb _ _ (h .x)) (le-leb _ _ (h .y))) (le-leb _ _ (h .z))) (le-leb _ _ (h .w))
 
 difference : (a b c k l : ℕ) → a + b ≡ c → c ≡ k → b ≡ l → k - l ≡ a
 difference a b c k l p q r = omega arith
@@ -91,7 +79,7 @@ module _ (a b : ℕ) (m n : Exponents) (em : exponents b ≡ m) (en : exponents 
   plain-at-least = at-least (key less) (key n) (key m) b a keys-sum m-key n-key
 
 module _ (a b : ℕ) (h : exponents a ≼ exponents b) where
-  pub below-key : a ≤ b
+  below-key : a ≤ b
   below-key = plain-at-least a b (exponents b) (exponents a) refl refl h
 
   pub exponents-difference : exponents b ≡ exponents (b - a) ⊞ exponents a
@@ -112,7 +100,7 @@ module _ (lead bound k : ℕ) where
 
   pub fits-key : fits-in lead bound k ≡ true → lead ≤ k
   unfolding fits-in
-  fits-key h = at-most-key lead k (and-left (at-most lead k) _ h)
+  fits-key h = at-most-key lead k (and-elim-left (at-most lead k) _ h)
 
 -- the quotient's exponents are those of the difference
 pub difference-only : (a b : ℕ) (e : Exponents) → exponents b ≡ e ⊞ exponents a → (exponents a ≼ exponents b) × (exponents (b - a) ≡ e)

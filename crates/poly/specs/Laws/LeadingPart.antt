@@ -65,7 +65,7 @@ module _ (ts : List ℕ) (f : Fault) (t : Tested (of-list ts) f) where
   pub leading-refused : ¬ (f .number ≡ 0) → Leading ts []
   leading-refused n = refused f (tested-refuses (of-list ts) f t n)
 
-  pub leading-passes : f .number ≡ 0 → Passes (of-list ts)
+  leading-passes : f .number ≡ 0 → Passes (of-list ts)
   leading-passes z = tested-passes (of-list ts) tt f t z .0
 
   pub leading-some : f .number ≡ 0 → 0 < length ts
@@ -92,7 +92,7 @@ not-shorter ts head other h o = go (decLt (length head) (length other))
         let high = o .highest n l in
         absurd (omega (arith, ap x-of mine, ap x-of yours))
 
-pub leading-part-unique : (ts head other : List ℕ) → IsLeading ts head → IsLeading ts other → head ≡ other
+leading-part-unique : (ts head other : List ℕ) → IsLeading ts head → IsLeading ts other → head ≡ other
 leading-part-unique ts head other h o =
     let a = not-shorter ts head other h o in
     let b = not-shorter ts other head o h in

@@ -38,17 +38,17 @@ unfolding key-before
 key-before-next ts i = let s : i + 1 ≡ suc i = omega arith in ap (key-before ts) s
 
 -- what the test of the term at i says, where the key before is in range
-module _ (bound : ℕ) (ts : List ℕ) (i : ℕ) (l : i < length ts) where
-  pub key-is-wrong : key-before ts i ≤ key-of (getD ts i 0) → WrongModulo bound ts i
+module _ (bound : ℕ) (ts : List ℕ) (i : ℕ) where
+  pub key-is-wrong : i < length ts → key-before ts i ≤ key-of (getD ts i 0) → WrongModulo bound ts i
   unfolding key-before
-  key-is-wrong h = wrong-term (wrong-key (go i l h))
+  key-is-wrong l h = wrong-term (wrong-key (go i l h))
     where
       go : (i : ℕ) → i < length ts → key-before ts i ≤ key-of (getD ts i 0) → WrongKey (map key-of ts) i
       go zero l h = above (omega (arith, length-map ts key-of)) (omega (arith, key-at ts 0))
       go (suc j) l h = not-below j refl (omega (arith, length-map ts key-of)) (omega (arith, key-at ts j, key-at ts (suc j)))
 
-  pub term-is-right : key-before ts i ≤ keys → key-of (getD ts i 0) < key-before ts i → 0 < coefficient-of (getD ts i 0) → coefficient-of (getD ts i 0) < bound
-      → ¬ WrongModulo bound ts i
+  pub term-is-right : key-before ts i ≤ keys → key-of (getD ts i 0) < key-before ts i
+      → 0 < coefficient-of (getD ts i 0) → coefficient-of (getD ts i 0) < bound → ¬ WrongModulo bound ts i
   unfolding key-before
   term-is-right r h n m (wrong-term (wrong-key (above b a))) = omega (arith, key-at ts i)
   term-is-right r h n m (wrong-term (wrong-key (not-below j e b a))) =
@@ -58,7 +58,7 @@ module _ (bound : ℕ) (ts : List ℕ) (i : ℕ) (l : i < length ts) where
 
 -- without a modulus: no coefficient reaches the bound
 module _ (ts : List ℕ) where
-  pub small-coefficient : (i : ℕ) → WrongModulo base ts i → WrongTerm ts i
+  small-coefficient : (i : ℕ) → WrongModulo base ts i → WrongTerm ts i
   small-coefficient i (wrong-term w) = w
   small-coefficient i (coefficient-large l m) = absurd (omega arith)
 

@@ -2,13 +2,13 @@
 -- and then no power of x is above the first term's. Assumes nothing.
 use mathlib.Core.Path.{refl, ap}
 use mathlib.Core.List.{List, [], _∷_, map}
-use Prim.Native.Nat.{ℕ, zero, suc, _/_, _≤_, _<_}
+use Prim.Native.Nat.{ℕ, zero, suc, _≤_, _<_}
 use native.Mathlib.Decide.{ℕ-discrete, decLe}
 use native.Mathlib.Omega.{arith}
 use Rattle.field.specs.Prime.{Prime}
 use Rattle.field.specs.Modulo.{Modulo}
 use Rattle.field.specs.Refusal.{first}
-use Rattle.poly.specs.Keys.{keys}
+use Rattle.poly.specs.Keys.{exponents, keys}
 use Rattle.poly.specs.Terms.{key-of, coefficient-of, terms-of}
 use Rattle.poly.specs.Value.{x-degree}
 use Rattle.poly.specs.Lists.{Falling, WrongKey, above, not-below, wrong-key, coefficient-zero, WrongModulo, wrong-term, coefficient-large}
@@ -75,9 +75,9 @@ terms-fall p ts none =
 
 -- and no power of x in it is above the first term's
 module _ (p : ℕ) (P : Prime p) where
-  within-below : (b k : ℕ) (ts : List ℕ) → b ≤ k → Falling p b ts → WithinX (Modulo p P) (k / 512) (terms-of p P ts)
+  within-below : (b k : ℕ) (ts : List ℕ) → b ≤ k → Falling p b ts → WithinX (Modulo p P) (exponents k .x) (terms-of p P ts)
   within-below b k [] l h = tt
-  within-below b k (t ∷ ts) l h = (let m : key-of t < b = h .0 in omega arith, within-below (key-of t) k ts (let m : key-of t < b = h .0 in omega arith) (h .3))
+  within-below b k (t ∷ ts) l h = let m : key-of t < b = h .0 in (omega arith, within-below (key-of t) k ts (omega arith) (h .3))
 
   pub falling-within : (b : ℕ) (ts : List ℕ) → Falling p b ts → WithinX (Modulo p P) (x-degree (Modulo p P .ring) (terms-of p P ts)) (terms-of p P ts)
   falling-within b [] h = tt

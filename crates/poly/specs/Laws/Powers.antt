@@ -1,8 +1,7 @@
 -- The table of powers holds the powers, below p; how it goes on from one power to the next. Assumes nothing.
-use mathlib.Core.Path.{_≡_, refl, sym, ap, _∙_, subst}
+use mathlib.Core.Path.{_≡_, refl, ap, _∙_}
 use mathlib.Core.List.{List}
 use Prim.Native.Nat.{ℕ, zero, suc, _-_, _*_, _%_, _≤_, _<_}
-use native.Mathlib.Decide.{decLt}
 use native.Mathlib.Nat.{mod-lt}
 use native.Mathlib.Omega.{arith}
 use lib.ListN.{getD}
@@ -11,31 +10,23 @@ use Rattle.field.specs.Fp.{Fp, el, mul}
 use Rattle.field.specs.FpLaws.{el-mod, el-mul}
 use Rattle.field.specs.Residues.{Residues}
 use Rattle.poly.specs.Coefficients.{Eight}
-use Rattle.poly.specs.Models.Cells.{cells-length, cells-at, cells-past}
+use Rattle.poly.specs.Models.Cells.{cells-at}
 use Rattle.poly.specs.Models.Powers.{power, powers}
+use Rattle.poly.specs.Laws.EightNumbers.{cells-eight}
 
-pub power-below : (p y : ℕ) → 1 < p → (k : ℕ) → power p y k < p
+power-below : (p y : ℕ) → 1 < p → (k : ℕ) → power p y k < p
 unfolding power
 power-below p y h zero = h
 power-below p y h (suc k) = mod-lt (power p y k * y) (omega arith)
 
-pub power-el : (p : ℕ) (h : 0 < p) (y k : ℕ) → el p (power p y k) ≡ pow (Residues p h) (el p y) k
+power-el : (p : ℕ) (h : 0 < p) (y k : ℕ) → el p (power p y k) ≡ pow (Residues p h) (el p y) k
 unfolding power pow
 power-el p h y zero = refl
 power-el p h y (suc k) = el-mod p (power p y k * y) ∙ el-mul p (power p y k) y ∙ ap (λ (u : Fp p). mul u (el p y)) (power-el p h y k)
 
 pub powers-eight : (p y : ℕ) → 1 < p → Eight p (powers p y)
 unfolding powers
-powers-eight p y h =
-    record {
-      eight = cells-length (power p y) 8;
-      below =
-          λ i.
-          elim (decLt i 8) [
-            | yes l ↦ subst (λ (n : ℕ). n < p) (sym (cells-at (power p y) 8 i l)) (power-below p y h i)
-            | no l ↦ subst (λ (n : ℕ). n < p) (sym (cells-past (power p y) 8 i (omega arith))) (omega arith)
-          ];
-    }
+powers-eight p y h = cells-eight p (omega arith) (power p y) (λ i l. power-below p y h i)
 
 pub powers-el : (p : ℕ) (h : 0 < p) (y k : ℕ) → k < 8 → el p (getD (powers p y) k 0) ≡ pow (Residues p h) (el p y) k
 unfolding powers

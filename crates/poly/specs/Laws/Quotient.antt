@@ -15,8 +15,8 @@ use Rattle.field.specs.Prime.{Prime}
 use Rattle.field.specs.Moduli.{Listed}
 use Rattle.field.specs.ModuliLaws.{listed-prime}
 use Rattle.field.specs.Modulo.{Modulo}
-use Rattle.field.specs.Refusal.{none, Passes}
-use Rattle.field.specs.RefusalLaws.{OnePlaceEach, placed-one-place, first-one-place, never-placed, refuses-determined, not-passes-and-refuses, passes-front}
+use Rattle.field.specs.Refusal.{Line, none, Passes}
+use Rattle.field.specs.RefusalLaws.{OnePlaceEach, whole-one-place, one-place-append, never-placed, refuses-determined, not-passes-and-refuses, passes-front, passes-back}
 use Rattle.poly.specs.Keys.{exponents, keys}
 use Rattle.poly.specs.Terms.{key-of, poly}
 use Rattle.poly.specs.Image.{Divides}
@@ -24,13 +24,13 @@ use Rattle.poly.specs.Lists.{of-lists, Falling}
 use Rattle.poly.specs.Room.{written, cleared}
 use Rattle.poly.specs.Quotient.{QuotientCall, quotient-table, IsQuotient, QuotientResult, Quotient, refused, no-quotient, quotient}
 use Rattle.poly.specs.TrialDivision.{CanDivide}
+use Rattle.poly.specs.Laws.ListCheck.{lists-one-place}
 use Rattle.poly.specs.Laws.RightLists.{lists-are-right}
 use Rattle.poly.specs.Models.WorkRoom.{of-rooms}
-use Rattle.poly.specs.Laws.Terms.{poly-lead, right-lists-equal}
-use Rattle.poly.specs.Laws.DivisionEnds.{poly-finite}
+use Rattle.poly.specs.Laws.Terms.{poly-finite, poly-lead, right-lists-equal}
 
 module _ (p : ℕ) (P : Prime p) where
-  pub quotient-divides : (f g qs : List ℕ) → IsQuotient p P f g qs → Divides (Modulo p P) (poly p P g) (poly p P f)
+  quotient-divides : (f g qs : List ℕ) → IsQuotient p P f g qs → Divides (Modulo p P) (poly p P g) (poly p P f)
   quotient-divides f g qs q = record { quo = poly p P qs; fin = poly-finite p P qs; eq = q .product }
 
   -- one quotient at most
@@ -48,27 +48,32 @@ abbrev pub call : ℕ → List ℕ → List ℕ → List ℕ → List ℕ → Qu
 call p first second output work = record { modulus = p; first-list = first; second-list = second; output = output; work = work }
 
 module _ (c : QuotientCall) where
-  pub quotient-one-place : OnePlaceEach (quotient-table c)
+  abbrev lists : List Line
+  lists = of-lists (c .modulus) (c .first-list) (c .second-list)
+
+  abbrev rooms : List Line
+  rooms = of-rooms (length (c .output)) (length (c .work))
+
+  quotient-one-place : OnePlaceEach (quotient-table c)
   quotient-one-place =
-      (placed-one-place 0 _, (placed-one-place 0 _, (first-one-place _, (placed-one-place 0 _, (first-one-place _, (placed-one-place 0 _, (placed-one-place 0 _, tt)))))))
+      one-place-append lists rooms (lists-one-place (c .modulus) (c .first-list) (c .second-list)) (whole-one-place _, (whole-one-place _, tt))
 
   -- where no line applies the lists can be divided, and the output is long enough
   module _ (h : Passes (quotient-table c)) where
     pub passed-lists : CanDivide (c .modulus) (c .first-list) (c .second-list) (c .work)
     passed-lists =
-        let lists = of-lists (c .modulus) (c .first-list) (c .second-list) in
-        let right = lists-are-right (c .modulus) (c .first-list) (c .second-list) (passes-front lists (of-rooms (length (c .output)) (length (c .work))) h) in
+        let right = lists-are-right (c .modulus) (c .first-list) (c .second-list) (passes-front lists rooms h) in
         record {
           is-listed = right .is-listed;
           some-dividend = right .first .some;
           dividend-falls = right .first .falls;
           some-divisor = right .second .some;
           divisor-falls = right .second .falls;
-          room = let n = never-placed (h .1 .1 .1 .1 .1 .1 .0) in omega arith;
+          room = let n = never-placed (passes-back lists rooms h .1 .0) in omega arith;
         }
 
     pub passed-output : keys ≤ length (c .output)
-    passed-output = let n = never-placed (h .1 .1 .1 .1 .1 .0) in omega arith
+    passed-output = let n = never-placed (passes-back lists rooms h .0) in omega arith
 
   abbrev Exact : Listed (c .modulus) → List ℕ → Type 0
   Exact listed qs = IsQuotient (c .modulus) (listed-prime listed) (c .first-list) (c .second-list) qs
@@ -96,4 +101,5 @@ module _ (c : QuotientCall) where
   quotient-determined r s (quotient pass listed qs q) (quotient pass′ listed′ rs q′) =
       let g = passed-lists pass in
       ap handed
-      (quotient-unique (c .modulus) (listed-prime listed) (c .first-list) (c .second-list) qs rs (g .some-divisor) (g .divisor-falls) q (exact-same listed′ listed rs q′))
+      (quotient-unique (c .modulus) (listed-prime listed) (c .first-list) (c .second-list) qs rs (g .some-divisor) (g .divisor-falls) q
+      (exact-same listed′ listed rs q′))

@@ -1,28 +1,25 @@
 -- The quotient's cells hold the terms that the division on cells finds. Assumes nothing.
-use mathlib.Core.Path.{_≡_, refl, sym, _∙_, ap, ap₂, subst}
-use mathlib.Core.Bool.{Bool, true, false}
+use mathlib.Core.Path.{_≡_, sym, _∙_, ap, ap₂, subst}
 use mathlib.Core.List.{List, [], _∷_}
-use Prim.Native.Nat.{ℕ, zero, suc, _+_, _-_, _≤_, _<_}
+use Prim.Native.Nat.{ℕ, _+_, _-_, _≤_, _<_}
 use native.Mathlib.Nat.{mod-lt}
-use native.Mathlib.Decide.{ℕ-discrete}
 use native.Mathlib.Omega.{arith}
 use lib.ListN.{length, getD, set, length-set}
 use lib.Seq.{getD-set-other}
 use Rattle.algebra.specs.Ring.{CommRing, zero-add}
-use Rattle.algebra.specs.Solver.{_⊖_, _≗_, k0, ring1}
 use Rattle.algebra.specs.Series.{S4}
 use Rattle.algebra.specs.Monomial.{monomial, polynomial}
-use Rattle.field.specs.Fp.{Fp, el}
+use Rattle.field.specs.Fp.{el}
 use Rattle.field.specs.Prime.{Prime}
 use Rattle.field.specs.PrimeLaws.{prime-positive}
 use Rattle.field.specs.Modulo.{Modulo}
 use Rattle.poly.specs.Keys.{exponents}
 use Rattle.poly.specs.Terms.{poly, base, packed}
 use Rattle.poly.specs.Laws.KeyDifference.{fits-key}
-use Rattle.poly.specs.Laws.Dense.{Reduced, dense, dense-zero, dense-set, set-reduced}
-use Rattle.poly.specs.Laws.DivisionSteps.{outcome-passed, outcome-taken, outcome-stopped, found-passed, found-taken, found-stopped}
+use Rattle.poly.specs.Laws.Dense.{Reduced, dense, dense-zero, dense-store, set-reduced, zeros-reduced}
+use Rattle.poly.specs.Laws.DivisionSteps.{by-cells}
 use Rattle.poly.specs.Laws.Spread.{key-of-term, coefficient-of-term}
-use Rattle.poly.specs.Models.Division.{Setting, fits, factor, less, Outcome, divide-from, found-from}
+use Rattle.poly.specs.Models.Division.{Setting, factor, divide-from, found-from}
 
 module _ (p : ℕ) (P : Prime p) (n : ℕ) where
   abbrev R : CommRing
@@ -48,16 +45,11 @@ module _ (p : ℕ) (P : Prime p) (n : ℕ) where
             let w : q < base = omega arith in
             r .means
             ∙ ap (λ (f : S4 R .Car). S4 R .add f (poly p P qs))
-            (dense-set p P c s q ls
-            ∙ ap (λ (x : Fp p). S4 R .add (dense p P c) (monomial R (exponents s) x))
-            (ap (λ (m : ℕ). R .add (el p q) (R .neg (el p m))) z ∙ ring1 R (λ a. a ⊖ k0 ≗ a) tt (el p q)))
+            (dense-store p P c s q ls z)
             ∙ S4 R .add-assoc _ _ _
             ∙ ap (λ (m : S4 R .Car). S4 R .add (dense p P c) (S4 R .add m (poly p P qs)))
             (ap₂ (λ (i j : ℕ). monomial R (exponents i) (el p j)) (sym (key-of-term s q w)) (sym (coefficient-of-term s q w)));
       }
-
-  pub zeros-reduced : (c : List ℕ) → ((i : ℕ) → getD c i 0 ≡ 0) → Reduced p c
-  zeros-reduced c z = λ i. subst (λ (m : ℕ). m < p) (sym (z i)) (prime-positive P)
 
 module _ (d : Setting) (P : Prime (d .modulus)) (word : d .modulus ≤ base) (n : ℕ) where
   abbrev p : ℕ
@@ -65,35 +57,24 @@ module _ (d : Setting) (P : Prime (d .modulus)) (word : d .modulus ≤ base) (n 
 
   stores : (k : ℕ) (l c : List ℕ) → k ≤ n → length c ≡ n → Reduced p c → ((i : ℕ) → i + d .lead < k → getD c i 0 ≡ 0)
       → Stored p P n c (divide-from d k l c .quotient) (found-from d k l)
-  unfolding found-from divide-from
-  stores zero l c m long red z = nothing-stored p P n c long red
-  stores (suc k) l c m long red z = cell (ℕ-discrete (getD l k 0) 0) (fits d k) refl (λ l′ c′. stores k l′ c′ (omega arith))
-    where
-      to : (qs qs′ : List ℕ) (o o′ : Outcome) → qs ≡ qs′ → o ≡ o′ → Stored p P n c (o′ .quotient) qs′ → Stored p P n c (o .quotient) qs
-      to qs qs′ o o′ e f r = subst (λ (x : List ℕ). Stored p P n c (o .quotient) x) (sym e) (subst (λ (x : Outcome). Stored p P n c (x .quotient) qs′) (sym f) r)
-
-      cell : Dec (getD l k 0 ≡ 0) → (a : Bool) → fits d k ≡ a
-          → ((l′ c′ : List ℕ) → length c′ ≡ n → Reduced p c′ → ((i : ℕ) → i + d .lead < k → getD c′ i 0 ≡ 0) → Stored p P n c′ (divide-from d k l′ c′ .quotient) (found-from d k l′))
-          → Stored p P n c (divide-from d (suc k) l c .quotient) (found-from d (suc k) l)
-      cell (yes e) a q again =
-          to _ _ _ _ (found-passed d k l e) (outcome-passed d k l c e) (again l c long red (λ i h. z i (omega arith)))
-      cell (no e) true q again =
-          let s : ℕ = k - d .lead in
-          let v : ℕ = factor d k l in
-          let lv : v < p = mod-lt _ (prime-positive P) in
-          let b = fits-key (d .lead) (d .bound) k q in
-          let ls : s < length c = subst (λ (i : ℕ). s < i) (sym long) (omega arith) in
-          to _ _ _ _ (found-taken d k l e q) (outcome-taken d k l c e q)
-          (store-one p P n word s v c _ (found-from d k (less d k l)) lv ls (z s (omega arith))
-          (again (less d k l) (set c s v) (length-set c s v ∙ long) (set-reduced p P c s v ls lv red)
-          (λ i h. getD-set-other c s i v 0 (λ r. omega arith) ∙ z i (omega arith))))
-      cell (no e) false q again =
-          to _ _ _ _ (found-stopped d k l e q) (outcome-stopped d k l c e q)
-          (nothing-stored p P n c long red)
+  stores =
+      by-cells d (λ k l c qs o. k ≤ n → length c ≡ n → Reduced p c → ((i : ℕ) → i + d .lead < k → getD c i 0 ≡ 0) → Stored p P n c (o .quotient) qs)
+      (λ l c m long red z. nothing-stored p P n c long red)
+      (λ k l c qs o e again m long red z. again (omega arith) long red (λ i h. z i (omega arith)))
+      (λ k l c qs o e f again m long red z.
+      let s : ℕ = k - d .lead in
+      let v : ℕ = factor d k l in
+      let lv : v < p = mod-lt _ (prime-positive P) in
+      let b = fits-key (d .lead) (d .bound) k f in
+      store-one p P n word s v c (o .quotient) qs lv (subst (λ (i : ℕ). s < i) (sym long) (omega arith)) (z s (omega arith))
+      (again (omega arith) (length-set c s v ∙ long) (set-reduced p c s v lv red)
+      (λ i h. getD-set-other c s i v 0 (λ r. omega arith) ∙ z i (omega arith))))
+      (λ k l c e f m long red z. nothing-stored p P n c long red)
 
   -- into cells that were 0
-  pub quotient-stored : (l c : List ℕ) → length c ≡ n → ((i : ℕ) → getD c i 0 ≡ 0) → Stored (d .modulus) P n c (divide-from d n l c .quotient) (found-from d n l)
-  quotient-stored l c long z = stores n l c (omega arith) long (zeros-reduced p P n c z) (λ i h. z i)
+  pub quotient-stored : (l c : List ℕ) → length c ≡ n → ((i : ℕ) → getD c i 0 ≡ 0)
+      → Stored (d .modulus) P n c (divide-from d n l c .quotient) (found-from d n l)
+  quotient-stored l c long z = stores n l c (omega arith) long (zeros-reduced p c (prime-positive P) z) (λ i h. z i)
 
 -- which then mean the sum of the terms
 pub stored-means : (p : ℕ) (P : Prime p) (n : ℕ) (c c′ qs : List ℕ) → ((i : ℕ) → getD c i 0 ≡ 0) → Stored p P n c c′ qs → dense p P c′ ≡ poly p P qs

@@ -1,28 +1,27 @@
 -- What the quotient service answers to inputs that pass, from what the division, the gathering and the clearing say. Assumes nothing.
 use mathlib.Core.Path.{_≡_, sym, _∙_, ap, ap₂}
-use mathlib.Core.Bool.{Bool, true, false}
+use mathlib.Core.Bool.{Bool, true, false, true≢false}
 use mathlib.Core.List.{List}
-use Prim.Native.Nat.{ℕ, _≤_}
+use Prim.Native.Nat.{ℕ}
 use native.Mathlib.Omega.{arith}
 use lib.ListN.{length}
-use Rattle.field.specs.ModuliLaws.{listed-prime, listed-below}
+use Rattle.field.specs.ModuliLaws.{listed-prime}
 use Rattle.field.specs.Numbers.{DOES_NOT_DIVIDE}
 use Rattle.field.specs.Refusal.{fault, none, Passes}
 use Rattle.field.specs.declared.Fault.{Fault}
 use Rattle.poly.specs.Keys.{keys}
 use Rattle.poly.specs.Room.{work-room, zeroed, written, cleared}
-use Rattle.poly.specs.Quotient.{QuotientCall, quotient-table, QuotientResult, Quotient, no-quotient, quotient}
+use Rattle.poly.specs.Quotient.{QuotientCall, quotient-table, Quotient, no-quotient, quotient}
 use Rattle.poly.specs.TrialDivision.{CanDivide}
 use Rattle.poly.specs.Laws.Room.{zeroed-at}
-use Rattle.poly.specs.Laws.WorkRoom.{remainder-empty, quotient-empty}
-use Rattle.poly.specs.Laws.DivisionEnds.{Empty}
-use Rattle.poly.specs.Laws.DivisionBegins.{cleared-begins, cleared-room, cleared-says}
+use Rattle.poly.specs.Laws.WorkRoom.{quotient-empty}
+use Rattle.poly.specs.Laws.DivisionEnds.{Empty, dividing}
+use Rattle.poly.specs.Laws.DivisionBegins.{cleared-begins, cleared-room, begun-empty, cleared-says}
 use Rattle.poly.specs.Laws.QuotientFound.{gathered-found, quotient-found}
 use Rattle.poly.specs.Laws.Quotient.{passed-lists}
 use Rattle.poly.specs.Models.Spread.{gathered}
 use Rattle.poly.specs.Models.Division.{Outcome, found}
 use Rattle.poly.specs.Models.WorkRoom.{remainder-cells, quotient-cells, CanBegin, Divided, Gathered}
-use Rattle.poly.specs.Terms.{base}
 
 module _ (c : QuotientCall) (h : Passes (quotient-table c)) where
   abbrev p : ℕ
@@ -40,13 +39,10 @@ module _ (c : QuotientCall) (h : Passes (quotient-table c)) where
   pub exact-begins : CanBegin (c .modulus) (c .first-list) (c .second-list) (zeroed work-room (c .work))
   exact-begins = cleared-begins p f g (c .work) can work-room (omega arith) (omega arith)
 
-  module _ (begun after end : List ℕ) (whole : Bool) (clears : begun ≡ zeroed work-room (c .work)) (ran : Divided (c .modulus) (c .first-list) (c .second-list) begun after whole)
-      (again : end ≡ zeroed work-room after) where
+  module _ (begun after end : List ℕ) (whole : Bool) (clears : begun ≡ zeroed work-room (c .work))
+      (ran : Divided (c .modulus) (c .first-list) (c .second-list) begun after whole) (again : end ≡ zeroed work-room after) where
     room : end ≡ cleared (c .work)
     room = cleared-room p f g (c .work) can work-room (omega arith) (omega arith) begun after whole clears ran end again
-
-    abbrev answer : Fault → ℕ → List ℕ → QuotientResult
-    answer number terms output = record { found = record { fault = number; terms = terms }; output = output; work = end }
 
     -- no quotient: nothing is written
     pub exact-none : whole ≡ false → {r : Fault} → r ≡ fault DOES_NOT_DIVIDE 0
@@ -54,14 +50,12 @@ module _ (c : QuotientCall) (h : Passes (quotient-table c)) where
     exact-none w {r} e =
         rw (room, e)
         (no-quotient h (can .is-listed)
-        (λ d. let t = cleared-says p f g (c .work) can work-room (omega arith) (omega arith) begun after whole clears ran (listed-prime (can .is-listed)) .1 d in
-        let z : _≡_ {A = ℕ} 0 1 = cc in omega arith))
-
-    word : p ≤ base
-    word = let w = listed-below (can .is-listed) in omega arith
+        (λ d.
+        true≢false
+        (sym (cleared-says p f g (c .work) can work-room (omega arith) (omega arith) begun after whole clears ran (listed-prime (can .is-listed)) .1 d) ∙ w)))
 
     begun-remainder : Empty (remainder-cells begun)
-    begun-remainder = rw clears (remainder-empty (zeroed work-room (c .work)) (exact-begins .lists .room) (exact-begins .empty))
+    begun-remainder = begun-empty p f g (c .work) can work-room (omega arith) (omega arith) begun after whole clears ran
 
     begun-quotient : Empty (quotient-cells begun)
     begun-quotient = rw clears (quotient-empty (zeroed work-room (c .work)) (exact-begins .lists .room) (zeroed-at work-room (c .work)))
@@ -73,15 +67,15 @@ module _ (c : QuotientCall) (h : Passes (quotient-table c)) where
     gathered-terms : length (quotient-cells after) ≡ keys → gathered (length (quotient-cells after)) (quotient-cells after) ≡ terms
     gathered-terms e =
         ap₂ gathered e (ap (λ (o : Outcome). o .quotient) (ran .outcome))
-        ∙ gathered-found p (listed-prime (can .is-listed)) word f g (can .some-dividend) (can .dividend-falls) (can .some-divisor) (can .divisor-falls)
-        (remainder-cells begun) (quotient-cells begun) begun-remainder begun-quotient
+        ∙ gathered-found p (listed-prime (can .is-listed)) f g (dividing can) (remainder-cells begun) (quotient-cells begun) begun-remainder begun-quotient
 
     -- the quotient, written first in the output
-    pub exact-found : whole ≡ true → length (quotient-cells after) ≡ keys → (out : List ℕ) (n : ℕ) → Gathered (quotient-cells after) (c .output) out n → {r : Fault} → r ≡ none
+    pub exact-found : whole ≡ true → length (quotient-cells after) ≡ keys → (out : List ℕ) (n : ℕ) → Gathered (quotient-cells after) (c .output) out n
+        → {r : Fault} → r ≡ none
         → Quotient c (record { found = record { fault = r; terms = n }; output = out; work = end })
     exact-found w long out n gathers {r} e =
         let same = gathered-terms long in
         rw (gathers .count ∙ ap length same, gathers .output ∙ ap (λ (qs : List ℕ). written qs (c .output)) same, room, e)
         (quotient h (can .is-listed) terms
-        (quotient-found p (listed-prime (can .is-listed)) word f g (can .some-dividend) (can .dividend-falls) (can .some-divisor) (can .divisor-falls)
-        (remainder-cells begun) (quotient-cells begun) begun-remainder begun-quotient (ap (λ (o : Outcome). o .whole) (sym (ran .outcome)) ∙ w)))
+        (quotient-found p (listed-prime (can .is-listed)) f g (dividing can) (remainder-cells begun) (quotient-cells begun) begun-remainder begun-quotient
+        (ap (λ (o : Outcome). o .whole) (sym (ran .outcome)) ∙ w)))

@@ -1,12 +1,11 @@
 -- The terms that a division finds fall, and are those gathered from the quotient's cells; where it says yes they are the quotient. Assumes nothing.
-use mathlib.Core.Path.{_≡_, refl, sym, _∙_, ap, subst}
-use mathlib.Core.Bool.{Bool, true, false}
+use mathlib.Core.Path.{_≡_, sym, _∙_, ap, subst}
+use mathlib.Core.Bool.{true}
 use mathlib.Core.List.{List, [], _∷_}
-use Prim.Native.Nat.{ℕ, zero, suc, _-_, _≤_, _<_}
+use Prim.Native.Nat.{ℕ, _-_, _≤_, _<_}
 use native.Mathlib.Nat.{mod-lt}
 use native.Mathlib.Decide.{ℕ-discrete}
 use native.Mathlib.Omega.{arith}
-use lib.ListN.{length, getD}
 use Rattle.algebra.specs.Ring.{CommRing}
 use Rattle.algebra.specs.Field.{domain}
 use Rattle.algebra.specs.Monomial.{Term, FallsBelow, Falls}
@@ -23,13 +22,14 @@ use Rattle.poly.specs.Laws.Keys.{key-order-of}
 use Rattle.poly.specs.Lists.{Falling}
 use Rattle.poly.specs.Laws.Falling.{falling-right}
 use Rattle.poly.specs.Laws.Terms.{poly-determines}
+use Rattle.poly.specs.Laws.Dense.{zeros-reduced}
 use Rattle.poly.specs.Laws.Spread.{key-of-term, coefficient-of-term, gather-falling, gather-dense}
-use Rattle.poly.specs.Laws.DivisionSteps.{found-passed, found-taken, found-stopped}
-use Rattle.poly.specs.Laws.QuotientCells.{Stored, nothing-stored, zeros-reduced, quotient-stored, stored-means}
-use Rattle.poly.specs.Laws.DivisionEnds.{Empty, no-cells, no-cells-empty, divided-division}
+use Rattle.poly.specs.Laws.DivisionSteps.{by-cells, by-lists}
+use Rattle.poly.specs.Laws.QuotientCells.{Stored, nothing-stored, quotient-stored, stored-means}
+use Rattle.poly.specs.Laws.DivisionEnds.{Empty, no-cells, no-cells-empty, Dividing, divided-division}
 use Rattle.poly.specs.Models.Cells.{past-end}
 use Rattle.poly.specs.Models.Spread.{spread, gathered}
-use Rattle.poly.specs.Models.Division.{most-key, at-most, Setting, setting, fits, factor, less, found-from, divided, found}
+use Rattle.poly.specs.Models.Division.{Setting, setting, factor, found-from, divided, found}
 
 -- keys and coefficients in range
 abbrev InRange : ℕ → List ℕ → Type 0
@@ -50,59 +50,52 @@ module _ (p : ℕ) (P : Prime p) where
       (key-order-of (key-of q) b (h .0), positive q (h .1), r .1, falls-below-list qs (key-of q) (r .2) (h .2))
 
   -- terms that fall, in range, are a list that falls
-  pub falls-list : (qs : List ℕ) → InRange p qs → Falls R (terms-of p P qs) → Falling p keys qs
+  falls-list : (qs : List ℕ) → InRange p qs → Falls R (terms-of p P qs) → Falling p keys qs
   falls-list [] r h = tt
   falls-list (q ∷ qs) r h = (r .0, positive q (h .0), r .1, falls-below-list qs (key-of q) (r .2) (h .1))
 
 found-from-in : (d : Setting) → 0 < d .modulus → d .modulus ≤ base → (k : ℕ) (l : List ℕ) → k ≤ keys → InRange (d .modulus) (found-from d k l)
-unfolding found-from
-found-from-in d pos word zero l m = tt
-found-from-in d pos word (suc k) l m = cell (ℕ-discrete (getD l k 0) 0) (fits d k) refl (λ l′. found-from-in d pos word k l′ (omega arith))
-  where
-    cell : Dec (getD l k 0 ≡ 0) → (a : Bool) → fits d k ≡ a → ((l′ : List ℕ) → InRange (d .modulus) (found-from d k l′)) → InRange (d .modulus) (found-from d (suc k) l)
-    cell (yes e) a q again = subst (InRange (d .modulus)) (sym (found-passed d k l e)) (again l)
-    cell (no n) true q again =
-        let b : factor d k l < d .modulus = mod-lt _ pos in
-        let ek = key-of-term (k - d .lead) (factor d k l) (omega arith) in
-        let ec = coefficient-of-term (k - d .lead) (factor d k l) (omega arith) in
-        subst (InRange (d .modulus)) (sym (found-taken d k l n q)) (omega arith, omega arith, again (less d k l))
-    cell (no n) false q again = subst (InRange (d .modulus)) (sym (found-stopped d k l n q)) tt
+found-from-in d pos word k l =
+    by-cells d (λ k l c qs o. k ≤ keys → InRange (d .modulus) qs)
+    (λ l c m. tt)
+    (λ k l c qs o e again m. again (omega arith))
+    (λ k l c qs o e f again m.
+    let b : factor d k l < d .modulus = mod-lt _ pos in
+    let ek = key-of-term (k - d .lead) (factor d k l) (omega arith) in
+    let ec = coefficient-of-term (k - d .lead) (factor d k l) (omega arith) in
+    (omega arith, omega arith, again (omega arith)))
+    (λ k l c e f m. tt) k l []
 
-module _ (p : ℕ) (P : Prime p) (word : p ≤ base) (f g : List ℕ) (sf : 0 < length f) (hf : Falling p keys f) (sg : 0 < length g) (hg : Falling p keys g)
-    (l c : List ℕ) (empty : Empty l) (free : Empty c) where
+module _ (p : ℕ) (P : Prime p) (f g : List ℕ) (h : Dividing p f g) (l c : List ℕ) (empty : Empty l) (free : Empty c) where
   found-in : InRange p (found p f g l)
-  unfolding found
-  found-in = go (at-most (most-key g) (most-key f)) refl
-    where
-      go : (a : Bool) → at-most (most-key g) (most-key f) ≡ a → InRange p (found p f g l)
-      go true e = rw (e, found) (found-from-in (setting p f g) (prime-positive P) word keys (spread f l) (omega arith))
-      go false e = rw (e, found) tt
+  found-in =
+      by-lists p f g l c (λ qs o. InRange p qs) (λ e. tt)
+      (λ e. found-from-in (setting p f g) (prime-positive P) (h .word) keys (spread f l) (omega arith))
 
   rule : Division (Modulo p P .ring) (poly p P f) (poly p P g) (terms-of p P (found p f g l)) (divided p f g l c .whole)
-  rule = divided-division p P word f g sf hf sg hg l c empty
+  rule = divided-division p P f g h l c empty
 
-  pub found-falling : Falling p keys (found p f g l)
+  found-falling : Falling p keys (found p f g l)
   found-falling =
       falls-list p P (found p f g l) found-in
-      (division-falls (Modulo p P .ring) (domain (Modulo p P)) (λ a. tt) (poly p P f) (poly p P g) (terms-of p P (found p f g l)) (divided p f g l c .whole) rule)
+      (division-falls (Modulo p P .ring) (domain (Modulo p P)) (λ a. tt) (poly p P f) (poly p P g) (terms-of p P (found p f g l))
+      (divided p f g l c .whole) rule)
 
   -- the quotient's cells afterwards
   cells-stored : Stored p P keys c (divided p f g l c .quotient) (found p f g l)
-  unfolding found divided
-  cells-stored = go (at-most (most-key g) (most-key f)) refl
-    where
-      go : (a : Bool) → at-most (most-key g) (most-key f) ≡ a → Stored p P keys c (divided p f g l c .quotient) (found p f g l)
-      go true e = rw (e, found, divided) (quotient-stored (setting p f g) P word keys (spread f l) c (free .long) (free .zeros))
-      go false e = rw (e, found, divided) (nothing-stored p P keys c (free .long) (zeros-reduced p P keys c (free .zeros)))
+  cells-stored =
+      by-lists p f g l c (λ qs o. Stored p P keys c (o .quotient) qs)
+      (λ e. nothing-stored p P keys c (free .long) (zeros-reduced p c (prime-positive P) (free .zeros)))
+      (λ e. quotient-stored (setting p f g) P (h .word) keys (spread f l) c (free .long) (free .zeros))
 
   -- hold the terms found, and no other
   pub gathered-found : gathered keys (divided p f g l c .quotient) ≡ found p f g l
   gathered-found =
       let r = cells-stored in
       poly-determines p P (gathered keys (divided p f g l c .quotient)) (found p f g l) keys keys
-      (gather-falling p P word keys (divided p f g l c .quotient) keys (omega arith) (r .reduced)) found-falling
-      (gather-dense p P word keys (divided p f g l c .quotient) (subst (λ (n : ℕ). keys ≤ n) (sym (r .long)) (omega arith)) (r .reduced)
-      (λ i h. past-end keys i (divided p f g l c .quotient) (r .long) h)
+      (gather-falling p P (h .word) keys (divided p f g l c .quotient) keys (omega arith) (r .reduced)) found-falling
+      (gather-dense p P (h .word) keys (divided p f g l c .quotient) (subst (λ (n : ℕ). keys ≤ n) (sym (r .long)) (omega arith)) (r .reduced)
+      (λ i b. past-end keys i (divided p f g l c .quotient) (r .long) b)
       ∙ stored-means p P keys c (divided p f g l c .quotient) (found p f g l) (free .zeros) r)
 
   -- where the division says yes, they are the quotient
@@ -115,7 +108,7 @@ module _ (p : ℕ) (P : Prime p) (word : p ≤ base) (f g : List ℕ) (sf : 0 < 
       }
 
 -- so, where the rule says yes, its terms are the quotient's list
-module _ (p : ℕ) (P : Prime p) (word : p ≤ base) (f g : List ℕ) (sf : 0 < length f) (hf : Falling p keys f) (sg : 0 < length g) (hg : Falling p keys g) where
+module _ (p : ℕ) (P : Prime p) (f g : List ℕ) (h : Dividing p f g) where
   pub record QuotientTerms (ts : List (Term (Modulo p P .ring))) : Type 0 where
     pub list : List ℕ
     pub terms-are : ts ≡ terms-of p P list
@@ -123,11 +116,13 @@ module _ (p : ℕ) (P : Prime p) (word : p ≤ base) (f g : List ℕ) (sf : 0 < 
 
   pub division-terms : (ts : List (Term (Modulo p P .ring))) → Division (Modulo p P .ring) (poly p P f) (poly p P g) ts true → QuotientTerms ts
   division-terms ts d =
-      let rule = divided-division p P word f g sf hf sg hg no-cells no-cells no-cells-empty in
+      let qs = found p f g no-cells in
+      let rule = divided-division p P f g h no-cells no-cells no-cells-empty in
       let same =
-      division-determined (Modulo p P .ring) (domain (Modulo p P)) (λ a. tt) (poly p P f) (poly p P g) ts (terms-of p P (found p f g no-cells)) true (divided p f g no-cells no-cells .whole) d rule in
+      division-determined (Modulo p P .ring) (domain (Modulo p P)) (λ a. tt) (poly p P f) (poly p P g) ts (terms-of p P qs)
+      true (divided p f g no-cells no-cells .whole) d rule in
       record {
-        list = found p f g no-cells;
+        list = qs;
         terms-are = same .0;
-        is-quotient = quotient-found p P word f g sf hf sg hg no-cells no-cells no-cells-empty no-cells-empty (sym (same .1));
+        is-quotient = quotient-found p P f g h no-cells no-cells no-cells-empty no-cells-empty (sym (same .1));
       }

@@ -18,7 +18,8 @@ use Rattle.field.specs.Modulo.{Modulo}
 use Rattle.poly.specs.Keys.{exponents}
 use Rattle.poly.specs.Terms.{key-of, coefficient-of, poly, base, packed}
 use Rattle.poly.specs.Lists.{Falling}
-use Rattle.poly.specs.Laws.Dense.{Reduced, dense, dense-set, dense-zero, set-reduced}
+use Rattle.poly.specs.Laws.Places.{set-all, Clear, clear-one-less}
+use Rattle.poly.specs.Laws.Dense.{Reduced, dense, dense-set, dense-store, dense-zero, set-reduced}
 use Rattle.poly.specs.Models.Spread.{spread, gathered}
 
 -- the number of a term has its key and its coefficient
@@ -39,13 +40,14 @@ unfolding spread
 spread-above [] l i h = refl
 spread-above (t ∷ ts) l i h =
     let first : key-of t < i = h 0 (omega arith) in
-    spread-above ts (set l (key-of t) (coefficient-of t)) i (λ j b. h (suc j) (omega arith)) ∙ getD-set-other l (key-of t) i (coefficient-of t) 0 (λ e. omega arith)
+    spread-above ts (set l (key-of t) (coefficient-of t)) i (λ j b. h (suc j) (omega arith))
+    ∙ getD-set-other l (key-of t) i (coefficient-of t) 0 (λ e. omega arith)
 
 pub gather-passed : (k : ℕ) (l : List ℕ) → getD l k 0 ≡ 0 → gathered (suc k) l ≡ gathered k l
 unfolding gathered
 gather-passed k l e = rw (eq-eqb _ _ e, gathered)
 
-pub gather-taken : (k : ℕ) (l : List ℕ) → (getD l k 0 ≡ 0 → ⊥) → gathered (suc k) l ≡ packed k (getD l k 0) ∷ gathered k l
+pub gather-taken : (k : ℕ) (l : List ℕ) → ¬ (getD l k 0 ≡ 0) → gathered (suc k) l ≡ packed k (getD l k 0) ∷ gathered k l
 unfolding gathered
 gather-taken k l e = rw (ne-eqb _ _ e, gathered)
 
@@ -57,20 +59,22 @@ gather-step k l m e h (no n) = gather-taken k l n ∙ ap₂ (λ (c : ℕ) (r : L
 gather-set : (k j v : ℕ) (l : List ℕ) → k ≤ j → gathered k (set l j v) ≡ gathered k l
 unfolding gathered
 gather-set zero j v l h = refl
-gather-set (suc k) j v l h = gather-step k (set l j v) l (getD-set-other l j k v 0 (λ e. omega arith)) (gather-set k j v l (omega arith)) (ℕ-discrete (getD (set l j v) k 0) 0)
+gather-set (suc k) j v l h =
+    gather-step k (set l j v) l (getD-set-other l j k v 0 (λ e. omega arith)) (gather-set k j v l (omega arith))
+    (ℕ-discrete (getD (set l j v) k 0) 0)
 
 module _ (p : ℕ) (P : Prime p) where
   abbrev R : CommRing
   R = Modulo p P .ring
 
-  pub spread-reduced : (ts l : List ℕ) (b : ℕ) → Falling p b ts → b ≤ length l → Reduced p l → Reduced p (spread ts l)
+  pub spread-reduced : (ts l : List ℕ) (b : ℕ) → Falling p b ts → Reduced p l → Reduced p (spread ts l)
   unfolding spread
-  spread-reduced [] l b h m red = red
-  spread-reduced (t ∷ ts) l b h m red =
-      let lt : key-of t < length l = let a = h .0 in omega arith in
-      spread-reduced ts (set l (key-of t) (coefficient-of t)) (key-of t) (h .3) (subst (λ (n : ℕ). key-of t ≤ n) (sym (length-set l _ _)) (omega arith)) (set-reduced p P l (key-of t) (coefficient-of t) lt (h .2) red)
+  spread-reduced [] l b h red = red
+  spread-reduced (t ∷ ts) l b h red =
+      spread-reduced ts (set l (key-of t) (coefficient-of t)) (key-of t) (h .3) (set-reduced p l (key-of t) (coefficient-of t) (h .2) red)
 
-  pub spread-dense : (ts l : List ℕ) (b : ℕ) → Falling p b ts → b ≤ length l → ((i : ℕ) → i < b → getD l i 0 ≡ 0) → dense p P (spread ts l) ≡ S4 R .add (dense p P l) (poly p P ts)
+  pub spread-dense : (ts l : List ℕ) (b : ℕ) → Falling p b ts → b ≤ length l → ((i : ℕ) → i < b → getD l i 0 ≡ 0)
+      → dense p P (spread ts l) ≡ S4 R .add (dense p P l) (poly p P ts)
   unfolding spread polynomial
   spread-dense [] l b h m z = sym (S4 R .add-zero (dense p P l))
   spread-dense (t ∷ ts) l b h m z =
@@ -78,9 +82,7 @@ module _ (p : ℕ) (P : Prime p) where
       spread-dense ts (set l (key-of t) (coefficient-of t)) (key-of t) (h .3) (subst (λ (n : ℕ). key-of t ≤ n) (sym (length-set l _ _)) (omega arith))
       (λ i q. getD-set-other l (key-of t) i (coefficient-of t) 0 (λ r. omega arith) ∙ z i (let a = h .0 in omega arith))
       ∙ ap (λ (d : S4 R .Car). S4 R .add d (poly p P ts))
-      (dense-set p P l (key-of t) (coefficient-of t) lt
-      ∙ ap (λ (x : Fp p). S4 R .add (dense p P l) (monomial R (exponents (key-of t)) x))
-      (ap (λ (n : ℕ). R .add (el p (coefficient-of t)) (R .neg (el p n))) (z (key-of t) (h .0)) ∙ ring1 R (λ a. a ⊖ k0 ≗ a) tt (el p (coefficient-of t))))
+      (dense-store p P l (key-of t) (coefficient-of t) lt (z (key-of t) (h .0)))
       ∙ S4 R .add-assoc _ _ _
 
   pub gather-falling : p ≤ base → (k : ℕ) (l : List ℕ) (b : ℕ) → k ≤ b → Reduced p l → Falling p b (gathered k l)
@@ -97,7 +99,7 @@ module _ (p : ℕ) (P : Prime p) where
           subst (Falling p b) (sym (gather-taken k l n)) (omega arith, omega arith, omega arith, again (key-of (packed k (getD l k 0))) (omega arith))
 
   -- the cells' terms mean what the cells mean
-  pub gather-dense : p ≤ base → (k : ℕ) (l : List ℕ) → k ≤ length l → Reduced p l → ((i : ℕ) → k ≤ i → getD l i 0 ≡ 0) → poly p P (gathered k l) ≡ dense p P l
+  pub gather-dense : p ≤ base → (k : ℕ) (l : List ℕ) → k ≤ length l → Reduced p l → Clear k l → poly p P (gathered k l) ≡ dense p P l
   unfolding gathered polynomial
   gather-dense w zero l m red z = sym (dense-zero p P l (λ i. z i (omega arith)))
   gather-dense w (suc k) l m red z = go (ℕ-discrete (getD l k 0) 0) (λ l′. gather-dense w k l′)
@@ -105,17 +107,12 @@ module _ (p : ℕ) (P : Prime p) where
       lt : k < length l
       lt = omega arith
 
-      here : (l′ : List ℕ) → l′ ≡ l → (i : ℕ) → k ≤ i → getD l k 0 ≡ 0 → Dec (i ≡ k) → getD l i 0 ≡ 0
-      here l′ q i h e (yes r) = ap (λ (n : ℕ). getD l n 0) r ∙ e
-      here l′ q i h e (no r) = z i (omega arith)
+      cleared : Clear k (set l k 0)
+      cleared = clear-one-less k (set l k 0) (getD-set-same l k 0 0 lt) (λ i h. set-all (λ n. n ≡ 0) l k i 0 0 refl (z i h))
 
-      cleared : (i : ℕ) → k ≤ i → Dec (i ≡ k) → getD (set l k 0) i 0 ≡ 0
-      cleared i h (yes r) = ap (λ (n : ℕ). getD (set l k 0) n 0) r ∙ getD-set-same l k 0 0 lt
-      cleared i h (no r) = getD-set-other l k i 0 0 r ∙ z i (omega arith)
-
-      go : Dec (getD l k 0 ≡ 0) → ((l′ : List ℕ) → k ≤ length l′ → Reduced p l′ → ((i : ℕ) → k ≤ i → getD l′ i 0 ≡ 0) → poly p P (gathered k l′) ≡ dense p P l′)
+      go : Dec (getD l k 0 ≡ 0) → ((l′ : List ℕ) → k ≤ length l′ → Reduced p l′ → Clear k l′ → poly p P (gathered k l′) ≡ dense p P l′)
           → poly p P (gathered (suc k) l) ≡ dense p P l
-      go (yes e) again = ap (poly p P) (gather-passed k l e) ∙ again l (omega arith) red (λ i h. here l refl i h e (ℕ-discrete i k))
+      go (yes e) again = ap (poly p P) (gather-passed k l e) ∙ again l (omega arith) red (clear-one-less k l e z)
       go (no n) again =
           let v = getD l k 0 in
           let lv : v < base = let r = red k in omega arith in
@@ -123,7 +120,7 @@ module _ (p : ℕ) (P : Prime p) where
           ap (poly p P) (gather-taken k l n)
           ∙ ap₂ (S4 R .add) (ap₂ (λ (i j : ℕ). monomial R (exponents i) (el p j)) (key-of-term k v lv) (coefficient-of-term k v lv))
           (ap (poly p P) (sym (gather-set k k 0 l (omega arith)))
-          ∙ again (set l k 0) (subst (λ (n : ℕ). k ≤ n) (sym (length-set l k 0)) (omega arith)) (set-reduced p P l k 0 lt (prime-positive P) red) (λ i h. cleared i h (ℕ-discrete i k))
+          ∙ again (set l k 0) (subst (λ (n : ℕ). k ≤ n) (sym (length-set l k 0)) (omega arith)) (set-reduced p l k 0 (prime-positive P) red) cleared
           ∙ dense-set p P l k 0 lt
           ∙ ap (S4 R .add (dense p P l)) (ap M (ring1 R (λ a. k0 ⊖ a ≗ ⊝ a) tt (el p v)) ∙ monomial-neg R (exponents k) (el p v)))
           ∙ ring2 (S4 R) (λ a d. a ⊕ (d ⊖ a) ≗ d) tt (M (el p v)) (dense p P l)

@@ -2,33 +2,40 @@
 use mathlib.Core.Path.{_≡_, refl, sym, _∙_, ap, ap₂, subst}
 use mathlib.Core.List.{List, [], _∷_}
 use Prim.Native.Nat.{ℕ, suc, _≤_, _<_}
-use native.Mathlib.Decide.{ℕ-discrete, decLt}
+use native.Mathlib.Decide.{decLt}
 use native.Mathlib.Omega.{arith}
-use Rattle.algebra.specs.Ring.{CommRing, add-cancel}
+use Rattle.algebra.specs.Ring.{CommRing, zero-add, add-cancel}
 use Rattle.algebra.specs.Series.{S4}
-use Rattle.algebra.specs.Four.{Exponents, _≺_, coef, below-irreflexive}
+use Rattle.algebra.specs.Four.{Exponents, _≺_, coef, D4}
 use Rattle.algebra.specs.Lead.{Lead}
+use Rattle.algebra.specs.Field.{domain}
 use Rattle.algebra.specs.Monomial.{term, polynomial, monomial-at, monomial-off}
 use Rattle.field.specs.Prime.{Prime}
 use Rattle.field.specs.Fp.{el}
 use Rattle.field.specs.FpLaws.{el-below-inj, el-nonzero}
 use Rattle.field.specs.Modulo.{Modulo}
 use Rattle.poly.specs.Keys.{keys, exponents}
-use Rattle.poly.specs.Terms.{key-of, coefficient-of, term-of, poly}
+use Rattle.poly.specs.Terms.{key-of, coefficient-of, term-of, terms-of, poly}
 use Rattle.poly.specs.Lists.{WrongModulo, Falling}
-use Rattle.poly.specs.Laws.Keys.{exponents-order, exponents-injective, key-order-of}
+use Rattle.poly.specs.Laws.Keys.{exponents-injective, key-order-of}
 use Rattle.poly.specs.Laws.Lists.{terms-fall}
+use Rattle.poly.specs.Laws.Value.{polynomial-finite}
 
 -- a term is known by its key and its coefficient
-pub same-term : (t u : ℕ) → key-of t ≡ key-of u → coefficient-of t ≡ coefficient-of u → t ≡ u
+same-term : (t u : ℕ) → key-of t ≡ key-of u → coefficient-of t ≡ coefficient-of u → t ≡ u
 same-term t u a b = omega arith
 
 module _ (p : ℕ) (P : Prime p) where
   abbrev R : CommRing
   R = Modulo p P .ring
 
+  -- it is one: of finite support
+  pub poly-finite : (ts : List ℕ) → D4 R (domain (Modulo p P)) .P (poly p P ts)
+  poly-finite ts = polynomial-finite (Modulo p P) (terms-of p P ts)
+
   -- no coefficient where no key below b stands
-  pub poly-none : (ts : List ℕ) (b : ℕ) (e : Exponents) → Falling p b ts → ((k : ℕ) → k < b → ¬ (exponents k ≡ e)) → coef R (poly p P ts) e ≡ el p 0
+  poly-none : (ts : List ℕ) (b : ℕ) (e : Exponents) → Falling p b ts → ((k : ℕ) → k < b → ¬ (exponents k ≡ e))
+      → coef R (poly p P ts) e ≡ el p 0
   unfolding polynomial
   poly-none [] b e h n = refl
   poly-none (t ∷ ts) b e h n =
@@ -37,7 +44,7 @@ module _ (p : ℕ) (P : Prime p) where
       ∙ R .add-zero _
 
   -- no coefficient at a key from b on
-  pub poly-above : (ts : List ℕ) (b k : ℕ) → Falling p b ts → b ≤ k → coef R (poly p P ts) (exponents k) ≡ el p 0
+  poly-above : (ts : List ℕ) (b k : ℕ) → Falling p b ts → b ≤ k → coef R (poly p P ts) (exponents k) ≡ el p 0
   poly-above ts b k h l = poly-none ts b (exponents k) h (λ j m e. let q = exponents-injective j k e in omega arith)
 
   pub poly-head : (t : ℕ) (ts : List ℕ) → Falling p (key-of t) ts → coef R (poly p P (t ∷ ts)) (exponents (key-of t)) ≡ el p (coefficient-of t)
@@ -46,6 +53,14 @@ module _ (p : ℕ) (P : Prime p) where
       ap₂ (R .add) (monomial-at R (exponents (key-of t)) (el p (coefficient-of t))) (poly-above ts (key-of t) (key-of t) h (omega arith))
       ∙ R .add-zero _
 
+  -- at another key than the first term's, the coefficient of the rest
+  pub poly-rest : (t : ℕ) (ts : List ℕ) (k : ℕ) → ¬ (key-of t ≡ k) → coef R (poly p P (t ∷ ts)) (exponents k) ≡ coef R (poly p P ts) (exponents k)
+  unfolding polynomial
+  poly-rest t ts k n =
+      ap (λ (c : R .Car). R .add c (coef R (poly p P ts) (exponents k)))
+      (monomial-off R (exponents (key-of t)) (exponents k) (el p (coefficient-of t)) (λ q. n (exponents-injective (key-of t) k q)))
+      ∙ zero-add R _
+
   -- the first term is the leading term
   pub poly-lead : (t : ℕ) (ts : List ℕ) (b : ℕ) → Falling p b (t ∷ ts) → Lead R (exponents (key-of t)) (poly p P (t ∷ ts))
   poly-lead t ts b h =
@@ -53,43 +68,27 @@ module _ (p : ℕ) (P : Prime p) where
         stands = λ e. el-nonzero p (coefficient-of t) (h .2) (let l = h .1 in omega arith) (sym (poly-head t ts (h .3)) ∙ e);
         above =
             λ e l. poly-none (t ∷ ts) (suc (key-of t)) e (omega arith, h .1, h .2, h .3)
-            (λ k m q. below-irreflexive e (below k m q l));
+            (λ k m q. let o = key-order-of (key-of t) k (subst (λ (i : Exponents). exponents (key-of t) ≺ i) (sym q) l) in omega arith);
       }
-    where
-      below : {e : Exponents} (k : ℕ) → k < suc (key-of t) → exponents k ≡ e → exponents (key-of t) ≺ e → e ≺ e
-      below {e} k m q l = go (ℕ-discrete k (key-of t))
-        where
-          go : Dec (k ≡ key-of t) → e ≺ e
-          go (yes r) = subst (_≺ e) (ap exponents (sym r) ∙ q) l
-          go (no n) =
-              absurd
-              (let o : exponents k ≺ exponents (key-of t) = exponents-order k (key-of t) (omega arith) in
-              let z = key-order-of (key-of t) k (subst (λ (i : Exponents). exponents (key-of t) ≺ i) (sym q) l) in
-              omega arith)
+
+  -- a list that begins at or above all keys of another means another polynomial
+  higher-differs : (t : ℕ) (ts us : List ℕ) (a b : ℕ) → Falling p a (t ∷ ts) → Falling p b us → b ≤ key-of t → ¬ (poly p P (t ∷ ts) ≡ poly p P us)
+  higher-differs t ts us a b h k l e =
+      poly-lead t ts a h .stands (ap (λ (f : S4 R .Car). coef R f (exponents (key-of t))) e ∙ poly-above us b (key-of t) k l)
 
   -- a falling list is known by its polynomial: two that mean the same are the same list
   pub poly-determines : (ts us : List ℕ) (a b : ℕ) → Falling p a ts → Falling p b us → poly p P ts ≡ poly p P us → ts ≡ us
   unfolding polynomial
   poly-determines [] [] a b h k e = refl
-  poly-determines [] (u ∷ us) a b h k e =
-      absurd (poly-lead u us b k .stands (sym (ap (λ (f : S4 R .Car). coef R f (exponents (key-of u))) e)))
-  poly-determines (t ∷ ts) [] a b h k e =
-      absurd (poly-lead t ts a h .stands (ap (λ (f : S4 R .Car). coef R f (exponents (key-of t))) e))
+  poly-determines [] (u ∷ us) a b h k e = absurd (higher-differs u us [] b 0 k tt (omega arith) (sym e))
+  poly-determines (t ∷ ts) [] a b h k e = absurd (higher-differs t ts [] a 0 h tt (omega arith) e)
   poly-determines (t ∷ ts) (u ∷ us) a b h k e =
       go (decLt (key-of t) (key-of u)) (decLt (key-of u) (key-of t))
       (λ c. poly-determines ts us (key-of t) (key-of u) (h .3) (k .3) c)
     where
       go : Dec (key-of t < key-of u) → Dec (key-of u < key-of t) → (poly p P ts ≡ poly p P us → ts ≡ us) → t ∷ ts ≡ u ∷ us
-      go (yes l) m again =
-          absurd
-          (poly-lead u us b k .stands
-          (sym (ap (λ (f : S4 R .Car). coef R f (exponents (key-of u))) e)
-          ∙ poly-above (t ∷ ts) (suc (key-of t)) (key-of u) (omega arith, h .1, h .2, h .3) l))
-      go (no n) (yes m) again =
-          absurd
-          (poly-lead t ts a h .stands
-          (ap (λ (f : S4 R .Car). coef R f (exponents (key-of t))) e
-          ∙ poly-above (u ∷ us) (suc (key-of u)) (key-of t) (omega arith, k .1, k .2, k .3) m))
+      go (yes l) m again = absurd (higher-differs u us (t ∷ ts) b (suc (key-of t)) k (omega arith, h .1, h .2, h .3) l (sym e))
+      go (no n) (yes m) again = absurd (higher-differs t ts (u ∷ us) a (suc (key-of u)) h (omega arith, k .1, k .2, k .3) m e)
       go (no n) (no m) again =
           let q : key-of t ≡ key-of u = omega arith in
           let c : coefficient-of t ≡ coefficient-of u =
@@ -102,6 +101,7 @@ module _ (p : ℕ) (P : Prime p) where
           (e ∙ ap (λ (i : ℕ). S4 R .add (term R (term-of p P i)) (poly p P us)) (sym s))))
 
   -- the same of lists that pass the check of their terms
-  pub right-lists-equal : (ts us : List ℕ) → ((i : ℕ) → ¬ WrongModulo p ts i) → ((i : ℕ) → ¬ WrongModulo p us i) → poly p P ts ≡ poly p P us → ts ≡ us
+  pub right-lists-equal : (ts us : List ℕ) → ((i : ℕ) → ¬ WrongModulo p ts i) → ((i : ℕ) → ¬ WrongModulo p us i)
+      → poly p P ts ≡ poly p P us → ts ≡ us
   right-lists-equal ts us h k e =
       poly-determines ts us keys keys (terms-fall p ts (λ i w. h i (w .0))) (terms-fall p us (λ i w. k i (w .0))) e

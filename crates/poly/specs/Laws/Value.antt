@@ -51,7 +51,7 @@ module _ (K : Field) where
   abbrev S3 : CommRing
   S3 = SeriesR (SeriesR (SeriesR R))
 
-  pub polynomial-ends : (n : ℕ) (f : Polynomial K) → WithinX n f → Ends (SeriesR (SeriesR (SeriesR R))) (suc n) (polynomial R f)
+  pub polynomial-ends : (n : ℕ) (f : Polynomial K) → WithinX n f → Ends S3 (suc n) (polynomial R f)
   unfolding polynomial monomial
   polynomial-ends n [] w k l = refl
   polynomial-ends n (t ∷ ts) w k l =

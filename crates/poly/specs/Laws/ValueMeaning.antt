@@ -1,7 +1,7 @@
 -- The model of the value means the value: the numbers that the code sums up are the coefficients of the value at the point. Assumes nothing.
 use mathlib.Core.Path.{_≡_, refl, sym, ap, ap₂, _∙_, fun-ext}
 use mathlib.Core.List.{List, [], _∷_}
-use Prim.Native.Nat.{ℕ, zero, suc, _+_, _*_, _/_, _%_, _<_}
+use Prim.Native.Nat.{ℕ, zero, suc, _+_, _*_, _%_, _<_}
 use native.Mathlib.Decide.{ℕ-discrete}
 use native.Mathlib.Omega.{arith}
 use lib.ListN.{length, getD, set, replicate, length-set}
@@ -19,6 +19,8 @@ use Rattle.poly.specs.Value.{Point, number-at, value}
 use Rattle.poly.specs.Coefficients.{series}
 use Rattle.poly.specs.Models.Powers.{powers}
 use Rattle.poly.specs.Models.Value.{plus-term, value-from, value-of}
+use Rattle.poly.specs.Laws.Keys.{digits-of}
+use Rattle.poly.specs.Laws.Places.{replicate-all}
 use Rattle.poly.specs.Laws.Powers.{powers-el}
 
 module _ (p : ℕ) (P : Prime p) (y z w : ℕ) where
@@ -41,52 +43,49 @@ module _ (p : ℕ) (P : Prime p) (y z w : ℕ) where
   term-el : (t r : ℕ) → el p (plus-term p ys zs ws t r) ≡ add (el p r) (number-at R at-numbers (term-of p P t))
   unfolding plus-term
   term-el t r =
-      let k = key-of t in
-      let a = coefficient-of t * getD ys (k / 64 % 8) 0 in
-      let b = a % p * getD zs (k / 8 % 8) 0 in
+      let e = exponents (key-of t) in
+      let small = digits-of (key-of t) in
+      let a = coefficient-of t * getD ys (e .y) 0 in
+      let b = a % p * getD zs (e .z) 0 in
       let h = prime-positive P in
-      el-mod p (r + b % p * getD ws (k % 8) 0) ∙ el-add p r (b % p * getD ws (k % 8) 0)
+      el-mod p (r + b % p * getD ws (e .w) 0) ∙ el-add p r (b % p * getD ws (e .w) 0)
       ∙ ap (add (el p r))
-      (el-mul p (b % p) (getD ws (k % 8) 0)
+      (el-mul p (b % p) (getD ws (e .w) 0)
       ∙ ap₂ mul
-      (el-mod p b ∙ el-mul p (a % p) (getD zs (k / 8 % 8) 0)
+      (el-mod p b ∙ el-mul p (a % p) (getD zs (e .z) 0)
       ∙ ap₂ mul
-      (el-mod p a ∙ el-mul p (coefficient-of t) (getD ys (k / 64 % 8) 0) ∙ ap (mul (el p (coefficient-of t))) (powers-el p h y (k / 64 % 8) (omega arith)))
-      (powers-el p h z (k / 8 % 8) (omega arith)))
-      (powers-el p h w (k % 8) (omega arith)))
+      (el-mod p a ∙ el-mul p (coefficient-of t) (getD ys (e .y) 0) ∙ ap (mul (el p (coefficient-of t))) (powers-el p h y (e .y) (small .y)))
+      (powers-el p h z (e .z) (small .z)))
+      (powers-el p h w (e .w) (small .w)))
 
-  from-series : (ts r : List ℕ) → length r ≡ 8 → ((j : ℕ) → j < length ts → key-of (getD ts j 0) < keys) → (i : ℕ)
+  -- a number stored at the power x adds a monomial
+  set-series : (r : List ℕ) (x v : ℕ) (n : Fp p) → x < length r → el p v ≡ add (series p r x) n → (i : ℕ)
+      → series p (set r x v) i ≡ add (series p r i) (mono R x n i)
+  set-series r x v n b e i = go (ℕ-discrete x i)
+    where
+      go : Dec (x ≡ i) → series p (set r x v) i ≡ add (series p r i) (mono R x n i)
+      go (yes q) =
+          ap (series p (set r x v)) (sym q) ∙ ap (el p) (getD-set-same r x v 0 b) ∙ e ∙ ap (add (series p r x)) (sym (mono-at R x n))
+          ∙ ap (λ (j : ℕ). add (series p r j) (mono R x n j)) q
+      go (no q) = ap (el p) (getD-set-other r x i v 0 (λ s. q (sym s))) ∙ sym (ap (add (series p r i)) (mono-off R x n i q) ∙ R .add-zero _)
+
+  value-from-series : (ts r : List ℕ) → length r ≡ 8 → ((j : ℕ) → j < length ts → key-of (getD ts j 0) < keys) → (i : ℕ)
       → series p (value-from p ys zs ws ts r) i ≡ add (series p r i) (value R (terms-of p P ts) at-numbers i)
   unfolding value-from value
-  from-series [] r e h i = sym (R .add-zero (series p r i))
-  from-series (t ∷ ts) r e h i =
+  value-from-series [] r e h i = sym (R .add-zero (series p r i))
+  value-from-series (t ∷ ts) r e h i =
       let x = exponents (key-of t) .x in
       let v = plus-term p ys zs ws t (getD r x 0) in
-      from-series ts (set r x v) (length-set r x v ∙ e) (λ j l. h (suc j) (omega arith)) i
-      ∙ ap (λ (u : Fp p). add u (value R (terms-of p P ts) at-numbers i)) (go (ℕ-discrete x i) (h zero (omega arith)))
+      let b : x < length r = let k : key-of t < keys = h zero (omega arith) in omega arith in
+      value-from-series ts (set r x v) (length-set r x v ∙ e) (λ j l. h (suc j) (omega arith)) i
+      ∙ ap (λ (u : Fp p). add u (value R (terms-of p P ts) at-numbers i))
+      (set-series r x v (number-at R at-numbers (term-of p P t)) b (term-el t (getD r x 0)) i)
       ∙ R .add-assoc _ _ _
-    where
-      go : Dec (key-of t / 512 ≡ i) → key-of t < keys
-          → series p (set r (key-of t / 512) (plus-term p ys zs ws t (getD r (key-of t / 512) 0))) i
-          ≡ add (series p r i) (mono R (key-of t / 512) (number-at R at-numbers (term-of p P t)) i)
-      go (yes q) k =
-          ap (λ (j : ℕ). series p (set r (key-of t / 512) (plus-term p ys zs ws t (getD r (key-of t / 512) 0))) j) (sym q)
-          ∙ ap (el p) (getD-set-same r (key-of t / 512) (plus-term p ys zs ws t (getD r (key-of t / 512) 0)) 0 (omega arith))
-          ∙ term-el t (getD r (key-of t / 512) 0)
-          ∙ ap (add (series p r (key-of t / 512))) (sym (mono-at R (key-of t / 512) (number-at R at-numbers (term-of p P t))))
-          ∙ ap (λ (j : ℕ). add (series p r j) (mono R (key-of t / 512) (number-at R at-numbers (term-of p P t)) j)) q
-      go (no q) k =
-          ap (el p) (getD-set-other r (key-of t / 512) i (plus-term p ys zs ws t (getD r (key-of t / 512) 0)) 0 (λ s. q (sym s)))
-          ∙ sym (ap (add (series p r i)) (mono-off R (key-of t / 512) _ i q) ∙ R .add-zero _)
 
   -- the numbers that the code sums up are the coefficients of the value
   pub value-of-series : (ts : List ℕ) → ((j : ℕ) → j < length ts → key-of (getD ts j 0) < keys)
       → series p (value-of p ys zs ws ts) ≡ value R (terms-of p P ts) at-numbers
   unfolding value-of
   value-of-series ts h = fun-ext λ i.
-      from-series ts (replicate 8 0) refl h i ∙ ap (λ (n : ℕ). add (el p n) (value R (terms-of p P ts) at-numbers i)) (nought 8 i) ∙ zero-add R _
-    where
-      nought : (n i : ℕ) → _≡_ {A = ℕ} (getD (replicate n 0) i 0) 0
-      nought zero i = refl
-      nought (suc n) zero = refl
-      nought (suc n) (suc i) = nought n i
+      value-from-series ts (replicate 8 0) refl h i
+      ∙ ap (λ (n : ℕ). add (el p n) (value R (terms-of p P ts) at-numbers i)) (replicate-all (λ n. n ≡ 0) 8 i 0 0 refl refl) ∙ zero-add R _

@@ -1,34 +1,22 @@
 -- How the model of the value goes on from term to term, on eight numbers below p. Assumes nothing.
-use mathlib.Core.Path.{_≡_, refl, sym, ap, _∙_, subst}
+use mathlib.Core.Path.{_≡_, refl, sym, ap, _∙_}
 use mathlib.Core.List.{List, [], _∷_}
-use Prim.Native.Nat.{ℕ, zero, suc, _+_, _≤_, _<_}
-use native.Mathlib.Decide.{ℕ-discrete, decLt}
+use Prim.Native.Nat.{ℕ, _+_, _≤_, _<_}
 use native.Mathlib.Nat.{mod-lt}
 use native.Mathlib.Numerals.{add-one}
-use native.Mathlib.Omega.{arith}
 use lib.ListN.{length, getD, set, drop, replicate, length-set, drop-of-length-le}
-use lib.Seq.{drop-cons, getD-set-same, getD-set-other}
+use lib.Seq.{drop-cons}
 use Rattle.poly.specs.Coefficients.{Eight}
-use Rattle.poly.specs.Models.Cells.{past-end}
+use Rattle.poly.specs.Laws.Places.{set-all, replicate-all}
 use Rattle.poly.specs.Keys.{exponents}
 use Rattle.poly.specs.Terms.{key-of}
 use Rattle.poly.specs.Models.Value.{plus-term, value-from, value-of}
 
 pub set-eight : (p : ℕ) (r : List ℕ) (x v : ℕ) → Eight p r → v < p → Eight p (set r x v)
-set-eight p r x v h l = record { eight = length-set r x v ∙ h .eight; below = λ i. go i (ℕ-discrete i x) (decLt x (length r)) }
-  where
-    go : (i : ℕ) → Dec (i ≡ x) → Dec (x < length r) → getD (set r x v) i 0 < p
-    go i (no q) b = subst (λ (n : ℕ). n < p) (sym (getD-set-other r x i v 0 q)) (h .below i)
-    go i (yes e) (yes b) = subst (λ (n : ℕ). n < p) (sym (ap (λ (k : ℕ). getD (set r x v) k 0) e ∙ getD-set-same r x v 0 b)) l
-    go i (yes e) (no b) = subst (λ (n : ℕ). n < p) (sym (past-end (length r) i (set r x v) (length-set r x v) (omega arith))) (omega arith)
+set-eight p r x v h l = record { eight = length-set r x v ∙ h .eight; below = λ i. set-all (λ n. n < p) r x i v 0 l (h .below i) }
 
 pub zeros-eight : (p : ℕ) → 0 < p → Eight p (replicate 8 0)
-zeros-eight p h = record { eight = refl; below = λ i. subst (λ (n : ℕ). n < p) (sym (all 8 i)) h }
-  where
-    all : (n i : ℕ) → _≡_ {A = ℕ} (getD (replicate n 0) i 0) 0
-    all zero i = refl
-    all (suc n) zero = refl
-    all (suc n) (suc i) = all n i
+zeros-eight p h = record { eight = refl; below = λ i. replicate-all (λ n. n < p) 8 i 0 0 h h }
 
 module _ (p : ℕ) (ys zs ws : List ℕ) where
   pub plus-term-below : 0 < p → (t r : ℕ) → plus-term p ys zs ws t r < p
@@ -52,12 +40,13 @@ module _ (p : ℕ) (ys zs ws : List ℕ) where
   unfolding value-from
   value-end ts i r l = ap (λ (u : List ℕ). value-from p ys zs ws u r) (drop-of-length-le ts l)
 
-  pub value-from-eight : 0 < p → (ts r : List ℕ) → Eight p r → Eight p (value-from p ys zs ws ts r)
+  value-from-eight : 0 < p → (ts r : List ℕ) → Eight p r → Eight p (value-from p ys zs ws ts r)
   unfolding value-from
   value-from-eight pos [] r h = h
   value-from-eight pos (t ∷ ts) r h =
       let v = plus-term p ys zs ws t (getD r (exponents (key-of t) .x) 0) in
-      value-from-eight pos ts (set r (exponents (key-of t) .x) v) (set-eight p r (exponents (key-of t) .x) v h (plus-term-below pos t (getD r (exponents (key-of t) .x) 0)))
+      value-from-eight pos ts (set r (exponents (key-of t) .x) v)
+      (set-eight p r (exponents (key-of t) .x) v h (plus-term-below pos t (getD r (exponents (key-of t) .x) 0)))
 
   pub value-of-eight : 0 < p → (ts : List ℕ) → Eight p (value-of p ys zs ws ts)
   unfolding value-of

@@ -33,7 +33,8 @@ at-most a b =
     && leb (exponents a .z) (exponents b .z)
     && leb (exponents a .w) (exponents b .w)
 
--- what a division keeps: the modulus, the divisor's terms, its leading key and the inverse of its leading coefficient, and the bound of the quotient's exponents, as a key
+-- what a division keeps: the modulus, the divisor's terms, its leading key and the inverse of its leading coefficient,
+-- and the bound of the quotient's exponents, as a key
 pub record Setting : Type 0 where
   pub modulus : ℕ
   pub terms : List ℕ

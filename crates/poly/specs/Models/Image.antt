@@ -25,12 +25,13 @@ pub record Fine (p : ℕ) (A B point : List ℕ) : Type 0 where
 unfoldable pub value-at : ℕ → List ℕ → List ℕ → List ℕ
 value-at p point ts = value-of p (powers p (getD point 0 0)) (powers p (getD point 1 0)) (powers p (getD point 2 0)) ts
 
-abbrev pub found : List ℕ → ImageRecord
-found u = record { fault = none; coefficients = u; degree = size u - 1 }
+-- the record of a good point
+abbrev pub image-record : List ℕ → ImageRecord
+image-record u = record { fault = none; coefficients = u; degree = size u - 1 }
 
 -- where the values are a and b, and the highest power of x in A is x
 unfoldable pub image-of-values : ℕ → ℕ → List ℕ → List ℕ → ImageRecord
-image-of-values p x a b = elim (eqb (getD a x 0) 0) [ true ↦ refusal (fault NO_GOOD_POINT 0) | false ↦ found (gcd p a b) ]
+image-of-values p x a b = elim (eqb (getD a x 0) 0) [ true ↦ refusal (fault NO_GOOD_POINT 0) | false ↦ image-record (gcd p a b) ]
 
 unfoldable pub image-of : ℕ → List ℕ → List ℕ → List ℕ → ImageRecord
 image-of p A B point = image-of-values p (x-of (getD A 0 0)) (value-at p point A) (value-at p point B)

@@ -9,6 +9,7 @@ use Rattle.poly.specs.Terms.{key-of}
 use Rattle.poly.specs.Lists.{most-terms, Count, WrongModulo}
 use Rattle.poly.specs.LeadingPart.{x-of}
 
+-- the lines of one list
 abbrev pub of-terms : ℕ → ℕ → ℕ → List ℕ → List Line
 of-terms count term bound terms =
     line count (whole (Count most-terms terms))

@@ -3,7 +3,7 @@ use mathlib.Core.List.{List, [], _∷_}
 use Prim.Native.Nat.{ℕ, _+_, _*_, _%_, _<_}
 use lib.ListN.{length, getD, set, replicate}
 use Rattle.poly.specs.Coefficients.{Eight}
-use Rattle.poly.specs.Keys.{exponents}
+use Rattle.poly.specs.Keys.{exponents, keys}
 use Rattle.poly.specs.Terms.{key-of, coefficient-of}
 
 -- three tables of powers, and terms whose keys and coefficients are in range
@@ -11,7 +11,7 @@ pub record Ready (p : ℕ) (ys zs ws ts : List ℕ) : Type 0 where
   pub y-powers : Eight p ys
   pub z-powers : Eight p zs
   pub w-powers : Eight p ws
-  pub keys : (i : ℕ) → i < length ts → key-of (getD ts i 0) < 4096
+  pub keys : (i : ℕ) → i < length ts → key-of (getD ts i 0) < keys
   pub coefficients : (i : ℕ) → i < length ts → coefficient-of (getD ts i 0) < p
 
 -- a term's value, added to r

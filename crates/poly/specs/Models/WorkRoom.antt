@@ -1,4 +1,5 @@
--- Division in the lent work room: the remainder's cells, the quotient's cells, and what is beyond; what the functions of the division and the quotient ask for and promise.
+-- Division in the lent work room: the remainder's cells, the quotient's cells, and what is beyond;
+-- what the functions of the division and the quotient ask for and promise.
 use mathlib.Core.Path.{_≡_}
 use mathlib.Core.Bool.{Bool}
 use mathlib.Core.List.{List, [], _∷_}
@@ -36,6 +37,7 @@ pub record CanStep (d : Setting) (top : ℕ) (work : List ℕ) : Type 0 where
   pub above : (i : ℕ) → top ≤ i → i < keys → getD work i 0 ≡ 0
   pub leads : (i : ℕ) → i < length (d .terms) → key-of (getD (d .terms) i 0) ≤ d .lead
 
+-- the model's outcome, and what is beyond the cells left
 pub record Stepped (d : Setting) (before after : List ℕ) (whole : Bool) : Type 0 where
   pub outcome : record { whole = whole; quotient = quotient-cells after } ≡ divide-from d keys (remainder-cells before) (quotient-cells before)
   pub rest : beyond after ≡ beyond before
@@ -45,6 +47,7 @@ pub record CanBegin (p : ℕ) (dividend divisor work : List ℕ) : Type 0 where
   pub lists : CanDivide p dividend divisor work
   pub empty : (i : ℕ) → i < keys → getD work i 0 ≡ 0
 
+-- the same of the whole division
 pub record Divided (p : ℕ) (dividend divisor before after : List ℕ) (whole : Bool) : Type 0 where
   pub outcome : record { whole = whole; quotient = quotient-cells after } ≡ divided p dividend divisor (remainder-cells before) (quotient-cells before)
   pub rest : beyond after ≡ beyond before
@@ -54,6 +57,7 @@ pub record CanGather (cells out : List ℕ) : Type 0 where
   pub few : length cells ≤ keys
   pub room : length cells ≤ length out
 
+-- how many terms, and where they stand
 pub record Gathered (cells before after : List ℕ) (n : ℕ) : Type 0 where
   pub count : n ≡ length (gathered (length cells) cells)
   pub output : after ≡ written (gathered (length cells) cells) before

@@ -10,7 +10,9 @@ at-most-requires : tie.Need-at-most-requires
 at-most-requires c κs = search needs
 
 returns : tie.Need-returns
-returns c = fits-not (c .before .before .args .lead) (c .before .before .args .bound .bits) (c .before .before .args .k) (sym (c .before .at-most .ensures) ∙ not-true _ (c .if1 .taken))
+returns c =
+    let a = c .before .before .args in
+    fits-not (a .lead) (a .bound .bits) (a .k) (sym (c .before .at-most .ensures) ∙ not-true _ (c .if1 .taken))
 
 sub-t8 : tie.Need-sub-t8
 sub-t8 c = at-most-key _ _ (sym (c .before .at-most .ensures) ∙ not-false _ (c .if1 .left))
@@ -19,7 +21,9 @@ at-most-requires-2 : tie.Need-at-most-requires-2
 at-most-requires-2 c κs = search needs
 
 returns-2 : tie.Need-returns-2
-returns-2 c = fits-rest (c .before .before .before .args .lead) (c .before .before .before .args .bound .bits) (c .before .before .before .args .k) (sym (c .before .before .at-most .ensures) ∙ not-false _ (c .before .if1 .left)) (c .at-most2 .ensures)
+returns-2 c =
+    let a = c .before .before .before .args in
+    fits-rest (a .lead) (a .bound .bits) (a .k) (sym (c .before .before .at-most .ensures) ∙ not-false _ (c .before .if1 .left)) (c .at-most2 .ensures)
 
 pub fits-spec : {M : Type 1} → statement M
 fits-spec = tie.close (tie.spec at-most-requires returns sub-t8 at-most-requires-2 returns-2)

@@ -18,8 +18,9 @@ abbrev μ-loop : tie.MeasureT-loop
 -- the key of the term at i is a cell's
 below : (c : tie.After-coefficient-of Inv-loop μ-loop) → c .before .before .of .result .bits < length (c .before .before .before .before .before .loop .cells)
 below c =
-    let a = c .before .before .before .before .before in
-    omega (arith, a .before .before .before .pre (a .loop .i) (c .before .before .before .before .loop-test .taken), c .before .before .of .ensures, a .loop .inv .1)
+    let turn = c .before .before .before .before in
+    let a = turn .before in
+    omega (arith, a .before .before .before .pre (a .loop .i) (turn .loop-test .taken), c .before .before .of .ensures, a .loop .inv .1)
 
 loop-holds : tie.Need-loop-holds Inv-loop μ-loop
 loop-holds c = search needs
@@ -40,7 +41,9 @@ coefficient-of-requires : tie.Need-coefficient-of-requires Inv-loop μ-loop
 coefficient-of-requires c κs = search needs
 
 mul-cells : tie.Need-mul-cells Inv-loop μ-loop
-mul-cells c = omega (arith, below c, c .before .before .before .before .before .before .before .before .good .1 .0 .0, c .before .before .before .before .before .loop .inv .1)
+mul-cells c =
+    let a = c .before .before .before .before .before in
+    omega (arith, below c, a .before .before .before .good .1 .0 .0, a .loop .inv .1)
 
 slice-write-cells : tie.Need-slice-write-cells Inv-loop μ-loop
 slice-write-cells c = below c
@@ -53,12 +56,13 @@ loop-less c = search needs
 
 loop-again : tie.Need-loop-again Inv-loop μ-loop
 loop-again c =
-    let a = c .before .before .before .before .before in
+    let turn = c .before .before .before .before in
+    let a = turn .before in
     let g = a .before .before .before .args in (
       omega arith,
       simp length-set (a .loop .inv .1),
       a .loop .inv .2
-          ∙ spread-turn (g .terms .now) (a .loop .cells) (a .loop .i) (c .before .before .before .before .loop-test .taken) (c .before .before .of .ensures) (c .coefficient-of .ensures),
+          ∙ spread-turn (g .terms .now) (a .loop .cells) (a .loop .i) (turn .loop-test .taken) (c .before .before .of .ensures) (c .coefficient-of .ensures),
     )
 
 same-length : tie.Need-same-length Inv-loop μ-loop

@@ -27,7 +27,7 @@ loop-holds c =
       c .pre .eight,
       refl,
       filled-start (less-at (a .p) (a .c) (a .k) (a .f .now) (a .t5)) (a .f .now) (a .k)
-          (λ j l. sym (less-low (a .p) (omega arith) (a .c) (a .k) (a .f .now) (a .t5) j l)),
+          (λ j l. sym (less-low (a .p) (a .c) (a .k) (a .f .now) (a .t5) j l)),
     )
 
 mul-plus-times : tie.Need-mul-plus-times Inv-loop μ-loop
@@ -69,7 +69,9 @@ loop-again c =
       l .inv .2,
       refl,
       filled-next (less-at (a .p) (a .c) (a .k) (a .f .now) (a .t5)) (a .f .now) (l .i) (l .f) _ (l .inv .4) (omega arith)
-          (c .plus-times .ensures ∙ ap (λ (x : ℕ). (x + (a .p - a .c) * getD (a .t5) (l .i - a .k) 0) % a .p) (l .inv .4 .left (l .i) (omega arith)) ∙ sym (less-high (a .p) (omega arith) (a .c) (a .k) (a .f .now) (a .t5) (l .i) (l .inv .0))),
+          (c .plus-times .ensures
+          ∙ ap (λ (x : ℕ). (x + (a .p - a .c) * getD (a .t5) (l .i - a .k) 0) % a .p) (l .inv .4 .left (l .i) (omega arith))
+          ∙ sym (less-high (a .p) (a .c) (a .k) (a .f .now) (a .t5) (l .i) (l .inv .0))),
     )
 
 returns : tie.Need-returns Inv-loop μ-loop

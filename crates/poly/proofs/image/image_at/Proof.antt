@@ -1,16 +1,17 @@
 -- `poly::image::image_at` meets its contract: the tables, A's value and the test of the point, B's value and what is made of both are the model's. Assumes nothing.
 use mathlib.Core.Path.{_≡_, sym, ap, _∙_, subst}
 use mathlib.Core.List.{List}
-use Prim.Native.Nat.{ℕ, _/_}
+use Prim.Native.Nat.{ℕ}
 use native.Mathlib.Omega.{arith}
 use lib.ListN.{getD}
 use Rattle.field.specs.ModuliLaws.{listed-prime, listed-above, listed-positive}
 use Rattle.poly.specs.Coefficients.{Eight}
+use Rattle.poly.specs.Keys.{exponents}
 use Rattle.poly.specs.LeadingPart.{x-of}
 use Rattle.poly.specs.Models.Value.{Ready, value-of}
 use Rattle.poly.specs.ImageCall.{refusal}
 use Rattle.poly.specs.Models.Eight.{gcd}
-use Rattle.poly.specs.Models.Image.{value-at, found, image-of}
+use Rattle.poly.specs.Models.Image.{value-at, image-record, image-of}
 use Rattle.poly.specs.Laws.RightLists.{RightList, RightLists, lists-are-right}
 use Rattle.poly.specs.Laws.ImageModel.{values-bad, values-good, size-positive, tables-ready, value-by-tables, value-at-eight, first-power-small}
 use borrow.Author.Needs.{needs}
@@ -42,10 +43,14 @@ module _ (c : tie.After-powers3) where
   ws = c .powers3 .result
 
   ready : (ts : List ℕ) → RightList p ts → Ready p ys zs ws ts
-  ready = tables-ready p point ys zs ws (c .before .before .before .before .powers .ensures) (c .before .before .powers2 .ensures) (c .powers3 .ensures) (listed-above (right start .is-listed))
+  ready =
+      tables-ready p point ys zs ws (c .before .before .before .before .powers .ensures) (c .before .before .powers2 .ensures) (c .powers3 .ensures)
+      (listed-above (right start .is-listed))
 
   worked : (ts : List ℕ) {r : List ℕ} → r ≡ value-of p ys zs ws ts → r ≡ value-at p point ts
-  worked ts e = e ∙ value-by-tables p point ys zs ws (c .before .before .before .before .powers .ensures) (c .before .before .powers2 .ensures) (c .powers3 .ensures) ts
+  worked ts e =
+      e
+      ∙ value-by-tables p point ys zs ws (c .before .before .before .before .powers .ensures) (c .before .before .powers2 .ensures) (c .powers3 .ensures) ts
 
   in-range : (ts : List ℕ) {r : List ℕ} → r ≡ value-of p ys zs ws ts → Eight p r
   in-range ts e = subst (Eight p) (sym (worked ts e)) (value-at-eight (listed-prime (right start .is-listed)) point ts)
@@ -65,7 +70,7 @@ module _ (c : tie.After-x) where
   first-value = worked tables A (c .before .before .before .value .ensures)
 
   power : c .x .result ≡ x-of (getD A 0 0)
-  power = c .x .ensures ∙ ap (λ (k : ℕ). k / 512) (c .before .of .ensures)
+  power = c .x .ensures ∙ ap (λ (k : ℕ). exponents k .x) (c .before .of .ensures)
 
   -- the number that is tested is the model's
   lead : getD (c .before .before .before .value .result) (c .x .result) 0 ≡ getD (value-at (p tables) (point tables) A) (x-of (getD A 0 0)) 0
@@ -145,7 +150,7 @@ returns-2 c =
     let at-x = c .before .before .before in
     let k = tables at-x in
     c .image-of-values .ensures
-    ∙ (λ i. found (gcd (p k) (first-value at-x i) (worked k (B at-x) (c .before .value2 .ensures) i)))
+    ∙ (λ i. image-record (gcd (p k) (first-value at-x i) (worked k (B at-x) (c .before .value2 .ensures) i)))
     ∙ sym (values-good _ _ _ _ (λ z. c .before .before .if1 .left (lead at-x ∙ z)))
 
 pub image-at-spec : {M : Type 1} → statement M

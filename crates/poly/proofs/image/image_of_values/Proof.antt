@@ -7,7 +7,7 @@ use Rattle.field.specs.ModuliLaws.{listed-prime}
 use Rattle.field.specs.declared.Fault.{Fault}
 use Rattle.poly.specs.declared.ImageRecord.{ImageRecord}
 use Rattle.poly.specs.Models.Eight.{size, gcd}
-use Rattle.poly.specs.Laws.ImageModel.{gcd-positive}
+use Rattle.poly.specs.Laws.EuclidMeaning.{gcd-nonzero}
 use borrow.Author.Needs.{needs}
 use Rattle.poly.proofs.image.image_of_values.Statement.{statement}
 use Rattle.poly.proofs.image.image_of_values.Tie as tie
@@ -29,7 +29,7 @@ sized c = c .size .ensures ∙ ap size (c .before .gcd .ensures)
 sub-d : tie.Need-sub-d
 sub-d c =
     let s = c .before .before in
-    omega (arith, sized c, gcd-positive (listed-prime (s .pre .is-listed)) _ _ (s .pre .first) (s .pre .nonzero) (s .pre .second))
+    omega (arith, sized c, gcd-nonzero (listed-prime (s .pre .is-listed)) _ _ (s .pre .first) (λ e. omega (arith, s .pre .nonzero)) (s .pre .second))
 
 none-requires : tie.Need-none-requires
 none-requires c κs = search needs

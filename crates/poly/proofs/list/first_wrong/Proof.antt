@@ -35,7 +35,8 @@ cast-coefficient c = search needs
 returns : tie.Need-returns Inv-loop μ-loop
 returns c =
     let turn = c .before .before .before .before in
-    walk-stops _ _ _ _ (turn .before .loop .inv) (turn .loop-test .taken) _ _ (c .before .before .of .ensures) (c .before .coefficient-of .ensures) (not-true _ (c .if1 .taken))
+    walk-stops _ _ _ _ (turn .before .loop .inv) (turn .loop-test .taken) _ _ (c .before .before .of .ensures)
+    (c .before .coefficient-of .ensures) (not-true _ (c .if1 .taken))
 
 add-i : tie.Need-add-i Inv-loop μ-loop
 add-i c = search needs
@@ -46,7 +47,8 @@ loop-less c = search needs
 loop-again : tie.Need-loop-again Inv-loop μ-loop
 loop-again c =
     let turn = c .before .before .before .before in
-    walk-goes-on _ _ _ _ (turn .before .loop .inv) (turn .loop-test .taken) _ _ (c .before .before .of .ensures) (c .before .coefficient-of .ensures) (not-false _ (c .if1 .left))
+    walk-goes-on _ _ _ _ (turn .before .loop .inv) (turn .loop-test .taken) _ _ (c .before .before .of .ensures)
+    (c .before .coefficient-of .ensures) (not-false _ (c .if1 .left))
 
 returns-2 : tie.Need-returns-2 Inv-loop μ-loop
 returns-2 c = walk-ends _ _ _ _ (c .before .loop .inv) (c .loop-test .left)

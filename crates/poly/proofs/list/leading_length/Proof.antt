@@ -50,7 +50,9 @@ loop-less : tie.Need-loop-less Inv-loop μ-loop
 loop-less c = search needs
 
 loop-again : tie.Need-loop-again Inv-loop μ-loop
-loop-again c = search-goes-on (c .before .before .before .before .before .loop .inv) (c .before .before .before .before .loop-test .taken) (λ lower. omega arith)
+loop-again c =
+    let turn = c .before .before .before .before in
+    search-goes-on (turn .before .loop .inv) (turn .loop-test .taken) (λ lower. omega arith)
 
 returns-2 : tie.Need-returns-2 Inv-loop μ-loop
 returns-2 c = search-ends (c .before .loop .inv) (c .loop-test .left)

@@ -1,0 +1,72 @@
+-- The test of a cell is the rule's, and a divisor moved up within the bound stays among the cells. Assumes nothing.
+use mathlib.Core.Path.{_≡_, sym, _∙_, ap, subst}
+use mathlib.Core.Bool.{true}
+use mathlib.Core.List.{List, [], _∷_}
+use mathlib.Mathlib.Data.Bool.Basic.{and-elim-left, and-elim-right, and-intro}
+use Prim.Native.Nat.{ℕ, _+_, _-_, _≤_, _<_}
+use native.Mathlib.Nat.{add-comm}
+use native.Mathlib.Omega.{arith}
+use Rattle.algebra.specs.Four.{Exponents, _⊞_, _≼_}
+use Rattle.algebra.specs.GreatestExponent.{in-x, in-y, in-z, in-w}
+use Rattle.poly.specs.Keys.{exponents, keys}
+use Rattle.poly.specs.Terms.{key-of}
+use Rattle.poly.specs.Laws.Keys.{exponents-add}
+use Rattle.poly.specs.Laws.KeyDifference.{at-most-says, at-most-of, exponents-difference, difference-only}
+use Rattle.poly.specs.Laws.Dense.{MovesUp}
+use Rattle.poly.specs.Models.Division.{most, at-most, Setting, fits-in, fits}
+
+-- the bound is what the greatest exponents f are above g
+module _ (d : Setting) (f g : Exponents) (spare : exponents (d .bound) ⊞ g ≡ f) (k : ℕ) where
+  pub record Fits : Type 0 where
+    pub exact : exponents k ≡ exponents (k - d .lead) ⊞ exponents (d .lead)
+    pub bounded : exponents (k - d .lead) ⊞ g ≼ f
+
+  within-spare : (e b : Exponents) → e ≼ b → b ⊞ g ≡ f → e ⊞ g ≼ f
+  within-spare e b l s =
+      let lx = l .x in let ly = l .y in let lz = l .z in let lw = l .w in
+      subst (λ (i : Exponents). e ⊞ g ≼ i) s (record { x = omega arith; y = omega arith; z = omega arith; w = omega arith })
+
+  spare-within : (e b : Exponents) → e ⊞ g ≼ f → b ⊞ g ≡ f → e ≼ b
+  spare-within e b l s =
+      let m : e ⊞ g ≼ b ⊞ g = subst (λ (i : Exponents). e ⊞ g ≼ i) (sym s) l in
+      let mx = m .x in let my = m .y in let mz = m .z in let mw = m .w in
+      record { x = omega arith; y = omega arith; z = omega arith; w = omega arith }
+
+  pub fits-says : fits d k ≡ true → Fits
+  unfolding fits-in
+  fits-says h =
+      record {
+        exact = exponents-difference (d .lead) k (at-most-says (d .lead) k (and-elim-left (at-most (d .lead) k) _ h));
+        bounded =
+            within-spare (exponents (k - d .lead)) (exponents (d .bound))
+            (at-most-says (k - d .lead) (d .bound) (and-elim-right (at-most (d .lead) k) _ h)) spare;
+      }
+
+  pub fits-of : (e : Exponents) → exponents k ≡ e ⊞ exponents (d .lead) → e ⊞ g ≼ f → fits d k ≡ true
+  unfolding fits-in
+  fits-of e p l =
+      let o = difference-only (d .lead) k e p in
+      and-intro (at-most-of (d .lead) k (o .0))
+      (at-most-of (k - d .lead) (d .bound)
+      (subst (λ (i : Exponents). i ≼ exponents (d .bound)) (sym (o .1)) (spare-within e (exponents (d .bound)) l spare)))
+
+-- a divisor moved up within the bound stays among the cells
+below-eight : (n : ℕ) → exponents n .x < 8 → n < keys
+below-eight n h = omega arith
+
+pub moves-up : (s : ℕ) (f g : Exponents) → exponents s ⊞ g ≼ f → f .x < 8 → f .y < 8 → f .z < 8 → f .w < 8
+    → (ts : List ℕ) → most in-x ts ≤ g .x → most in-y ts ≤ g .y → most in-z ts ≤ g .z → most in-w ts ≤ g .w → MovesUp s keys ts
+moves-up s f g l fx fy fz fw [] x y z w = tt
+moves-up s f g l fx fy fz fw (t ∷ ts) x y z w =
+    (small, sum, moves-up s f g l fx fy fz fw ts (omega arith) (omega arith) (omega arith) (omega arith))
+  where
+    sum : exponents (key-of t + s) ≡ exponents s ⊞ exponents (key-of t)
+    sum =
+        ap exponents (add-comm (key-of t) s)
+        ∙ exponents-add s (key-of t) (record { y = let a = l .y in omega arith; z = let a = l .z in omega arith; w = let a = l .w in omega arith })
+
+    small : key-of t + s < keys
+    small =
+        let q : exponents (key-of t + s) .x ≡ exponents s .x + exponents (key-of t) .x = ap (λ (i : Exponents). i .x) sum in
+        let a = l .x in
+        below-eight (key-of t + s) (omega arith)
