@@ -27,8 +27,8 @@ use Rattle.divisor.specs.declared.table.Solved.{Solved}
 use Rattle.divisor.specs.declared.table.Table.{Table}
 use Rattle.divisor.specs.declared.verdict.Verdict.{Verdict}
 use Rattle.divisor.specs.Rule.{report, Kept}
-use Rattle.divisor.specs.Candidate.{Call, table, prime, Numbers, A, B, monomials, lent-points, Result, Candidate}
-use Rattle.divisor.specs.Models.Table.{TableReady, empty-table, solved}
+use Rattle.divisor.specs.Candidate.{most-keys, most-points, Call, table, prime, Numbers, A, B, monomials, lent-points, Result, Candidate}
+use Rattle.divisor.specs.Models.Table.{COLUMNS, TableReady, empty-table, solved}
 use Rattle.divisor.specs.Models.TableMeaning.{added, rows-of, Says}
 use Rattle.divisor.specs.Laws.TableKept.{empty-ready}
 use Rattle.divisor.specs.Laws.TableAnswer.{added-ready, table-answers, solved-below, solved-length}
@@ -80,7 +80,7 @@ module _ (c : Call) (pass : Passes (table c)) where
   pub look-ready : LookReady (c .modulus) (c .first-list) (c .second-list) (c .points) (c .work)
   look-ready = record { lists = lists-pass; threes = points-right .threes; few = points-right .few; below = points-right .below; room = work-fits }
 
-  pub few-points : length (c .points) / 3 ≤ 32
+  pub few-points : length (c .points) / 3 ≤ most-points
   few-points = let f = points-right .few in omega arith
 
   abbrev listed : Listed (c .modulus)
@@ -129,16 +129,16 @@ module _ (c : Call) (pass : Passes (table c)) where
       sized : length (take n sizes) ≡ n
       sized = length-take-le n sizes (within .within)
 
-      pub kept-most : alike m (take (length (c .points) / 3) sizes) ≤ 32
+      pub kept-most : alike m (take (length (c .points) / 3) sizes) ≤ most-points
       kept-most = let l = alike-most m (take n sizes) in let e = sized in let f = few-points in omega arith
 
       pub counts-fit : alike 0 (take (length (c .points) / 3) sizes) + alike m (take (length (c .points) / 3) sizes) ≤ length (c .points) / 3
       counts-fit = let l = alike-two 0 m (λ e. some (sym e)) (take n sizes) in let e = sized in omega arith
 
-      keys-most : length (c .skeleton) ≤ 32
+      keys-most : length (c .skeleton) ≤ most-keys
       keys-most = skeleton-count (c .skeleton) keys-on .1
 
-      pub columns-most : length (c .skeleton) + alike m (take (length (c .points) / 3) sizes) ≤ 64
+      pub columns-most : length (c .skeleton) + alike m (take (length (c .points) / 3) sizes) ≤ COLUMNS
       columns-most = let k = kept-most in let s = keys-most in omega arith
 
       pub equations-ready : EquationsReady (c .modulus) (c .skeleton) (c .points) sizes after m (length (c .skeleton) + alike m (take (length (c .points) / 3) sizes))
@@ -272,7 +272,7 @@ module _ (c : Call) (pass : Passes (table c)) (after sizes : List ℕ)
   ready-equations = subst (λ (x : ℕ). EquationsReady (c .modulus) (c .skeleton) (c .points) sizes after m (length (c .skeleton) + x)) (sym is-count)
       (equations-ready c pass after sizes look m is-least some)
 
-  pub count-small : count ≤ 32
+  pub count-small : count ≤ most-points
   count-small = let e = kept-most c pass after sizes look m is-least some in omega arith
 
   module _ (t : Table) (made : Equations-before (length (c .points) / 3) (c .modulus) (c .skeleton) (c .points) sizes after m (length (c .skeleton) + count) t) where

@@ -87,26 +87,26 @@ module _ (p : ℕ) (points : List ℕ) (n : ¬ (length points ≡ 0)) (m : lengt
 -- what skeleton and points that pass have
 pub record RightPoints (p : ℕ) (points : List ℕ) : Type 0 where
   pub some : 0 < length points
-  pub few : length points ≤ 96
+  pub few : length points ≤ most-point-numbers
   pub threes : length points ≡ 3 * (length points / 3)
   pub below : (i : ℕ) → i < length points → getD points i 0 < p
 
 pub points-are-right : (p : ℕ) (points : List ℕ) → Passes (of-points p points) → RightPoints p points
-points-are-right p points h = go (ℕ-discrete (length points) 0) (decLe (length points) 96) (ℕ-discrete (length points % 3) 0)
+points-are-right p points h = go (ℕ-discrete (length points) 0) (decLe (length points) most-point-numbers) (ℕ-discrete (length points % 3) 0)
   where
     never : ¬ (Count most-point-numbers points ⊎ (¬ (length points % 3 ≡ 0)))
     never = never-placed (h .0)
 
-    go : Dec (length points ≡ 0) → Dec (length points ≤ 96) → Dec (length points % 3 ≡ 0) → RightPoints p points
+    go : Dec (length points ≡ 0) → Dec (length points ≤ most-point-numbers) → Dec (length points % 3 ≡ 0) → RightPoints p points
     go (yes e) b c = absurd (never (inl (inl e)))
     go (no e) (no l) c = absurd (never (inl (inr (omega arith))))
     go (no e) (yes l) (no q) = absurd (never (inr q))
     go (no e) (yes l) (yes q) = record { some = omega arith; few = l; threes = omega arith; below = numbers-below p points (none-wrong (WrongNumber p points) (h .1 .0)) }
 
-pub skeleton-count : (ks : List ℕ) → Passes (of-skeleton ks) → (0 < length ks) × (length ks ≤ 32)
-skeleton-count ks h = go (ℕ-discrete (length ks) 0) (decLe (length ks) 32)
+pub skeleton-count : (ks : List ℕ) → Passes (of-skeleton ks) → (0 < length ks) × (length ks ≤ most-keys)
+skeleton-count ks h = go (ℕ-discrete (length ks) 0) (decLe (length ks) most-keys)
   where
-    go : Dec (length ks ≡ 0) → Dec (length ks ≤ 32) → (0 < length ks) × (length ks ≤ 32)
+    go : Dec (length ks ≡ 0) → Dec (length ks ≤ most-keys) → (0 < length ks) × (length ks ≤ most-keys)
     go (yes e) b = absurd (never-placed (h .0) (inl e))
     go (no e) (no l) = absurd (never-placed (h .0) (inr (omega arith)))
     go (no e) (yes l) = (omega arith, l)

@@ -15,6 +15,7 @@ use Rattle.poly.specs.Keys.{exponents}
 use Rattle.divisor.specs.declared.table.Row.{Row}
 use Rattle.divisor.specs.declared.table.Table.{Table}
 use Rattle.divisor.specs.Rule.{Kept}
+use Rattle.divisor.specs.Candidate.{most-points, most-point-numbers}
 use Rattle.divisor.specs.Models.Table.{TableReady, empty-table}
 use Rattle.divisor.specs.Models.TableMeaning.{added, row-of, rows-of, AllReady}
 use Rattle.divisor.specs.Laws.TableAnswer.{added-append, added-ready, added-columns}
@@ -39,8 +40,8 @@ part-is a i list = let e : a * i + a - a * i ≡ a = omega arith in ap (λ (n : 
 pub part-length : (a i : ℕ) (list : List ℕ) → a * i + a ≤ length list → length (take a (drop (a * i) list)) ≡ a
 part-length a i list l = length-take-le a (drop (a * i) list) (let e = length-drop (a * i) list in omega arith)
 
--- at most 32 points have their sizes
-pub enough : (points : ℕ) (sizes : List ℕ) → points ≤ 96 → length sizes ≡ 32 → points / 3 ≤ length sizes
+-- every point has its size
+pub enough : (points : ℕ) (sizes : List ℕ) → points ≤ most-point-numbers → length sizes ≡ most-points → points / 3 ≤ length sizes
 enough points sizes l e = omega arith
 
 pub equations-to-at : {j p : ℕ} {t : Table} {ks point point′ image image′ : List ℕ} {column : ℕ} {r : Table} → point ≡ point′ → image ≡ image′

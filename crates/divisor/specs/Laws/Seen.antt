@@ -16,7 +16,7 @@ use Rattle.poly.specs.Terms.{terms-of}
 use Rattle.poly.specs.Value.{Point}
 use Rattle.poly.specs.ImageCall.{point-of}
 use Rattle.divisor.specs.Rule.{Kept}
-use Rattle.divisor.specs.Candidate.{points-of}
+use Rattle.divisor.specs.Candidate.{most-points, points-of}
 use Rattle.divisor.specs.Models.Sorting.{sizes-of, alike, kept-of}
 use Rattle.divisor.specs.Models.Equation.{kept-numbers}
 use Rattle.divisor.specs.Models.Looks.{point-at, image-at, look-at, LookReady, Looks, kept-before}
@@ -83,7 +83,7 @@ module _ (p : ℕ) (A B points : List ℕ) where
         subst (λ (l : List (Point (Modulo p P .ring))). Looked P (terms-of p P A) (terms-of p P B) l (looks-from p A B points i (suc n))) (sym (points-next P i n e))
         (one (look-answers p A B points work ready P i) (seen (suc i) n (omega arith)))
 
-  module _ (N : ℕ) (before after sizes : List ℕ) (few : N ≤ 32) (looks : Looks N p A B points before after sizes) where
+  module _ (N : ℕ) (before after sizes : List ℕ) (few : N ≤ most-points) (looks : Looks N p A B points before after sizes) where
     sizes-from : (i n : ℕ) → i + n ≡ N → take n (drop i sizes) ≡ sizes-of (looks-from p A B points i n)
     sizes-from i zero e = refl
     sizes-from i (suc n) e =

@@ -9,6 +9,7 @@ use lib.ListN.{length, getD, take, drop, set, replicate, length-set, length-drop
 use lib.Seq.{getD-set-same, getD-set-other, getD-take, getD-drop, ext-getD, length-take-le}
 use Rattle.poly.specs.declared.ImageRecord.{ImageRecord}
 use Rattle.poly.specs.Room.{work-room}
+use Rattle.divisor.specs.Candidate.{most-points}
 use Rattle.divisor.specs.Models.Looks.{image-at, look-at, Looks, Stored}
 use Rattle.divisor.specs.Models.Sorting.{size-of}
 
@@ -62,11 +63,11 @@ image-same before after i k e l o h = ext-getD 0 (image-at after i) (image-at be
         ∙ sym (getD-take 8 (drop (8 * i) before) j 0 c ∙ getD-drop (8 * i) before j 0)
 
 module _ (p : ℕ) (A B points before : List ℕ) where
-  pub looks-start : Looks 0 p A B points before before (replicate 32 0)
-  looks-start = record { count = length-replicate {A = ℕ} 32 0; sized = λ i l. absurd (omega arith); same-length = refl; images = λ i l. absurd (omega arith); beyond = refl }
+  pub looks-start : Looks 0 p A B points before before (replicate most-points 0)
+  looks-start = record { count = length-replicate {A = ℕ} most-points 0; sized = λ i l. absurd (omega arith); same-length = refl; images = λ i l. absurd (omega arith); beyond = refl }
 
   -- one more point
-  pub looks-next : (n : ℕ) (work after sizes : List ℕ) (seen : ImageRecord) (s : ℕ) → n < 32 → work-room ≤ length before → Looks n p A B points before work sizes
+  pub looks-next : (n : ℕ) (work after sizes : List ℕ) (seen : ImageRecord) (s : ℕ) → n < most-points → work-room ≤ length before → Looks n p A B points before work sizes
       → seen ≡ look-at p A B points n → length (seen .coefficients) ≡ 8 → s ≡ size-of seen → Stored 8 (seen .coefficients) (8 * n) work after
       → Looks (n + 1) p A B points before after (set sizes n s)
   looks-next n work after sizes seen s small room h e eight es st = record {
@@ -84,7 +85,7 @@ module _ (p : ℕ) (A B points before : List ℕ) where
       go i l (yes q) = ap (λ (k : ℕ). getD (set sizes n s) k 0) q ∙ getD-set-same sizes n s 0 (let c = h .count in omega arith) ∙ es ∙ ap size-of e ∙ ap (λ (k : ℕ). size-of (look-at p A B points k)) (sym q)
       go i l (no q) = getD-set-other sizes n i s 0 q ∙ h .sized i (omega arith)
 
-      long : 256 ≤ length work
+      long : 8 * most-points ≤ length work
       long = let c = h .same-length in omega arith
 
       image : (i : ℕ) → i < n + 1 → Dec (i ≡ n) → image-at after i ≡ look-at p A B points i .coefficients

@@ -21,6 +21,7 @@ use Rattle.poly.specs.Models.Image.{image-of}
 use Rattle.divisor.specs.declared.table.Row.{Row}
 use Rattle.divisor.specs.declared.table.Table.{Table}
 use Rattle.divisor.specs.Rule.{Kept}
+use Rattle.divisor.specs.Candidate.{most-points, most-point-numbers}
 use Rattle.divisor.specs.Models.Table.{COLUMNS, empty-table}
 use Rattle.divisor.specs.Models.TableMeaning.{added, rows-of, AllReady}
 use Rattle.divisor.specs.Models.Rows.{rows-at, rows-from}
@@ -42,13 +43,13 @@ look-at p A B points i = image-of p A B (point-at points i)
 pub record LookReady (p : ℕ) (A B points work : List ℕ) : Type 0 where
   pub lists : Passes (of-lists p A B)
   pub threes : length points ≡ 3 * (length points / 3)
-  pub few : length points ≤ 96
+  pub few : length points ≤ most-point-numbers
   pub below : (i : ℕ) → i < length points → getD points i 0 < p
   pub room : work-room ≤ length work
 
 -- the sizes and the images of the points before n
 pub record Looks (n p : ℕ) (A B points before after sizes : List ℕ) : Type 0 where
-  pub count : length sizes ≡ 32
+  pub count : length sizes ≡ most-points
   pub sized : (i : ℕ) → i < n → getD sizes i 0 ≡ size-of (look-at p A B points i)
   pub same-length : length after ≡ length before
   pub images : (i : ℕ) → i < n → image-at after i ≡ look-at p A B points i .coefficients
@@ -82,8 +83,8 @@ pub record EquationsReady (p : ℕ) (ks points sizes work : List ℕ) (m columns
   pub listed : Listed p
   pub small : (j : ℕ) → j < length ks → getD ks j 0 < keys
   pub threes : length points ≡ 3 * (length points / 3)
-  pub few : length points ≤ 96
-  pub count : length sizes ≡ 32
+  pub few : length points ≤ most-point-numbers
+  pub count : length sizes ≡ most-points
   pub room : work-room ≤ length work
   pub images : (i : ℕ) → i < length points / 3 → Eight p (image-at work i)
   pub some : 0 < alike m (take (length points / 3) sizes)
@@ -100,7 +101,7 @@ pub record Equations-before (i p : ℕ) (ks points sizes work : List ℕ) (m col
 
 -- room for eight numbers from a place on, in the part that the points' images take
 pub record StoreReady (at : ℕ) (work : List ℕ) : Type 0 where
-  pub within : at + 8 ≤ 256
+  pub within : at + 8 ≤ 8 * most-points
   pub room : work-room ≤ length work
 
 -- the first n of the numbers are stored from the place on, and nothing else has changed
