@@ -37,6 +37,7 @@ use Rattle.divisor.specs.Laws.Solutions.{no-solution, only-solution, sev
 use Rattle.divisor.specs.Laws.Sorting.{AllZero, AtLeast, Looked, sorted, kept-count}
 use Rattle.divisor.specs.Laws.Sorting as sorting
 use Rattle.divisor.specs.Laws.MonicTerms.{AllBelow, skeleton-of, divisor-numbers}
+use Rattle.divisor.specs.Laws.Output.{length-numbers}
 use Rattle.divisor.specs.Laws.DivisorList.{GoodList, good-list}
 
 points-length : (p : ℕ) (P : Prime p) (ns : List ℕ) → length (points-of p P ns) ≡ length ns / 3
@@ -111,15 +112,11 @@ module _ (c : Call) (pass : Passes (table c)) (listed : Listed (c .modulus)) (lo
       work = cleared (c .work);
     }
 
-    length-numbers : (G : Polynomial (Numbers c listed)) → length (numbers-of p P G) ≡ length G
-    length-numbers [] = refl
-    length-numbers (t ∷ ts) = ap suc (length-numbers ts)
-
     answer-verdict : (number : ℕ) (G : Polynomial (Numbers c listed)) → Verdict (Numbers c listed) (A c listed) (B c listed) (monomials c listed) (k ∷ ks) number G
         → Candidate c (result number (numbers-of p P G))
     answer-verdict number G v =
         subst (λ (n : ℕ). Candidate c (record { found = report number d bad-count (length (c .points) / 3 - bad-count - kept-points) kept-points n; output = written (numbers-of p P G) (c .output); work = cleared (c .work) }))
-        (sym (length-numbers G))
+        (sym (length-numbers p P G))
         (subst (λ (n : ℕ). Candidate c (record { found = report number d bad-count (length (c .points) / 3 - bad-count - kept-points) n (length G); output = written (numbers-of p P G) (c .output); work = cleared (c .work) }))
         count-kept
         (subst (λ (u : ℕ). Candidate c (record { found = report number d bad-count u (length (k ∷ ks)) (length G); output = written (numbers-of p P G) (c .output); work = cleared (c .work) }))

@@ -4,6 +4,7 @@ use mathlib.Core.List.{List, [], _∷_, _++_, map}
 use Prim.Native.Nat.{ℕ, zero, suc, _+_ as _+ₙ_, _<_}
 use native.Mathlib.Omega.{arith}
 use lib.ListN.{length, replicate, length-append}
+use lib.Seq.{append-snoc}
 use Rattle.algebra.specs.Ring.{CommRing, zero-add, zero-mul}
 use Rattle.algebra.specs.Solver.{_⊕_, _⊗_, _⊖_, ⊝, _≗_, k1, ring2, ring3, ring4}
 use Rattle.algebra.specs.Four.{Exponents}
@@ -126,10 +127,6 @@ module _ (K : Field) where
   solves-back v [] ys h = h
   solves-back v (x ∷ xs) ys h = solves-back v xs ys (h .1)
 
-  append-one : (front : List Car) (x : Car) (back : List Car) → (front ++ (x ∷ [])) ++ back ≡ front ++ (x ∷ back)
-  append-one [] x back = refl
-  append-one (y ∷ front) x back = ap (y ∷_) (append-one front x back)
-
   length-one : (front : List Car) (x : Car) → length (front ++ (x ∷ [])) ≡ suc (length front)
   length-one [] x = refl
   length-one (y ∷ front) x = ap suc (length-one front x)
@@ -151,7 +148,7 @@ module _ (K : Field) where
     rows-from-say all front (k ∷ ks) [] l e h = absurd (omega arith)
     rows-from-say all front (k ∷ ks) (x ∷ back) l e h = (
       λ i b. rows-at-say es cs all sized (length front) fits k 0 8 (solves-front (cs ++ all) (rows-at K es (suc (length all)) (length front) k 0 8) (rows-from K es (suc (length all)) (suc (length front)) ks) h) i i b (omega arith) ∙ ap (_* k .image i) there,
-      rows-from-say all (front ++ (x ∷ [])) ks back (omega arith) (e ∙ sym (append-one front x back))
+      rows-from-say all (front ++ (x ∷ [])) ks back (omega arith) (e ∙ sym (append-snoc front x back))
           (subst (λ (m : ℕ). SolvesAll K (cs ++ all) (rows-from K es (suc (length all)) m ks)) (sym (length-one front x)) (solves-back (cs ++ all) (rows-at K es (suc (length all)) (length front) k 0 8) (rows-from K es (suc (length all)) (suc (length front)) ks) h)),
     )
       where
@@ -169,7 +166,7 @@ module _ (K : Field) where
         solves-append (cs ++ all) (rows-at K es (suc (length all)) (length front) k 0 8) (rows-from K es (suc (length all)) (suc (length front)) ks)
         (say-rows-at es cs all sized (length front) fits k 0 8 (λ a b lb q. h .0 a (omega arith) ∙ ap (_* k .image a) (sym there)))
         (subst (λ (m : ℕ). SolvesAll K (cs ++ all) (rows-from K es (suc (length all)) m ks)) (length-one front x)
-        (say-rows-from all (front ++ (x ∷ [])) ks back (e ∙ sym (append-one front x back)) (h .1)))
+        (say-rows-from all (front ++ (x ∷ [])) ks back (e ∙ sym (append-snoc front x back)) (h .1)))
       where
         there : multiplier all (length front) ≡ x
         there = ap (λ (a : List Car). multiplier a (length front)) e ∙ multiplier-there front x back

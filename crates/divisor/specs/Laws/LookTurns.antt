@@ -49,7 +49,7 @@ pub equations-to-at : {j p : ℕ} {t : Table} {ks point point′ image image′ 
 equations-to-at {j} {p} {t} {ks} {column = column} {r} a b h =
     subst (λ (x : List ℕ × List ℕ). Equations-to j p t ks (x .0) (x .1) column r) (λ i. (a i, b i)) h
 
-pub rows-so-more : (K : Field) (es : List Exponents) (n : ℕ) (ks : List (Kept K)) (k : Kept K) → rows-so K es n (ks ++ (k ∷ [])) ≡ rows-so K es n ks ++ rows-at K es (suc n) (next-column n (length ks)) k 0 8
+rows-so-more : (K : Field) (es : List Exponents) (n : ℕ) (ks : List (Kept K)) (k : Kept K) → rows-so K es n (ks ++ (k ∷ [])) ≡ rows-so K es n ks ++ rows-at K es (suc n) (next-column n (length ks)) k 0 8
 rows-so-more K es n [] k = append-nil (rows-at K es (suc n) n k 0 8)
 rows-so-more K es n (x ∷ ks) k =
     ap (rows-at K es (suc n) n x 0 8 ++_) (rows-from-more K es (suc n) 0 ks k (length ks) (omega arith))
@@ -64,11 +64,11 @@ ready-append p [] ys h k = k
 ready-append p (x ∷ xs) ys h k = (h .0, ready-append p xs ys (h .1) k)
 
 module _ {p : ℕ} (P : Prime p) (m : ℕ) (points sizes work : List ℕ) (i : ℕ) where
-  pub kept-same : getD sizes i 0 ≡ m → kept-before P m points sizes work (i + 1) ≡ kept-before P m points sizes work i ++ (kept-numbers p P (point-at points i) (image-at work i) ∷ [])
+  kept-same : getD sizes i 0 ≡ m → kept-before P m points sizes work (i + 1) ≡ kept-before P m points sizes work i ++ (kept-numbers p P (point-at points i) (image-at work i) ∷ [])
   unfolding kept-before
   kept-same e = ap (kept-before P m points sizes work) (add-one i) ∙ rw (eq-eqb (getD sizes i 0) m e, kept-before)
 
-  pub kept-other : ¬ (getD sizes i 0 ≡ m) → kept-before P m points sizes work (i + 1) ≡ kept-before P m points sizes work i
+  kept-other : ¬ (getD sizes i 0 ≡ m) → kept-before P m points sizes work (i + 1) ≡ kept-before P m points sizes work i
   unfolding kept-before
   kept-other n = ap (kept-before P m points sizes work) (add-one i) ∙ rw (ne-eqb (getD sizes i 0) m n, kept-before) (append-nil (kept-before P m points sizes work i))
 

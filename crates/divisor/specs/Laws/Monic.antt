@@ -34,7 +34,7 @@ module _ (K : Field) where
 
   infixl 60 _+_
   infixl 70 _*_
-  pub constant-one : constant K 𝟙 ≡ S4 R .𝟙
+  constant-one : constant K 𝟙 ≡ S4 R .𝟙
   unfolding monomial
   constant-one =
       ap (λ (u : SeriesR (SeriesR (SeriesR R)) .Car). mono (SeriesR (SeriesR (SeriesR R))) zero u)
@@ -99,13 +99,13 @@ module _ (K : Field) where
   made-monic-nonzero (t ∷ ts) at n h q e =
       domain K .nzd _ _ tt tt q (inv-nonzero (t .coefficient) (h .0)) (sym (value-divided (t .coefficient) (t ∷ ts) at n) ∙ e)
 
-  pub polynomial-divided : (c : Car) (f : Polynomial K) → polynomial R (divided-by K c f) ≡ S4 R .mul (polynomial R f) (constant K (K .inv c))
+  polynomial-divided : (c : Car) (f : Polynomial K) → polynomial R (divided-by K c f) ≡ S4 R .mul (polynomial R f) (constant K (K .inv c))
   unfolding polynomial divided-by
   polynomial-divided c [] = sym (zero-mul (S4 R) _)
   polynomial-divided c (t ∷ ts) =
       ap₂ (S4 R .add) (sym (monomial-times (t .exponents) (t .coefficient) (K .inv c))) (polynomial-divided c ts) ∙ sym (S4 R .distrib _ _ _)
 
-  pub polynomial-without-zeros : (f : Polynomial K) → polynomial R (without-zeros K f) ≡ polynomial R f
+  polynomial-without-zeros : (f : Polynomial K) → polynomial R (without-zeros K f) ≡ polynomial R f
   unfolding polynomial without-zeros
   polynomial-without-zeros [] = refl
   polynomial-without-zeros (t ∷ ts) = go (K .decide (t .coefficient)) (polynomial-without-zeros ts)
@@ -116,7 +116,7 @@ module _ (K : Field) where
       go (no q) h = ap (S4 R .add (monomial R (t .exponents) (t .coefficient))) h
 
   -- a polynomial over a number that is not 0 divides what it divides
-  pub divided-divides : (c : Car) → ¬ (c ≡ 𝟘) → (f : Polynomial K) (g : S4 R .Car) → Divides K (polynomial R f) g → Divides K (polynomial R (divided-by K c f)) g
+  divided-divides : (c : Car) → ¬ (c ≡ 𝟘) → (f : Polynomial K) (g : S4 R .Car) → Divides K (polynomial R f) g → Divides K (polynomial R (divided-by K c f)) g
   divided-divides c n f g d = record {
     quo = S4 R .mul (constant K c) (d .quo);
     fin = D4 R (domain K) .P-mul _ _ (monomial-fin R (domain K) _ c tt) (d .fin);

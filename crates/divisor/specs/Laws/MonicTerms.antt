@@ -32,7 +32,7 @@ pub leading-zero : (c : ℕ) (cs : List ℕ) → c ≡ 0 → leading (c ∷ cs) 
 unfolding leading
 leading-zero c cs e = rw (eq-eqb c 0 e, leading)
 
-pub leading-here : (c : ℕ) (cs : List ℕ) → ¬ (c ≡ 0) → leading (c ∷ cs) ≡ c
+leading-here : (c : ℕ) (cs : List ℕ) → ¬ (c ≡ 0) → leading (c ∷ cs) ≡ c
 unfolding leading
 leading-here c cs n = rw (ne-eqb c 0 n, leading)
 

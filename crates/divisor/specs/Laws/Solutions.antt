@@ -89,13 +89,10 @@ module _ (K : Field) where
 
   module _ (es : List Exponents) (k : Kept K) (ks : List (Kept K)) where
     -- as many unknowns as there are monomials and kept points after the first
-    abbrev pub count : ℕ
-    count = length es +ₙ length ks
+    abbrev SolvesRows : List Car → Type 0
+    SolvesRows = linear.Solution K (length es +ₙ length ks) (all-rows K es k ks)
 
-    abbrev pub Solves-rows : List Car → Type 0
-    Solves-rows = linear.Solution K (length es +ₙ length ks) (all-rows K es k ks)
-
-    pub solution-of-rows : (v : List Car) → Solves-rows v → Solution K es (k ∷ ks) (unknowns-of K es v)
+    solution-of-rows : (v : List Car) → SolvesRows v → Solution K es (k ∷ ks) (unknowns-of K es v)
     solution-of-rows v h =
         let s = split es (length ks) v (h .unknowns) in
         record {
@@ -106,7 +103,7 @@ module _ (K : Field) where
               (rows-say K es (s .cs) (s .sized) (s .ms) k ks (s .left) (subst (λ (w : List Car). SolvesAll K w (all-rows K es k ks)) (s .parts) (h .solves))));
         }
 
-    pub rows-of-solution : (s : Unknowns K) → Solution K es (k ∷ ks) s → Solves-rows (vector-of K s)
+    rows-of-solution : (s : Unknowns K) → Solution K es (k ∷ ks) s → SolvesRows (vector-of K s)
     rows-of-solution s h = record {
       unknowns = length-append (coefficients (s .skeleton)) (rest K (s .multipliers)) ∙ ap₂ _+ₙ_ sized left;
       solves = say-rows K es (coefficients (s .skeleton)) sized (rest K (s .multipliers)) k ks left
@@ -123,7 +120,7 @@ module _ (K : Field) where
         sized : length (coefficients (s .skeleton)) ≡ length es
         sized = length-own (s .skeleton) ∙ ap length (h .proposed)
 
-    pub unknowns-of-vector : (s : Unknowns K) → Solution K es (k ∷ ks) s → unknowns-of K es (vector-of K s) ≡ s
+    unknowns-of-vector : (s : Unknowns K) → Solution K es (k ∷ ks) s → unknowns-of K es (vector-of K s) ≡ s
     unknowns-of-vector s h = λ i. record { skeleton = same i; multipliers = (ap (𝟙 ∷_) later ∙ sym (first-rest (s .multipliers) (h .one-first))) i }
       where
         same : with-coefficients K es (vector-of K s) ≡ s .skeleton
@@ -132,7 +129,7 @@ module _ (K : Field) where
         later : behind K es (vector-of K s) ≡ rest K (s .multipliers)
         later = subst (λ (ms : List Exponents). behind K ms (vector-of K s) ≡ rest K (s .multipliers)) (h .proposed) (behind-own (s .skeleton) (rest K (s .multipliers)))
 
-    pub vector-of-unknowns : (v : List Car) → Solves-rows v → vector-of K (unknowns-of K es v) ≡ v
+    vector-of-unknowns : (v : List Car) → SolvesRows v → vector-of K (unknowns-of K es v) ≡ v
     vector-of-unknowns v h =
         let s = split es (length ks) v (h .unknowns) in
         ap₂ (λ (f : Polynomial K) (ms : List Car). coefficients f ++ ms) (s .same-skeleton) (s .same-behind)

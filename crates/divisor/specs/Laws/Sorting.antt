@@ -25,7 +25,7 @@ pub data Lesser (a b : ℕ) : ℕ → Type 0 where
   first : (b ≡ 0) ⊎ ((¬ (a ≡ 0)) × (a ≤ b)) → Lesser a b a
   second : ¬ (b ≡ 0) → (a ≡ 0) ⊎ (b < a) → Lesser a b b
 
-pub lesser-is : (a b : ℕ) → Lesser a b (lesser a b)
+lesser-is : (a b : ℕ) → Lesser a b (lesser a b)
 unfolding lesser
 lesser-is a b = go (ℕ-discrete b 0) (ℕ-discrete a 0) (decLt b a)
   where

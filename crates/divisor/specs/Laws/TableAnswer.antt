@@ -51,11 +51,11 @@ module _ (p : ℕ) where
   added-append t (e ∷ es) fs = added-append (with-row p t e) es fs
 
 -- the kind by the columns
-abbrev pub some-kind : Bool → Kind
+abbrev some-kind : Bool → Kind
 some-kind true = Several
 some-kind false = One
 
-abbrev pub kind-as : Bool → Bool → Kind
+abbrev kind-as : Bool → Bool → Kind
 kind-as true b = None
 kind-as false b = some-kind b
 
@@ -101,7 +101,7 @@ full-columns p t (suc n) i f k h m z =
     go (no e) (no y) later = later (sym (ap has-free (column-pivot p t i n y)) ∙ f) (omega arith)
 
 -- the code's kind is that of the field's table
-pub kind-by-columns : (p : ℕ) (t : Table) (n : ℕ) → suc n ≡ t .columns → kind t ≡ kind-as (has-failed (table-of p n t)) (has-free (table-of p n t))
+kind-by-columns : (p : ℕ) (t : Table) (n : ℕ) → suc n ≡ t .columns → kind t ≡ kind-as (has-failed (table-of p n t)) (has-free (table-of p n t))
 unfolding kind
 kind-by-columns p t n size =
     let last : t .columns - 1 ≡ n = omega arith in

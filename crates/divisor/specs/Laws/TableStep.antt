@@ -28,7 +28,7 @@ module _ (p : ℕ) (t : Table) (i : ℕ) where
   unfolding columns-of
   last-solvable z = ap last-column (eq-eqb (diagonal t i) 0 z)
 
-  pub last-failed : ¬ (diagonal t i ≡ 0) → columns-of p t i zero ≡ failed
+  last-failed : ¬ (diagonal t i ≡ 0) → columns-of p t i zero ≡ failed
   unfolding columns-of
   last-failed z = ap last-column (ne-eqb (diagonal t i) 0 z)
 
@@ -48,7 +48,7 @@ module _ (p : ℕ) (t : Table) (i : ℕ) where
     column-pivot z = ap (λ b. column b entries-behind behind) (ne-eqb (diagonal t i) 0 z)
 
 -- the columns from i on are known by the rows from i on
-pub columns-same : (p : ℕ) (t u : Table) (i n : ℕ) → ((k : ℕ) → i ≤ k → row-at t k ≡ row-at u k) → columns-of p t i n ≡ columns-of p u i n
+columns-same : (p : ℕ) (t u : Table) (i n : ℕ) → ((k : ℕ) → i ≤ k → row-at t k ≡ row-at u k) → columns-of p t i n ≡ columns-of p u i n
 unfolding columns-of
 columns-same p t u i zero h = ap (λ r. last-column (eqb (cell r i) 0)) (h i (omega arith))
 columns-same p t u i (suc n) h =
