@@ -1,4 +1,6 @@
 -- Laws of the definitions of this layer, each file one subject.
+pub mod Decided
+pub mod MonicValue
 pub mod Monic
 pub mod Degree
 pub mod Determined
@@ -29,6 +31,8 @@ pub mod TableTurns
 pub mod TableRows
 pub mod TableKept
 pub mod TableEntries
+pub mod TableColumns
+pub mod TableAdded
 pub mod TableStep
 pub mod TableSolution
 pub mod TableAnswer

@@ -31,7 +31,8 @@ use Rattle.divisor.specs.Candidate.{most-keys, most-points, Call, table,
 use Rattle.divisor.specs.Models.Table.{COLUMNS, TableReady, empty-table, solved}
 use Rattle.divisor.specs.Models.TableMeaning.{added, rows-of, Says}
 use Rattle.divisor.specs.Laws.TableKept.{empty-ready}
-use Rattle.divisor.specs.Laws.TableAnswer.{added-ready, table-answers, solved-below, solved-length}
+use Rattle.divisor.specs.Laws.TableAdded.{added-ready}
+use Rattle.divisor.specs.Laws.TableAnswer.{table-answers, solved-below, solved-length}
 use Rattle.divisor.specs.Models.Checks.{of-skeleton}
 use Rattle.divisor.specs.Models.Rows.{all-rows}
 use Rattle.divisor.specs.Models.Sorting.{Within, sizes-of, least, alike, kept-of}

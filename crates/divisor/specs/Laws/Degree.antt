@@ -20,7 +20,7 @@ use Rattle.poly.specs.Laws.Value.{polynomial-finite, valued, value-of-polynomia
 use Rattle.divisor.specs.declared.CandidateRecord.{CandidateRecord}
 use Rattle.divisor.specs.Rule.{DividesBoth, Kept, Sorted, bad, unlucky, keep, First, Equations, Unknowns, Solution, without-zeros, divisor, Verdict, none, several, rejected, accepted, Answer, all-bad, some-good}
 use Rattle.divisor.specs.Demands.{DegreeX, IsPolynomial, GreatestInX}
-use Rattle.divisor.specs.Laws.Monic.{value-without-zeros, without-zeros-nonzero, made-monic-nonzero}
+use Rattle.divisor.specs.Laws.MonicValue.{value-without-zeros, without-zeros-nonzero, made-monic-nonzero}
 
 module _ (K : Field) where
   open Field K using (ring as R)

@@ -12,13 +12,12 @@ use Rattle.algebra.specs.Field.{Field}
 use Rattle.field.specs.Prime.{Prime}
 use Rattle.field.specs.Modulo.{Modulo}
 use Rattle.poly.specs.Keys.{exponents}
-use Rattle.divisor.specs.declared.table.Row.{Row}
 use Rattle.divisor.specs.declared.table.Table.{Table}
 use Rattle.divisor.specs.Rule.{Kept}
 use Rattle.divisor.specs.Candidate.{most-points, most-point-numbers}
 use Rattle.divisor.specs.Models.Table.{TableReady, empty-table}
-use Rattle.divisor.specs.Models.TableMeaning.{added, row-of, rows-of, AllReady}
-use Rattle.divisor.specs.Laws.TableAnswer.{added-append, added-ready, added-columns}
+use Rattle.divisor.specs.Models.TableMeaning.{added}
+use Rattle.divisor.specs.Laws.TableAdded.{added-append, added-ready, added-columns, ready-append, rows-append}
 use Rattle.divisor.specs.Models.Rows.{rows-at, rows-from}
 use Rattle.divisor.specs.Models.Sorting.{alike}
 use Rattle.divisor.specs.Models.Equation.{kept-numbers, Equations-to}
@@ -54,14 +53,6 @@ rows-so-more K es n [] k = append-nil (rows-at K es (suc n) n k 0 8)
 rows-so-more K es n (x ∷ ks) k =
     ap (rows-at K es (suc n) n x 0 8 ++_) (rows-from-more K es (suc n) 0 ks k (length ks) (omega arith))
     ∙ sym (append-assoc (rows-at K es (suc n) n x 0 8) (rows-from K es (suc n) 0 ks) (rows-at K es (suc n) (length ks) k 0 8))
-
-rows-append : (p c : ℕ) (xs ys : List Row) → rows-of p c (xs ++ ys) ≡ rows-of p c xs ++ rows-of p c ys
-rows-append p c [] ys = refl
-rows-append p c (x ∷ xs) ys = ap (row-of p c x ∷_) (rows-append p c xs ys)
-
-ready-append : (p : ℕ) (xs ys : List Row) → AllReady p xs → AllReady p ys → AllReady p (xs ++ ys)
-ready-append p [] ys h k = k
-ready-append p (x ∷ xs) ys h k = (h .0, ready-append p xs ys (h .1) k)
 
 module _ {p : ℕ} (P : Prime p) (m : ℕ) (points sizes work : List ℕ) (i : ℕ) where
   kept-same : getD sizes i 0 ≡ m → kept-before P m points sizes work (i + 1) ≡ kept-before P m points sizes work i ++ (kept-numbers p P (point-at points i) (image-at work i) ∷ [])
