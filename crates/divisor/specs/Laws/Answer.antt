@@ -34,9 +34,9 @@ use Rattle.divisor.specs.Laws.TableKept.{empty-ready}
 use Rattle.divisor.specs.Laws.TableAdded.{added-ready}
 use Rattle.divisor.specs.Laws.TableAnswer.{table-answers, solved-below, solved-length}
 use Rattle.divisor.specs.Models.Checks.{of-skeleton}
-use Rattle.divisor.specs.Models.Rows.{all-rows}
+use Rattle.divisor.specs.Models.Rows.{kept-rows, all-rows}
 use Rattle.divisor.specs.Models.Sorting.{Within, sizes-of, least, alike, kept-of}
-use Rattle.divisor.specs.Models.Looks.{LookReady, Looks, kept-before, rows-so, EquationsReady, Equations-before}
+use Rattle.divisor.specs.Models.Looks.{LookReady, Looks, kept-before, EquationsReady, Equations-before}
 use Rattle.divisor.specs.Models.Verdict.{NoGoodPoint, VerdictReady, Settles, Settled, MakesDivisor, none, several, rejected, accepted}
 use Rattle.divisor.specs.Laws.Checks.{RightPoints, points-are-right, skeleton-count, keys-small}
 use Rattle.divisor.specs.Laws.Sorting.{Looked, Least, AtLeast, least-is, kept-count}
@@ -203,8 +203,8 @@ module _ (c : Call) (pass : Passes (table c)) where
             let a : length (c .skeleton) + kept - 1 ≡ length (c .skeleton) + length ks = omega arith in
             let b : kept - 1 ≡ length ks = omega arith in
             ap (λ (x : ℕ). rows-of p x (made .rows)) (sym a) ∙ made .means P
-            ∙ ap (λ (x : ℕ). rows-so (Numbers c listed) (monomials c listed) x (kept-before P m (c .points) sizes after n)) b
-            ∙ ap (rows-so (Numbers c listed) (monomials c listed) (length ks)) (kept-are ∙ kept-is)
+            ∙ ap (λ (x : ℕ). kept-rows (Numbers c listed) (monomials c listed) x (kept-before P m (c .points) sizes after n)) b
+            ∙ ap (kept-rows (Numbers c listed) (monomials c listed) (length ks)) (kept-are ∙ kept-is)
 
         -- what the kind and the values say of the equations of the rule
         says : Says p P (length (c .skeleton) + length ks) (all-rows (Numbers c listed) (monomials c listed) k ks) (solved p t .kind) (solved p t .values)

@@ -27,12 +27,11 @@ use Rattle.poly.specs.Laws.Lists.{none-wrong, FallFrom, keys-fall}
 use Rattle.divisor.specs.Rule.{report, Kept, Sorted, Unknowns, Solution, OnlySolution, without-zeros, made-monic, divisor, Verdict, none, several, rejected, accepted, all-bad, some-good}
 use Rattle.divisor.specs.Candidate.{Call, table, points-of, prime, Numbers, A, B, monomials, lent-points, Result, Candidate, answered}
 use Rattle.divisor.specs.Models.TableMeaning.{entries}
-use Rattle.divisor.specs.Models.Rows.{all-rows}
+use Rattle.divisor.specs.Models.Rows.{all-rows, with-coefficients, unknowns-of}
 use Rattle.divisor.specs.Models.Sorting.{sizes-of, alike, kept-of}
 use Rattle.divisor.specs.Models.Monic.{monic-terms}
 use Rattle.divisor.specs.Laws.Determined.{counts-add-up}
 use Rattle.divisor.specs.Laws.Degree.{first-image}
-use Rattle.divisor.specs.Laws.Equations.{with-coefficients, unknowns-of}
 use Rattle.divisor.specs.Laws.Solutions.{no-solution, only-solution, several-solutions}
 use Rattle.divisor.specs.Laws.Sorting.{AllZero, AtLeast, Looked, sorted, kept-count}
 use Rattle.divisor.specs.Laws.Sorting as sorting

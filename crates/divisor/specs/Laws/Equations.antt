@@ -1,4 +1,4 @@
--- The rows say what the equations of the rule say: the solutions of the rows are the unknowns of the rule, and none, one and several agree. Assumes nothing.
+-- The rows say what the equations of the rule say: numbers solve them exactly if the unknowns that they stand for meet the equations. Assumes nothing.
 use mathlib.Core.Path.{_≡_, refl, sym, _∙_, ap, ap₂, subst}
 use mathlib.Core.List.{List, [], _∷_, _++_, map}
 use Prim.Native.Nat.{ℕ, zero, suc, _+_ as _+ₙ_, _<_}
@@ -11,12 +11,11 @@ use Rattle.algebra.specs.Four.{Exponents}
 use Rattle.algebra.specs.Mono.{mono, mono-times}
 use Rattle.algebra.specs.Divides.{pow}
 use Rattle.algebra.specs.Field.{Field}
-use Rattle.algebra.specs.Monomial.{Term}
 use Rattle.algebra.specs.Linear.{eval, SolvesAll}
 use Rattle.poly.specs.Terms.{Polynomial}
 use Rattle.poly.specs.Value.{Point, number-at, value}
-use Rattle.divisor.specs.Rule.{Kept, Unknowns, Equations}
-use Rattle.divisor.specs.Models.Rows.{monomial-at, only-at, row, rows-at, rows-from, all-rows}
+use Rattle.divisor.specs.Rule.{Kept, Equations}
+use Rattle.divisor.specs.Models.Rows.{monomial-at, only-at, row, rows-at, rows-from, kept-rows, all-rows, with-coefficients}
 
 module _ (K : Field) where
   open Field K using (ring as R)
@@ -24,28 +23,6 @@ module _ (K : Field) where
 
   infixl 60 _+_
   infixl 70 _*_
-  -- the skeleton polynomial with these coefficients
-  abbrev pub with-coefficients : List Exponents → List Car → Polynomial K
-  with-coefficients [] cs = []
-  with-coefficients (e ∷ es) [] = record { exponents = e; coefficient = 𝟘 } ∷ with-coefficients es []
-  with-coefficients (e ∷ es) (c ∷ cs) = record { exponents = e; coefficient = c } ∷ with-coefficients es cs
-
-  -- the numbers behind the coefficients
-  abbrev pub behind : List Exponents → List Car → List Car
-  behind [] v = v
-  behind (e ∷ es) [] = []
-  behind (e ∷ es) (c ∷ v) = behind es v
-
-  abbrev pub unknowns-of : List Exponents → List Car → Unknowns K
-  unknowns-of es v = record { skeleton = with-coefficients es v; multipliers = 𝟙 ∷ behind es v }
-
-  abbrev pub rest : List Car → List Car
-  rest [] = []
-  rest (m ∷ ms) = ms
-
-  abbrev pub vector-of : Unknowns K → List Car
-  vector-of s = map (λ (t : Term R). t .coefficient) (s .skeleton) ++ rest (s .multipliers)
-
   -- a row at numbers: the part of the monomials is the value of the skeleton polynomial, and the rest follows
   term-at : (at : Point R) (i : ℕ) (e : Exponents) (c : Car) → monomial-at K at i e * c ≡ mono R (e .x) (number-at R at (record { exponents = e; coefficient = c })) i
   term-at at i e c =
@@ -53,7 +30,7 @@ module _ (K : Field) where
       ∙ ap (λ (u : Car). mono R (e .x) u i) (ring4 R (λ c y z w. k1 ⊗ y ⊗ z ⊗ w ⊗ c ≗ c ⊗ y ⊗ z ⊗ w) tt c (pow R (at .y) (e .y)) (pow R (at .z) (e .z)) (pow R (at .w) (e .w)))
 
   eval-monomials : (at : Point R) (i : ℕ) (es : List Exponents) (cs r v : List Car) → length cs ≡ length es
-      → eval K (map (monomial-at K at i) es ++ r) (cs ++ v) ≡ value R (with-coefficients es cs) at i + eval K r v
+      → eval K (map (monomial-at K at i) es ++ r) (cs ++ v) ≡ value R (with-coefficients K es cs) at i + eval K r v
   unfolding value
   eval-monomials at i [] [] r v l = sym (zero-add R _)
   eval-monomials at i [] (c ∷ cs) r v l = absurd (omega arith)
@@ -87,12 +64,12 @@ module _ (K : Field) where
 
   module _ (es : List Exponents) (cs ms : List Car) (sized : length cs ≡ length es) where
     row-value : (m : ℕ) → m < suc (length ms) → (k : Kept K) (i : ℕ)
-        → eval K (row K es (suc (length ms)) m k i) (cs ++ ms) ≡ value R (with-coefficients es cs) (k .point) i + neg (k .image i) * multiplier ms m
+        → eval K (row K es (suc (length ms)) m k i) (cs ++ ms) ≡ value R (with-coefficients K es cs) (k .point) i + neg (k .image i) * multiplier ms m
     row-value m l k i = eval-monomials (k .point) i es cs (only-at K (suc (length ms)) m (neg (k .image i))) ms sized
-        ∙ ap (value R (with-coefficients es cs) (k .point) i +_) (eval-only-at ms m (neg (k .image i)) l)
+        ∙ ap (value R (with-coefficients K es cs) (k .point) i +_) (eval-only-at ms m (neg (k .image i)) l)
 
     abbrev f : Polynomial K
-    f = with-coefficients es cs
+    f = with-coefficients K es cs
 
     abbrev v : List Car
     v = cs ++ ms
@@ -128,8 +105,7 @@ module _ (K : Field) where
   solves-back v (x ∷ xs) ys h = solves-back v xs ys (h .1)
 
   length-one : (front : List Car) (x : Car) → length (front ++ (x ∷ [])) ≡ suc (length front)
-  length-one [] x = refl
-  length-one (y ∷ front) x = ap suc (length-one front x)
+  length-one front x = let e = length-append front (x ∷ []) in omega arith
 
   multiplier-last : (ms : List Car) → multiplier ms (length ms) ≡ 𝟙
   multiplier-last [] = refl
@@ -140,53 +116,69 @@ module _ (K : Field) where
   multiplier-there (y ∷ front) x back = multiplier-there front x back
 
   module _ (es : List Exponents) (cs : List Car) (sized : length cs ≡ length es) where
+    -- the point whose multiplier x stands behind those in front
+    module _ (all front : List Car) (x : Car) (back : List Car) (e : all ≡ front ++ (x ∷ back)) (k : Kept K) (ks : List (Kept K)) where
+      abbrev here : List (List Car)
+      here = rows-at K es (suc (length all)) (length front) k 0 8
+
+      abbrev later : List (List Car)
+      later = rows-from K es (suc (length all)) (suc (length front)) ks
+
+      there : multiplier all (length front) ≡ x
+      there = ap (λ (a : List Car). multiplier a (length front)) e ∙ multiplier-there front x back
+
+      fits : length front < suc (length all)
+      fits = let q : length all ≡ length (front ++ (x ∷ back)) = ap length e in let r = length-append front (x ∷ back) in omega arith
+
+      here-says : SolvesAll K (cs ++ all) (here ++ later) → (i : ℕ) → i < 8 → value R (with-coefficients K es cs) (k .point) i ≡ x * k .image i
+      here-says h i b = rows-at-say es cs all sized (length front) fits k 0 8 (solves-front (cs ++ all) here later h) i i b (omega arith) ∙ ap (_* k .image i) there
+
+      say-here : ((i : ℕ) → i < 8 → value R (with-coefficients K es cs) (k .point) i ≡ x * k .image i) → SolvesAll K (cs ++ all) here
+      say-here h = say-rows-at es cs all sized (length front) fits k 0 8 (λ a b lb q. h a (omega arith) ∙ ap (_* k .image a) (sym there))
+
     -- the points after the first, where the multipliers of those before stand in front
     rows-from-say : (all front : List Car) (ks : List (Kept K)) (back : List Car) → length back ≡ length ks → all ≡ front ++ back
-        → SolvesAll K (cs ++ all) (rows-from K es (suc (length all)) (length front) ks) → Equations K (with-coefficients es cs) ks back
+        → SolvesAll K (cs ++ all) (rows-from K es (suc (length all)) (length front) ks) → Equations K (with-coefficients K es cs) ks back
     rows-from-say all front [] [] l e h = tt
     rows-from-say all front [] (x ∷ back) l e h = absurd (omega arith)
     rows-from-say all front (k ∷ ks) [] l e h = absurd (omega arith)
     rows-from-say all front (k ∷ ks) (x ∷ back) l e h = (
-      λ i b. rows-at-say es cs all sized (length front) fits k 0 8 (solves-front (cs ++ all) (rows-at K es (suc (length all)) (length front) k 0 8) (rows-from K es (suc (length all)) (suc (length front)) ks) h) i i b (omega arith) ∙ ap (_* k .image i) there,
+      here-says all front x back e k ks h,
       rows-from-say all (front ++ (x ∷ [])) ks back (omega arith) (e ∙ sym (append-snoc front x back))
-          (subst (λ (m : ℕ). SolvesAll K (cs ++ all) (rows-from K es (suc (length all)) m ks)) (sym (length-one front x)) (solves-back (cs ++ all) (rows-at K es (suc (length all)) (length front) k 0 8) (rows-from K es (suc (length all)) (suc (length front)) ks) h)),
+          (subst (λ (m : ℕ). SolvesAll K (cs ++ all) (rows-from K es (suc (length all)) m ks)) (sym (length-one front x))
+          (solves-back (cs ++ all) (here all front x back e k ks) (later all front x back e k ks) h)),
     )
-      where
-        there : multiplier all (length front) ≡ x
-        there = ap (λ (a : List Car). multiplier a (length front)) e ∙ multiplier-there front x back
-
-        fits : length front < suc (length all)
-        fits = let q : length all ≡ length (front ++ (x ∷ back)) = ap length e in let r = length-append front (x ∷ back) in omega arith
 
     say-rows-from : (all front : List Car) (ks : List (Kept K)) (back : List Car) → all ≡ front ++ back
-        → Equations K (with-coefficients es cs) ks back → SolvesAll K (cs ++ all) (rows-from K es (suc (length all)) (length front) ks)
+        → Equations K (with-coefficients K es cs) ks back → SolvesAll K (cs ++ all) (rows-from K es (suc (length all)) (length front) ks)
     say-rows-from all front [] back e h = tt
     say-rows-from all front (k ∷ ks) [] e h = absurd h
     say-rows-from all front (k ∷ ks) (x ∷ back) e h =
-        solves-append (cs ++ all) (rows-at K es (suc (length all)) (length front) k 0 8) (rows-from K es (suc (length all)) (suc (length front)) ks)
-        (say-rows-at es cs all sized (length front) fits k 0 8 (λ a b lb q. h .0 a (omega arith) ∙ ap (_* k .image a) (sym there)))
+        solves-append (cs ++ all) (here all front x back e k ks) (later all front x back e k ks) (say-here all front x back e k ks (h .0))
         (subst (λ (m : ℕ). SolvesAll K (cs ++ all) (rows-from K es (suc (length all)) m ks)) (length-one front x)
         (say-rows-from all (front ++ (x ∷ [])) ks back (e ∙ sym (append-snoc front x back)) (h .1)))
-      where
-        there : multiplier all (length front) ≡ x
-        there = ap (λ (a : List Car). multiplier a (length front)) e ∙ multiplier-there front x back
 
-        fits : length front < suc (length all)
-        fits = let q : length all ≡ length (front ++ (x ∷ back)) = ap length e in let r = length-append front (x ∷ back) in omega arith
+    -- the rows of the first point, and of those after it
+    abbrev first-rows : List Car → Kept K → List (List Car)
+    first-rows ms k = rows-at K es (suc (length ms)) (length ms) k 0 8
+
+    abbrev later-rows : List Car → List (Kept K) → List (List Car)
+    later-rows ms ks = rows-from K es (suc (length ms)) 0 ks
 
     -- all equations
     pub rows-say : (ms : List Car) (k : Kept K) (ks : List (Kept K)) → length ms ≡ length ks
-        → SolvesAll K (cs ++ ms) (all-rows K es k ks) → Equations K (with-coefficients es cs) (k ∷ ks) (𝟙 ∷ ms)
+        → SolvesAll K (cs ++ ms) (all-rows K es k ks) → Equations K (with-coefficients K es cs) (k ∷ ks) (𝟙 ∷ ms)
     rows-say ms k ks l h =
-        let g = subst (λ (n : ℕ). SolvesAll K (cs ++ ms) (rows-at K es (suc n) n k 0 8 ++ rows-from K es (suc n) 0 ks)) (sym l) h in (
-          λ i b. rows-at-say es cs ms sized (length ms) (omega arith) k 0 8 (solves-front (cs ++ ms) (rows-at K es (suc (length ms)) (length ms) k 0 8) (rows-from K es (suc (length ms)) 0 ks) g) i i b (omega arith) ∙ ap (_* k .image i) (multiplier-last ms),
-          rows-from-say ms [] ks ms l refl (solves-back (cs ++ ms) (rows-at K es (suc (length ms)) (length ms) k 0 8) (rows-from K es (suc (length ms)) 0 ks) g),
+        let g = subst (λ (n : ℕ). SolvesAll K (cs ++ ms) (kept-rows K es n (k ∷ ks))) (sym l) h in (
+          λ i b. rows-at-say es cs ms sized (length ms) (omega arith) k 0 8 (solves-front (cs ++ ms) (first-rows ms k) (later-rows ms ks) g) i i b (omega arith)
+              ∙ ap (_* k .image i) (multiplier-last ms),
+          rows-from-say ms [] ks ms l refl (solves-back (cs ++ ms) (first-rows ms k) (later-rows ms ks) g),
         )
 
     pub say-rows : (ms : List Car) (k : Kept K) (ks : List (Kept K)) → length ms ≡ length ks
-        → Equations K (with-coefficients es cs) (k ∷ ks) (𝟙 ∷ ms) → SolvesAll K (cs ++ ms) (all-rows K es k ks)
+        → Equations K (with-coefficients K es cs) (k ∷ ks) (𝟙 ∷ ms) → SolvesAll K (cs ++ ms) (all-rows K es k ks)
     say-rows ms k ks l h =
-        subst (λ (n : ℕ). SolvesAll K (cs ++ ms) (rows-at K es (suc n) n k 0 8 ++ rows-from K es (suc n) 0 ks)) l
-        (solves-append (cs ++ ms) (rows-at K es (suc (length ms)) (length ms) k 0 8) (rows-from K es (suc (length ms)) 0 ks)
+        subst (λ (n : ℕ). SolvesAll K (cs ++ ms) (kept-rows K es n (k ∷ ks))) l
+        (solves-append (cs ++ ms) (first-rows ms k) (later-rows ms ks)
         (say-rows-at es cs ms sized (length ms) (omega arith) k 0 8 (λ a b lb q. h .0 a (omega arith) ∙ ap (_* k .image a) (sym (multiplier-last ms))))
         (say-rows-from ms [] ks ms refl (h .1)))

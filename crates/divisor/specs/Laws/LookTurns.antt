@@ -18,10 +18,10 @@ use Rattle.divisor.specs.Candidate.{most-points, most-point-numbers}
 use Rattle.divisor.specs.Models.Table.{TableReady, empty-table}
 use Rattle.divisor.specs.Models.TableMeaning.{added}
 use Rattle.divisor.specs.Laws.TableAdded.{added-append, added-ready, added-columns, ready-append, rows-append}
-use Rattle.divisor.specs.Models.Rows.{rows-at, rows-from}
+use Rattle.divisor.specs.Models.Rows.{rows-at, rows-from, kept-rows}
 use Rattle.divisor.specs.Models.Sorting.{alike}
 use Rattle.divisor.specs.Models.Equation.{kept-numbers, Equations-to}
-use Rattle.divisor.specs.Models.Looks.{next-column, point-at, image-at, kept-before, rows-so, Equations-before}
+use Rattle.divisor.specs.Models.Looks.{next-column, point-at, image-at, kept-before, Equations-before}
 
 module _ (K : Field) (es : List Exponents) (n : ℕ) where
   rows-from-more : (m : ℕ) (ks : List (Kept K)) (k : Kept K) (a : ℕ) → a ≡ m + length ks → rows-from K es n m (ks ++ (k ∷ [])) ≡ rows-from K es n m ks ++ rows-at K es n a k 0 8
@@ -48,9 +48,9 @@ pub equations-to-at : {j p : ℕ} {t : Table} {ks point point′ image image′ 
 equations-to-at {j} {p} {t} {ks} {column = column} {r} a b h =
     subst (λ (x : List ℕ × List ℕ). Equations-to j p t ks (x .0) (x .1) column r) (λ i. (a i, b i)) h
 
-rows-so-more : (K : Field) (es : List Exponents) (n : ℕ) (ks : List (Kept K)) (k : Kept K) → rows-so K es n (ks ++ (k ∷ [])) ≡ rows-so K es n ks ++ rows-at K es (suc n) (next-column n (length ks)) k 0 8
-rows-so-more K es n [] k = append-nil (rows-at K es (suc n) n k 0 8)
-rows-so-more K es n (x ∷ ks) k =
+kept-rows-more : (K : Field) (es : List Exponents) (n : ℕ) (ks : List (Kept K)) (k : Kept K) → kept-rows K es n (ks ++ (k ∷ [])) ≡ kept-rows K es n ks ++ rows-at K es (suc n) (next-column n (length ks)) k 0 8
+kept-rows-more K es n [] k = append-nil (rows-at K es (suc n) n k 0 8)
+kept-rows-more K es n (x ∷ ks) k =
     ap (rows-at K es (suc n) n x 0 8 ++_) (rows-from-more K es (suc n) 0 ks k (length ks) (omega arith))
     ∙ sym (append-assoc (rows-at K es (suc n) n x 0 8) (rows-from K es (suc n) 0 ks) (rows-at K es (suc n) (length ks) k 0 8))
 
@@ -91,7 +91,7 @@ module _ (p : ℕ) (ks points sizes work : List ℕ) (m columns : ℕ) where
       rows = h .rows;
       ready = h .ready;
       adds = h .adds;
-      means = λ P. h .means P ∙ ap (rows-so (Modulo p P) (map exponents ks) (alike m (take (length points / 3) sizes) - 1)) (sym (kept-other P m points sizes work i n));
+      means = λ P. h .means P ∙ ap (kept-rows (Modulo p P) (map exponents ks) (alike m (take (length points / 3) sizes) - 1)) (sym (kept-other P m points sizes work i n));
     }
 
     pub equations-same : getD sizes i 0 ≡ m → (column kept n : ℕ) (r : Table) → ((P : Prime p) → length (kept-before P m points sizes work i) ≡ kept)
@@ -106,8 +106,8 @@ module _ (p : ℕ) (ks points sizes work : List ℕ) (m columns : ℕ) where
           let K = Modulo p P in
           let N : alike m (take (length points / 3) sizes) - 1 ≡ n = omega arith in
           rows-append p (columns - 1) (h .rows) (g .rows)
-          ∙ ap₂ _++_ (h .means P ∙ ap (λ (a : ℕ). rows-so K (map exponents ks) a (kept-before P m points sizes work i)) N)
+          ∙ ap₂ _++_ (h .means P ∙ ap (λ (a : ℕ). kept-rows K (map exponents ks) a (kept-before P m points sizes work i)) N)
           (g .means P (columns - 1) (suc n) (next-column n kept) (omega arith) col fits ∙ ap (λ (a : ℕ). rows-at K (map exponents ks) (suc n) (next-column n a) k 0 8) (sym (counted P)))
-          ∙ sym (rows-so-more K (map exponents ks) n (kept-before P m points sizes work i) k)
-          ∙ ap₂ (rows-so K (map exponents ks)) (sym N) (sym (kept-same P m points sizes work i e));
+          ∙ sym (kept-rows-more K (map exponents ks) n (kept-before P m points sizes work i) k)
+          ∙ ap₂ (kept-rows K (map exponents ks)) (sym N) (sym (kept-same P m points sizes work i e));
     }

@@ -20,8 +20,8 @@ use Rattle.poly.specs.Keys.{key, exponents}
 use Rattle.poly.specs.Terms.{Polynomial, numbers-of, packed}
 use Rattle.poly.specs.Laws.Keys.{key-of-exponents}
 use Rattle.divisor.specs.Rule.{without-zeros, divided-by, made-monic}
+use Rattle.divisor.specs.Models.Rows.{with-coefficients}
 use Rattle.divisor.specs.Models.Monic.{leading, scaled-terms, monic-terms}
-use Rattle.divisor.specs.Laws.Equations.{with-coefficients}
 use Rattle.divisor.specs.Laws.MonicValue.{zero-dropped, nonzero-kept}
 
 -- each number is below p

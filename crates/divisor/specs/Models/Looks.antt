@@ -6,8 +6,6 @@ use mathlib.Core.List.{List, [], _∷_, _++_, map}
 use Prim.Native.Nat.{ℕ, zero, suc, _+_, _-_, _*_, _/_, _≤_, _<_}
 use lib.Dec.{eqb}
 use lib.ListN.{length, getD, take, drop}
-use Rattle.algebra.specs.Four.{Exponents}
-use Rattle.algebra.specs.Field.{Field}
 use Rattle.field.specs.Moduli.{Listed}
 use Rattle.field.specs.Prime.{Prime}
 use Rattle.field.specs.Modulo.{Modulo}
@@ -24,7 +22,7 @@ use Rattle.divisor.specs.Rule.{Kept}
 use Rattle.divisor.specs.Candidate.{most-points, most-point-numbers}
 use Rattle.divisor.specs.Models.Table.{COLUMNS, empty-table}
 use Rattle.divisor.specs.Models.TableMeaning.{added, rows-of, AllReady}
-use Rattle.divisor.specs.Models.Rows.{rows-at, rows-from}
+use Rattle.divisor.specs.Models.Rows.{kept-rows}
 use Rattle.divisor.specs.Models.Sorting.{size-of, alike}
 use Rattle.divisor.specs.Models.Equation.{kept-numbers}
 
@@ -62,11 +60,6 @@ kept-before {p} P m points sizes work (suc i) =
     kept-before P m points sizes work i
     ++ (elim (eqb (getD sizes i 0) m) [ true ↦ kept-numbers p P (point-at points i) (image-at work i) ∷ [] | false ↦ [] ])
 
--- the rows of kept points, of which n stand behind the first: the first one's multiplier is the last unknown
-abbrev pub rows-so : (K : Field) → List Exponents → ℕ → List (Kept K) → List (List (K .ring .Car))
-rows-so K es n [] = []
-rows-so K es n (k ∷ ks) = rows-at K es (suc n) n k 0 8 ++ rows-from K es (suc n) 0 ks
-
 -- the column of the next point's multiplier, behind the monomials: the last for the first point
 abbrev pub next-column : ℕ → ℕ → ℕ
 next-column n zero = n
@@ -97,7 +90,7 @@ pub record Equations-before (i p : ℕ) (ks points sizes work : List ℕ) (m col
   pub ready : AllReady p rows
   pub adds : t ≡ added p (empty-table columns) rows
   pub means : (P : Prime p) → rows-of p (columns - 1) rows
-      ≡ rows-so (Modulo p P) (map exponents ks) (alike m (take (length points / 3) sizes) - 1) (kept-before P m points sizes work i)
+      ≡ kept-rows (Modulo p P) (map exponents ks) (alike m (take (length points / 3) sizes) - 1) (kept-before P m points sizes work i)
 
 -- room for eight numbers from a place on, in the part that the points' images take
 pub record StoreReady (at : ℕ) (work : List ℕ) : Type 0 where
