@@ -21,6 +21,7 @@ pub mod Assembled
 pub mod EquationTurns
 pub mod PointTurns
 pub mod LookTurns
+pub mod Parts
 pub mod Stores
 pub mod Looking
 pub mod Checks

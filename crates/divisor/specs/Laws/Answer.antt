@@ -39,10 +39,10 @@ use Rattle.divisor.specs.Models.Sorting.{Within, sizes-of, least, alike,
 use Rattle.divisor.specs.Models.Looks.{LookReady, Looks, kept-before, EquationsReady, Equations-before}
 use Rattle.divisor.specs.Models.Verdict.{NoGoodPoint, VerdictReady, Settles, Settled, MakesDivisor, none, several, rejected, accepted}
 use Rattle.divisor.specs.Laws.Checks.{RightPoints, points-are-right, skeleton-count, keys-small}
-use Rattle.divisor.specs.Laws.Sorting.{Looked, Least, AtLeast, least-is, kept-count}
+use Rattle.divisor.specs.Laws.Sorting.{alike-most, alike-two, Looked, Least, AtLeast, least-is, kept-count}
 use Rattle.divisor.specs.Laws.MonicTerms.{AllBelow}
 use Rattle.divisor.specs.Laws.Looking.{look-eight}
-use Rattle.divisor.specs.Laws.Seen.{alike-most, alike-two, looks-from, seen, sizes-seen, kept-seen}
+use Rattle.divisor.specs.Laws.Seen.{looks-from, seen, sizes-seen, kept-seen}
 use Rattle.divisor.specs.Laws.Assembled as assembled
 
 first-kept : {X : Type 0} (l : List X) → 0 < length l → (k : X) × ((ks : List X) × (l ≡ k ∷ ks))

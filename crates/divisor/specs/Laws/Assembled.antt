@@ -25,7 +25,7 @@ use Rattle.poly.specs.Lists.{WrongKey}
 use Rattle.poly.specs.Room.{written, cleared}
 use Rattle.poly.specs.Laws.Lists.{none-wrong, FallFrom, keys-fall}
 use Rattle.divisor.specs.Rule.{report, Kept, Sorted, Unknowns, Solution, OnlySolution, without-zeros, made-monic, divisor, Verdict, none, several, rejected, accepted, all-bad, some-good}
-use Rattle.divisor.specs.Candidate.{Call, table, points-of, prime, Numbers, A, B, monomials, lent-points, Result, Candidate, answered}
+use Rattle.divisor.specs.Candidate.{Call, table, prime, Numbers, A, B, monomials, lent-points, Result, Candidate, answered}
 use Rattle.divisor.specs.Models.TableMeaning.{entries}
 use Rattle.divisor.specs.Models.Rows.{all-rows, with-coefficients, unknowns-of}
 use Rattle.divisor.specs.Models.Sorting.{sizes-of, alike, kept-of}
@@ -33,18 +33,12 @@ use Rattle.divisor.specs.Models.Monic.{monic-terms}
 use Rattle.divisor.specs.Laws.Determined.{counts-add-up}
 use Rattle.divisor.specs.Laws.Degree.{first-image}
 use Rattle.divisor.specs.Laws.Solutions.{no-solution, only-solution, several-solutions}
+use Rattle.divisor.specs.Laws.Seen.{points-length}
 use Rattle.divisor.specs.Laws.Sorting.{AllZero, AtLeast, Looked, sorted, kept-count}
 use Rattle.divisor.specs.Laws.Sorting as sorting
 use Rattle.divisor.specs.Laws.MonicTerms.{AllBelow, skeleton-of, divisor-numbers}
 use Rattle.divisor.specs.Laws.Output.{length-numbers}
 use Rattle.divisor.specs.Laws.DivisorList.{GoodList, good-list}
-
-points-length : (p : ℕ) (P : Prime p) (ns : List ℕ) → length (points-of p P ns) ≡ length ns / 3
-unfolding points-of
-points-length p P [] = refl
-points-length p P (y ∷ []) = refl
-points-length p P (y ∷ z ∷ []) = refl
-points-length p P (y ∷ z ∷ w ∷ ns) = let h = points-length p P ns in omega arith
 
 -- the first of the entries are the coefficients
 module _ (p : ℕ) (P : Prime p) where

@@ -1,11 +1,10 @@
 -- The turns of the loop over the points that adds the equations of the kept ones. Assumes nothing.
 use mathlib.Core.Path.{_≡_, refl, sym, _∙_, ap, ap₂, subst}
 use mathlib.Core.List.{List, [], _∷_, _++_, map, append-assoc, append-nil}
-use Prim.Native.Nat.{ℕ, zero, suc, _+_, _-_, _*_, _/_, _≤_, _<_}
+use Prim.Native.Nat.{ℕ, zero, suc, _+_, _-_, _/_, _≤_, _<_}
 use native.Mathlib.Numerals.{add-one}
 use native.Mathlib.Omega.{arith}
-use lib.ListN.{length, getD, take, drop, length-append, length-drop}
-use lib.Seq.{length-take-le}
+use lib.ListN.{length, getD, take, length-append}
 use borrow.Author.Tests.{eq-eqb, ne-eqb}
 use Rattle.algebra.specs.Four.{Exponents}
 use Rattle.algebra.specs.Field.{Field}
@@ -32,16 +31,9 @@ pub next-fits : (n kept : ℕ) → kept < suc n → next-column n kept < suc n
 next-fits n zero l = omega arith
 next-fits n (suc kept) l = omega arith
 
--- a part of a list, of a times i, as the code takes it
-pub part-is : (a i : ℕ) (list : List ℕ) → take (a * i + a - a * i) (drop (a * i) list) ≡ take a (drop (a * i) list)
-part-is a i list = let e : a * i + a - a * i ≡ a = omega arith in ap (λ (n : ℕ). take n (drop (a * i) list)) e
-
-pub part-length : (a i : ℕ) (list : List ℕ) → a * i + a ≤ length list → length (take a (drop (a * i) list)) ≡ a
-part-length a i list l = length-take-le a (drop (a * i) list) (let e = length-drop (a * i) list in omega arith)
-
 -- every point has its size
-pub enough : (points : ℕ) (sizes : List ℕ) → points ≤ most-point-numbers → length sizes ≡ most-points → points / 3 ≤ length sizes
-enough points sizes l e = omega arith
+pub points-sized : (points : ℕ) (sizes : List ℕ) → points ≤ most-point-numbers → length sizes ≡ most-points → points / 3 ≤ length sizes
+points-sized points sizes l e = omega arith
 
 pub equations-to-at : {j p : ℕ} {t : Table} {ks point point′ image image′ : List ℕ} {column : ℕ} {r : Table} → point ≡ point′ → image ≡ image′
     → Equations-to j p t ks point image column r → Equations-to j p t ks point′ image′ column r

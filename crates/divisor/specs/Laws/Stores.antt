@@ -5,13 +5,14 @@ use mathlib.Core.List.{List}
 use Prim.Native.Nat.{ℕ, _+_, _-_, _*_, _≤_, _<_}
 use native.Mathlib.Decide.{ℕ-discrete}
 use native.Mathlib.Omega.{arith}
-use lib.ListN.{length, getD, take, drop, set, replicate, length-set, length-drop, length-replicate}
-use lib.Seq.{getD-set-same, getD-set-other, getD-take, getD-drop, ext-getD, length-take-le}
+use lib.ListN.{length, getD, drop, set, replicate, length-set, length-drop, length-replicate}
+use lib.Seq.{getD-set-same, getD-set-other, getD-drop, ext-getD}
 use Rattle.poly.specs.declared.ImageRecord.{ImageRecord}
 use Rattle.poly.specs.Room.{work-room}
 use Rattle.divisor.specs.Candidate.{most-points}
 use Rattle.divisor.specs.Models.Looks.{image-at, look-at, Looks, Stored}
 use Rattle.divisor.specs.Models.Sorting.{size-of}
+use Rattle.divisor.specs.Laws.Parts.{part-length, part-at}
 
 module _ (numbers : List ℕ) (at : ℕ) (before : List ℕ) where
   pub stored-start : Stored 0 numbers at before before
@@ -38,29 +39,18 @@ module _ (numbers : List ℕ) (at : ℕ) (before : List ℕ) where
       wider k (inr b) = inr (omega arith)
 
 -- eight numbers that stand in the work room from 8 i on are the image of point i
-image-is : (numbers work : List ℕ) (i : ℕ) → length numbers ≡ 8 → 8 * i + 8 ≤ length work → ((j : ℕ) → j < 8 → getD work (8 * i + j) 0 ≡ getD numbers j 0) → image-at work i ≡ numbers
-image-is numbers work i e l h = ext-getD 0 (image-at work i) numbers (sized ∙ sym e) λ j b. let c : j < 8 = omega (arith, sized) in getD-take 8 (drop (8 * i) work) j 0 c ∙ getD-drop (8 * i) work j 0 ∙ h j c
-  where
-    sized : length (take 8 (drop (8 * i) work)) ≡ 8
-    sized = length-take-le 8 (drop (8 * i) work) (let q = length-drop (8 * i) work in omega arith)
+image-is : (numbers work : List ℕ) (i : ℕ) → length numbers ≡ 8 → 8 * i + 8 ≤ length work
+    → ((j : ℕ) → j < 8 → getD work (8 * i + j) 0 ≡ getD numbers j 0) → image-at work i ≡ numbers
+image-is numbers work i e l h =
+    let sized = part-length 8 i work l in
+    ext-getD 0 (image-at work i) numbers (sized ∙ sym e) λ j b. let c : j < 8 = omega (arith, sized) in part-at 8 i work j c ∙ h j c
 
 -- what is not touched keeps its image
-image-same : (before after : List ℕ) (i k : ℕ) → length after ≡ length before → 8 * i + 8 ≤ length before → k + 1 ≤ i ⊎ (i + 1 ≤ k)
+image-same : (before after : List ℕ) (i k : ℕ) → length after ≡ length before → 8 * i + 8 ≤ length before → i < k
     → ((m : ℕ) → (m < 8 * k) ⊎ (8 * k + 8 ≤ m) → getD after m 0 ≡ getD before m 0) → image-at after i ≡ image-at before i
-image-same before after i k e l o h = ext-getD 0 (image-at after i) (image-at before i) (sized after (omega arith) ∙ sym (sized before l)) each
-  where
-    sized : (work : List ℕ) → 8 * i + 8 ≤ length work → length (take 8 (drop (8 * i) work)) ≡ 8
-    sized work b = length-take-le 8 (drop (8 * i) work) (let q = length-drop (8 * i) work in omega arith)
-
-    side : (j : ℕ) → j < 8 → k + 1 ≤ i ⊎ (i + 1 ≤ k) → (8 * i + j < 8 * k) ⊎ (8 * k + 8 ≤ 8 * i + j)
-    side j b (inl c) = inr (omega arith)
-    side j b (inr c) = inl (omega arith)
-
-    each : (j : ℕ) → j < length (image-at after i) → getD (image-at after i) j 0 ≡ getD (image-at before i) j 0
-    each j b =
-        let c : j < 8 = omega (arith, sized after (omega arith)) in
-        getD-take 8 (drop (8 * i) after) j 0 c ∙ getD-drop (8 * i) after j 0 ∙ h (8 * i + j) (side j c o)
-        ∙ sym (getD-take 8 (drop (8 * i) before) j 0 c ∙ getD-drop (8 * i) before j 0)
+image-same before after i k e l o h =
+    image-is (image-at before i) after i (part-length 8 i before l) (omega arith)
+    (λ j c. h (8 * i + j) (inl (omega arith)) ∙ sym (part-at 8 i before j c))
 
 module _ (p : ℕ) (A B points before : List ℕ) where
   pub looks-start : Looks 0 p A B points before before (replicate most-points 0)
@@ -92,4 +82,4 @@ module _ (p : ℕ) (A B points before : List ℕ) where
       image i l (yes q) =
           ap (image-at after) q ∙ image-is (seen .coefficients) after n eight (let c = st .same-length in let d = long in omega arith) (st .stored)
           ∙ ap (λ (r : ImageRecord). r .coefficients) e ∙ ap (λ (k : ℕ). look-at p A B points k .coefficients) (sym q)
-      image i l (no q) = image-same work after i n (st .same-length) (let d = long in omega arith) (inr (omega arith)) (st .others) ∙ h .images i (omega arith)
+      image i l (no q) = image-same work after i n (st .same-length) (let d = long in omega arith) (omega arith) (st .others) ∙ h .images i (omega arith)

@@ -12,7 +12,8 @@ use Rattle.divisor.specs.Laws.TableKept.{empty-ready}
 use Rattle.divisor.specs.Models.Sorting.{alike}
 use Rattle.divisor.specs.Models.Looks.{kept-before, Equations-before}
 use Rattle.divisor.specs.Laws.Turns.{alike-same, alike-other}
-use Rattle.divisor.specs.Laws.LookTurns.{equations-start, equations-ready, equations-columns, equations-other, equations-same, enough, next-fits, part-is, part-length, equations-to-at, length-none, length-same, length-other}
+use Rattle.divisor.specs.Laws.Parts.{part-is, part-length}
+use Rattle.divisor.specs.Laws.LookTurns.{equations-start, equations-ready, equations-columns, equations-other, equations-same, points-sized, next-fits, equations-to-at, length-none, length-same, length-other}
 use Rattle.divisor.proofs.equations.equations.Statement.{statement}
 use Rattle.divisor.proofs.equations.equations.Tie as tie
 
@@ -50,7 +51,7 @@ column-of-requires c κs =
     let s = c .before .before .before .before .before .before .before in
     let a = s .args in
     let l = c .before .before .loop in
-    let left = alike-same (a .t4) (length (a .points .now) / 3) (l .i) (a .least) (enough (length (a .points .now)) (a .t4) (s .pre .few) (s .pre .count)) (c .before .loop-test .taken) (c .if1 .taken) in
+    let left = alike-same (a .t4) (length (a .points .now) / 3) (l .i) (a .least) (points-sized (length (a .points .now)) (a .t4) (s .pre .few) (s .pre .count)) (c .before .loop-test .taken) (c .if1 .taken) in
     record {
       behind = omega (arith, s .pre .columns-are, s .pre .some);
       most = s .pre .most;
@@ -99,7 +100,7 @@ point-equations-requires c κs =
     let a = s .args in
     let l = c .before .before .before .before .before .loop in
     let e = c .before .before .column-of .ensures in
-    let left = alike-same (a .t4) (length (a .points .now) / 3) (l .i) (a .least) (enough (length (a .points .now)) (a .t4) (s .pre .few) (s .pre .count)) (c .before .before .before .before .loop-test .taken) (c .before .before .before .if1 .taken) in
+    let left = alike-same (a .t4) (length (a .points .now) / 3) (l .i) (a .least) (points-sized (length (a .points .now)) (a .t4) (s .pre .few) (s .pre .count)) (c .before .before .before .before .loop-test .taken) (c .before .before .before .if1 .taken) in
     let i : l .i < length (a .points .now) / 3 = c .before .before .before .before .loop-test .taken in
     let fits = next-fits (a .columns - length (a .skeleton .now) - 1) (l .kept) (omega (arith, s .pre .columns-are, l .inv .1, left)) in
     let columns = equations-columns (a .p) (a .skeleton .now) (a .points .now) (a .t4) (a .work .now) (a .least) (a .columns) (l .i) (l .t) (l .inv .2) in
@@ -129,7 +130,7 @@ loop-again c =
     let l = c .before .before .loop in
     let n = length (a .points .now) / 3 in
     let i : l .i < length (a .points .now) / 3 = c .before .loop-test .taken in
-    let within = enough (length (a .points .now)) (a .t4) (s .pre .few) (s .pre .count) in
+    let within = points-sized (length (a .points .now)) (a .t4) (s .pre .few) (s .pre .count) in
     ⊎-elim
     (λ w.
     let left = alike-same (a .t4) n (l .i) (a .least) within i (w .0 .taken) in

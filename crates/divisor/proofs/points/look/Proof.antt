@@ -7,7 +7,7 @@ use lib.ListN.{length}
 use Rattle.poly.specs.declared.ImageRecord.{ImageRecord}
 use Rattle.poly.specs.Models.Image.{Fine, image-of}
 use Rattle.divisor.specs.Models.Looks.{look-at, Looks}
-use Rattle.divisor.specs.Laws.LookTurns.{part-is}
+use Rattle.divisor.specs.Laws.Parts.{part-is}
 use Rattle.divisor.specs.Laws.Stores.{looks-start, looks-next}
 use Rattle.divisor.specs.Laws.Looking.{point-fine, look-small, look-eight}
 use Rattle.divisor.proofs.points.look.Statement.{statement}
