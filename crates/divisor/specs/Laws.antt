@@ -17,6 +17,7 @@ pub mod MonicTerms
 pub mod Turns
 pub mod EquationRow
 pub mod DivisorList
+pub mod Passed
 pub mod Assembled
 pub mod EquationTurns
 pub mod PointTurns

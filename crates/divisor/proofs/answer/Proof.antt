@@ -5,7 +5,8 @@ use lib.ListN.{length}
 use Rattle.poly.specs.Room.{work-room}
 use Rattle.poly.specs.Laws.Room.{zeroed-length}
 use Rattle.divisor.specs.Candidate.{Call}
-use Rattle.divisor.specs.Laws.Answer.{look-ready, within, room-after, nothing-good, ready-equations, count-small, ready-table, ready-verdict, bad-fits, answered-so}
+use Rattle.divisor.specs.Laws.Passed.{look-ready}
+use Rattle.divisor.specs.Laws.Answer.{within, room-after, nothing-good, ready-equations, count-small, ready-table, ready-verdict, counts-fit, answered-so}
 use borrow.Author.Needs.{needs}
 use Rattle.divisor.proofs.answer.Statement.{statement}
 use Rattle.divisor.proofs.answer.Tie as tie
@@ -117,10 +118,8 @@ sub-t31 c =
     let l = c .before .before .before .before .before .before .before .before .before .before .before .before .before .before .before .before .before .look in
     let m = c .before .before .before .before .before .before .before .before .before .before .before .before .before .before .least-size in
     let k = c .before .before .before .before .before .before .before .before .before .before .before .alike2 in
-    let t = c .before .before .before .before .before .before .before .before .before .equations in
-    let v = c .before .before .before .before .before .before .before .before .solution in
     let b = c .before .before .before .before .before .before .before .before .before .before .before .before .alike in
-    let fit = bad-fits q (s .pre) _ (l .result) (l .ensures) (m .result) (m .ensures) (c .before .before .before .before .before .before .before .before .before .before .before .before .before .if1 .left) (k .result) (k .ensures) (t .result) (t .ensures) (v .result) (v .ensures) (b .result) (b .ensures) in
+    let fit = counts-fit q (s .pre) _ (l .result) (l .ensures) (m .result) (m .ensures) (c .before .before .before .before .before .before .before .before .before .before .before .before .before .if1 .left) (k .result) (k .ensures) (b .result) (b .ensures) in
     omega arith
 
 sub-t32 : tie.Need-sub-t32
@@ -130,10 +129,8 @@ sub-t32 c =
     let l = c .before .before .before .before .before .before .before .before .before .before .before .before .before .before .before .before .before .look in
     let m = c .before .before .before .before .before .before .before .before .before .before .before .before .before .before .least-size in
     let k = c .before .before .before .before .before .before .before .before .before .before .before .alike2 in
-    let t = c .before .before .before .before .before .before .before .before .before .equations in
-    let v = c .before .before .before .before .before .before .before .before .solution in
     let b = c .before .before .before .before .before .before .before .before .before .before .before .before .alike in
-    let fit = bad-fits q (s .pre) _ (l .result) (l .ensures) (m .result) (m .ensures) (c .before .before .before .before .before .before .before .before .before .before .before .before .before .if1 .left) (k .result) (k .ensures) (t .result) (t .ensures) (v .result) (v .ensures) (b .result) (b .ensures) in
+    let fit = counts-fit q (s .pre) _ (l .result) (l .ensures) (m .result) (m .ensures) (c .before .before .before .before .before .before .before .before .before .before .before .before .before .if1 .left) (k .result) (k .ensures) (b .result) (b .ensures) in
     omega arith
 
 same-length-2 : tie.Need-same-length-2

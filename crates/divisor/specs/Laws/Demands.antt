@@ -13,13 +13,13 @@ use Rattle.poly.specs.Keys.{exponents, keys}
 use Rattle.poly.specs.Terms.{Polynomial}
 use Rattle.poly.specs.Value.{x-degree}
 use Rattle.poly.specs.Image.{Divides}
-use Rattle.poly.specs.Lists.{WrongKey}
 use Rattle.poly.specs.Laws.Keys.{exponents-order}
-use Rattle.poly.specs.Laws.Lists.{none-wrong, FallFrom, keys-fall, terms-fall, falling-within}
+use Rattle.poly.specs.Laws.Lists.{FallFrom, falling-within}
 use Rattle.poly.specs.Laws.Value.{WithinX}
 use Rattle.divisor.specs.Rule.{without-zeros, made-monic}
 use Rattle.divisor.specs.Candidate.{Call, table, prime, Numbers, A, B, monomials, lent-points, handed-out, Result, Candidate, refused, answered}
 use Rattle.divisor.specs.Demands.{DegreeX, GreatestInX, MadeMonic, AcceptedIsGreatest, CommonDivisorComesOut}
+use Rattle.divisor.specs.Laws.Passed.{right-lists, skeleton-falls}
 use Rattle.divisor.specs.Laws.Monic.{monic-is-made-monic}
 use Rattle.divisor.specs.Laws.Degree.{accepted-greatest}
 use Rattle.divisor.specs.Laws.CandidateDetermined.{candidate-determined}
@@ -29,7 +29,7 @@ use Rattle.divisor.specs.Laws.Output.{answered-output}
 
 -- no power of x in a first list that passes is above the first term's
 first-within : (c : Call) → Passes (table c) → (listed : Listed (c .modulus)) → WithinX (Numbers c listed) (x-degree (Numbers c listed .ring) (A c listed)) (A c listed)
-first-within c pass listed = falling-within (c .modulus) (prime c listed) keys (c .first-list) (terms-fall (c .modulus) (c .first-list) (pass .1 .1 .0))
+first-within c pass listed = falling-within (c .modulus) (prime c listed) keys (c .first-list) (right-lists c pass .first .falls)
 
 -- DEMAND 3, first half
 pub accepted-is-greatest : (c : Call) (r : Result) → Candidate c r → AcceptedIsGreatest c r
@@ -73,7 +73,7 @@ common-divisor-comes-out c r meets pass listed d b u k kept sorted s only C fin 
 
     of-L : polynomial (F .ring) L ≡ C
     of-L = polynomial-of-terms-at F (monomials c listed)
-        (falling-of keys (c .skeleton) (keys-fall (c .skeleton) (none-wrong (WrongKey (c .skeleton)) (pass .1 .1 .1 .1 .1 .1 .0)))) C proposed
+        (falling-of keys (c .skeleton) (skeleton-falls c pass)) C proposed
 
     not-zero : ¬ (polynomial (F .ring) L ≡ S4 (F .ring) .𝟘)
     not-zero e = degree .nonzero (ap (λ (f : S4 (F .ring) .Car). f d) (sym of-L ∙ e))
