@@ -28,6 +28,7 @@ pub mod Looking
 pub mod Checks
 pub mod Verdict
 pub mod Seen
+pub mod KeptPoints
 pub mod Answer
 pub mod TableTurns
 pub mod TableRows

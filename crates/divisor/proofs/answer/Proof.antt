@@ -6,7 +6,8 @@ use Rattle.poly.specs.Room.{work-room}
 use Rattle.poly.specs.Laws.Room.{zeroed-length}
 use Rattle.divisor.specs.Candidate.{Call}
 use Rattle.divisor.specs.Laws.Passed.{look-ready}
-use Rattle.divisor.specs.Laws.Answer.{within, room-after, nothing-good, ready-equations, count-small, ready-table, ready-verdict, counts-fit, answered-so}
+use Rattle.divisor.specs.Laws.KeptPoints.{within, room-after, ready-equations, count-small, counts-fit}
+use Rattle.divisor.specs.Laws.Answer.{nothing-good, ready-table, ready-verdict, answered-so}
 use borrow.Author.Needs.{needs}
 use Rattle.divisor.proofs.answer.Statement.{statement}
 use Rattle.divisor.proofs.answer.Tie as tie

@@ -1,7 +1,7 @@
 -- The numbers that the code makes of a solution are the terms of its divisor. Assumes nothing.
 use mathlib.Core.Path.{_≡_, refl, sym, _∙_, ap, ap₂, subst}
 use mathlib.Core.List.{List, [], _∷_, map}
-use Prim.Native.Nat.{ℕ, suc, _*_, _%_, _<_}
+use Prim.Native.Nat.{ℕ, zero, suc, _*_, _%_, _<_}
 use native.Mathlib.Decide.{ℕ-discrete, decLt}
 use native.Mathlib.Nat.{mod-mod}
 use native.Mathlib.Omega.{arith}
@@ -28,6 +28,11 @@ use Rattle.divisor.specs.Laws.MonicValue.{zero-dropped, nonzero-kept}
 abbrev pub AllBelow : ℕ → List ℕ → Type 0
 AllBelow p [] = Unit {0}
 AllBelow p (c ∷ cs) = (c < p) × AllBelow p cs
+
+pub all-below : (p n : ℕ) (l : List ℕ) → ((i : ℕ) → getD l i 0 < p) → AllBelow p (take n l)
+all-below p zero l h = tt
+all-below p (suc n) [] h = tt
+all-below p (suc n) (x ∷ l) h = (h 0, all-below p n l (λ i. h (suc i)))
 
 pub leading-zero : (c : ℕ) (cs : List ℕ) → c ≡ 0 → leading (c ∷ cs) ≡ leading cs
 unfolding leading
