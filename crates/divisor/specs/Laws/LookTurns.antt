@@ -67,11 +67,11 @@ pub length-none : {p : ℕ} (P : Prime p) (m : ℕ) (points sizes work : List �
 unfolding kept-before
 length-none P m points sizes work = refl
 
-module _ (p : ℕ) (ks points sizes work : List ℕ) (m columns : ℕ) where
+module _ {p : ℕ} {ks points sizes work : List ℕ} {m columns : ℕ} where
   pub equations-start : Equations-before 0 p ks points sizes work m columns (empty-table columns)
   equations-start = record { rows = []; ready = tt; adds = (unfold added in refl); means = λ P. (unfold kept-before in refl) }
 
-  module _ (i : ℕ) (t : Table) (h : Equations-before i p ks points sizes work m columns t) where
+  module _ {i : ℕ} {t : Table} (h : Equations-before i p ks points sizes work m columns t) where
     pub equations-ready : TableReady p (empty-table columns) → TableReady p t
     equations-ready ready = subst (TableReady p) (sym (h .adds)) (added-ready p (empty-table columns) (h .rows) ready (h .ready))
 
