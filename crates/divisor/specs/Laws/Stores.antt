@@ -14,12 +14,12 @@ use Rattle.divisor.specs.Models.Looks.{image-at, look-at, Looks, Stored}
 use Rattle.divisor.specs.Models.Sorting.{size-of}
 use Rattle.divisor.specs.Laws.Parts.{part-length, part-at}
 
-module _ (numbers : List ℕ) (at : ℕ) (before : List ℕ) where
+module _ {numbers : List ℕ} {at : ℕ} {before : List ℕ} where
   pub stored-start : Stored 0 numbers at before before
   stored-start = record { same-length = refl; stored = λ j l. absurd (omega arith); others = λ k h. refl }
 
-  pub stored-next : (n : ℕ) (after : List ℕ) → at + n < length after → Stored n numbers at before after → Stored (n + 1) numbers at before (set after (at + n) (getD numbers n 0))
-  stored-next n after l h = record {
+  pub stored-next : {n : ℕ} {after : List ℕ} → at + n < length after → Stored n numbers at before after → Stored (n + 1) numbers at before (set after (at + n) (getD numbers n 0))
+  stored-next {n} {after} l h = record {
     same-length = length-set after (at + n) (getD numbers n 0) ∙ h .same-length;
     stored = λ j b. go j b (ℕ-discrete j n);
     others = λ k o. getD-set-other after (at + n) k (getD numbers n 0) 0 (away k o) ∙ h .others k (wider k o);
@@ -52,15 +52,15 @@ image-same before after i k e l o h =
     image-is (image-at before i) after i (part-length 8 i before l) (omega arith)
     (λ j c. h (8 * i + j) (inl (omega arith)) ∙ sym (part-at 8 i before j c))
 
-module _ (p : ℕ) (A B points before : List ℕ) where
+module _ {p : ℕ} {A B points before : List ℕ} where
   pub looks-start : Looks 0 p A B points before before (replicate most-points 0)
   looks-start = record { count = length-replicate {A = ℕ} most-points 0; sized = λ i l. absurd (omega arith); same-length = refl; images = λ i l. absurd (omega arith); beyond = refl }
 
   -- one more point
-  pub looks-next : (n : ℕ) (work after sizes : List ℕ) (seen : ImageRecord) (s : ℕ) → n < most-points → work-room ≤ length before → Looks n p A B points before work sizes
+  pub looks-next : {n : ℕ} {work after sizes : List ℕ} {seen : ImageRecord} {s : ℕ} → n < most-points → work-room ≤ length before → Looks n p A B points before work sizes
       → seen ≡ look-at p A B points n → length (seen .coefficients) ≡ 8 → s ≡ size-of seen → Stored 8 (seen .coefficients) (8 * n) work after
       → Looks (n + 1) p A B points before after (set sizes n s)
-  looks-next n work after sizes seen s small room h e eight es st = record {
+  looks-next {n} {work} {after} {sizes} {seen} {s} small room h e eight es st = record {
     count = length-set sizes n s ∙ h .count;
     sized = λ i l. go i l (ℕ-discrete i n);
     same-length = st .same-length ∙ h .same-length;
