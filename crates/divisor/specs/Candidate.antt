@@ -3,7 +3,7 @@ use mathlib.Core.Path.{_≡_}
 use mathlib.Core.Logic.{_⊎_}
 use mathlib.Core.List.{List, [], _∷_, _++_, map}
 use lib.ListN.{length, take}
-use Prim.Native.Nat.{ℕ, _%_, _<_}
+use Prim.Native.Nat.{ℕ, _*_, _%_, _<_}
 use Rattle.algebra.specs.Field.{Field}
 use Rattle.algebra.specs.Four.{Exponents}
 use Rattle.field.specs.Fp.{el}
@@ -34,8 +34,11 @@ pub record Call : Type 0 where
 abbrev pub most-keys : ℕ
 most-keys = 32
 
+abbrev pub most-points : ℕ
+most-points = 32
+
 abbrev pub most-point-numbers : ℕ
-most-point-numbers = 96
+most-point-numbers = 3 * most-points
 
 -- the refusals of the inputs, tested in this order
 abbrev pub table : Call → List Line

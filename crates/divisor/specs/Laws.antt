@@ -1,4 +1,6 @@
 -- Laws of the definitions of this layer, each file one subject.
+pub mod Decided
+pub mod MonicValue
 pub mod Monic
 pub mod Degree
 pub mod Determined
@@ -7,6 +9,7 @@ pub mod Proposed
 pub mod Complete
 pub mod Output
 pub mod Demands
+pub mod RowValue
 pub mod Equations
 pub mod Solutions
 pub mod Repeated
@@ -15,20 +18,25 @@ pub mod MonicTerms
 pub mod Turns
 pub mod EquationRow
 pub mod DivisorList
+pub mod Passed
 pub mod Assembled
 pub mod EquationTurns
 pub mod PointTurns
 pub mod LookTurns
+pub mod Parts
 pub mod Stores
 pub mod Looking
 pub mod Checks
 pub mod Verdict
 pub mod Seen
+pub mod KeptPoints
 pub mod Answer
 pub mod TableTurns
 pub mod TableRows
 pub mod TableKept
 pub mod TableEntries
+pub mod TableColumns
+pub mod TableAdded
 pub mod TableStep
 pub mod TableSolution
 pub mod TableAnswer

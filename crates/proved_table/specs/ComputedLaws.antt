@@ -1,7 +1,7 @@
 -- What is computed for a call whose inputs pass meets the promise of the call. Assumes nothing.
 use mathlib.Core.Path.{_≡_, refl, sym, _∙_, ap, ap₂, subst}
 use mathlib.Core.List.{List, [], _∷_, map}
-use Prim.Native.Nat.{ℕ, zero, suc, _+_, _/_, _≤_, _<_}
+use Prim.Native.Nat.{ℕ, zero, suc, _+_, _≤_, _<_}
 use native.Mathlib.Omega.{arith}
 use lib.ListN.{length, getD, take, length-map}
 use Rattle.algebra.specs.Linear.{Answer, none, one, several, Meets}
@@ -21,15 +21,14 @@ use Rattle.poly.specs.Room.{written, cleared}
 use Rattle.poly.specs.Lists.{Falling}
 use Rattle.poly.specs.Laws.Terms.{poly-lead}
 use Rattle.divisor.specs.Rule.{report, Kept}
-use Rattle.divisor.specs.Candidate.{Call, table, prime, Numbers, A, B, monomials, lent-points, Candidate}
+use Rattle.divisor.specs.Candidate.{Call, table, prime, Numbers, monomials, lent-points, Candidate}
 use Rattle.divisor.specs.Models.TableMeaning.{entries}
 use Rattle.divisor.specs.Models.Rows.{all-rows}
 use Rattle.divisor.specs.Models.Sorting.{sizes-of, least, kept-of}
 use Rattle.divisor.specs.Models.Monic.{monic-terms}
 use Rattle.divisor.specs.Laws.MonicTerms.{AllBelow}
-use Rattle.divisor.specs.Laws.Sorting.{Looked, Least, AtLeast, least-is}
-use Rattle.divisor.specs.Laws.Seen.{looks-from, seen}
-use Rattle.divisor.specs.Laws.Answer.{look-ready}
+use Rattle.divisor.specs.Laws.Sorting.{Least, AtLeast, least-is}
+use Rattle.divisor.specs.Laws.Passed.{looks-of}
 use Rattle.divisor.specs.Laws.Assembled as assembled
 use Rattle.proved_table.specs.TermDivision.{Outcome, divides, does-not, open-still}
 use Rattle.proved_table.specs.TermDivisionLaws.{Means, division-means}
@@ -75,16 +74,13 @@ module _ (c : Call) (pass : Passes (table c)) (listed : Listed (c .modulus)) whe
       Candidate c (record { found = report number degree bad unlucky kept (length terms); output = written terms (c .output); work = cleared (c .work) })
 
   abbrev looks : List ImageRecord
-  looks = looks-from p (c .first-list) (c .second-list) (c .points) 0 (length (c .points) / 3)
-
-  looked : Looked P (A c listed) (B c listed) (lent-points c listed) looks
-  looked = seen p (c .first-list) (c .second-list) (c .points) (c .work) (look-ready c pass) P 0 (length (c .points) / 3) (let t = look-ready c pass .threes in omega arith)
+  looks = looks-of c
 
   module _ (d : ℕ) (at-least : AtLeast (suc d) (sizes-of looks)) (k : Kept (Numbers c listed)) (ks : List (Kept (Numbers c listed)))
       (kept : kept-of P (suc d) (lent-points c listed) looks ≡ k ∷ ks) where
     abbrev Settled : Verdict → Type 0
     Settled unsettled = Unit {0}
-    Settled (settled number terms) = Candidate c (assembled.result c pass listed looks looked d at-least k ks kept number terms)
+    Settled (settled number terms) = Candidate c (assembled.result c pass listed d at-least k ks kept number terms)
 
     abbrev rows : List (List (Fp (c .modulus)))
     rows = all-rows (Numbers c listed) (monomials c listed) k ks
@@ -109,24 +105,24 @@ module _ (c : Call) (pass : Passes (table c)) (listed : Listed (c .modulus)) whe
       tried-settles : (first second : Outcome) → Means (Numbers c listed) (poly p P (c .first-list)) (poly p P G) first
           → Means (Numbers c listed) (poly p P (c .second-list)) (poly p P G) second → Settled (tried G first second)
       unfolding tried
-      tried-settles divides divides a b = assembled.answer-accepted c pass listed looks looked d at-least k ks kept (values-of v) solves long below a b
-      tried-settles divides does-not a b = assembled.answer-rejected c pass listed looks looked d at-least k ks kept (values-of v) solves long below (λ both. b (both .1))
+      tried-settles divides divides a b = assembled.answer-accepted c pass listed d at-least k ks kept (values-of v) solves long below (a, b)
+      tried-settles divides does-not a b = assembled.answer-rejected c pass listed d at-least k ks kept (values-of v) solves long below (λ both. b (both .1))
       tried-settles divides open-still a b = tt
-      tried-settles does-not o a b = assembled.answer-rejected c pass listed looks looked d at-least k ks kept (values-of v) solves long below (λ both. a (both .0))
+      tried-settles does-not o a b = assembled.answer-rejected c pass listed d at-least k ks kept (values-of v) solves long below (λ both. a (both .0))
       tried-settles open-still o a b = tt
 
       division-settles : Settled (by-division p P (c .first-list) (c .second-list) (c .skeleton) (c .points) G)
       division-settles =
-          let g = assembled.list c pass listed looks looked d at-least k ks kept (values-of v) solves long below in
+          let g = assembled.list c pass listed d at-least k ks kept (values-of v) solves long below in
           tried-settles (divided-by p P G (c .first-list)) (divided-by p P G (c .second-list))
           (divided-by-means p P G (c .first-list) (g .some) (g .falls)) (divided-by-means p P G (c .second-list) (g .some) (g .falls))
 
     answer-settles : (a : Answer (Fp (c .modulus))) → Meets (Numbers c listed) (length (c .skeleton) + length ks) rows a
         → Settled (by-answer p P (c .first-list) (c .second-list) (c .skeleton) (c .points) a)
     unfolding by-answer
-    answer-settles none h = assembled.answer-none c pass listed looks looked d at-least k ks kept h
+    answer-settles none h = assembled.answer-none c pass listed d at-least k ks kept h
     answer-settles (one v) h = division-settles v h
-    answer-settles (several v w) h = assembled.answer-several c pass listed looks looked d at-least k ks kept v w h
+    answer-settles (several v w) h = assembled.answer-several c pass listed d at-least k ks kept v w h
 
     counts-sound : (v : Verdict) → Settled v → Sound (with-counts p P (c .first-list) (c .second-list) (c .skeleton) (c .points) d (sizes-of looks) v)
     unfolding with-counts
@@ -142,7 +138,7 @@ module _ (c : Call) (pass : Passes (table c)) (listed : Listed (c .modulus)) whe
 
   least-sound : (m : ℕ) → Least 0 (sizes-of looks) m → Sound (by-least p P (c .first-list) (c .second-list) (c .skeleton) (c .points) looks m)
   unfolding by-least
-  least-sound zero h = assembled.answer-all-bad c pass listed looks looked (h .zero refl)
+  least-sound zero h = assembled.answer-all-bad c pass listed (h .zero refl)
   least-sound (suc d) h = kept-sound d (h .below) (kept-of P (suc d) (lent-points c listed) looks) refl
 
   pub computed-sound : Sound (computed (c .modulus) (prime c listed) (c .first-list) (c .second-list) (c .skeleton) (c .points))

@@ -1,11 +1,14 @@
 -- `divisor::answer` meets its contract, from what its calls say. Assumes nothing.
 use mathlib.Core.Path.{sym, ap, _∙_}
 use native.Mathlib.Omega.{arith}
+use Prim.Native.Nat.{_+_, _/_, _≤_}
 use lib.ListN.{length}
 use Rattle.poly.specs.Room.{work-room}
 use Rattle.poly.specs.Laws.Room.{zeroed-length}
 use Rattle.divisor.specs.Candidate.{Call}
-use Rattle.divisor.specs.Laws.Answer.{look-ready, within, room-after, nothing-good, ready-equations, count-small, ready-table, ready-verdict, bad-fits, answered-so}
+use Rattle.divisor.specs.Laws.Passed.{look-ready}
+use Rattle.divisor.specs.Laws.KeptPoints.{within, room-after, SomeGood, ready-equations, count-small, counts-fit}
+use Rattle.divisor.specs.Laws.Answer.{nothing-good, ready-table, ready-verdict, answered-so}
 use borrow.Author.Needs.{needs}
 use Rattle.divisor.proofs.answer.Statement.{statement}
 use Rattle.divisor.proofs.answer.Tie as tie
@@ -16,90 +19,77 @@ question s =
     let a = s .args in
     record { modulus = a .p; first-list = a .first .now; second-list = a .second .now; skeleton = a .skeleton .now; points = a .points .now; output = a .out .now; work = a .work .now }
 
+-- after the look at the points: where the routine began
+abbrev start : tie.After-look → tie.Start
+start c = c .before .before .before .before .before .before .before .before
+
+-- after the counts of points: the look, and what is found
+abbrev seen : tie.After-alike2 → tie.After-look
+seen c = c .before .before .before .before .before .before
+
+good : (c : tie.After-alike2) → let l = seen c in
+    SomeGood (question (start l)) (l .look .last .1 .1 .1 .1 .0) (l .look .result) (c .before .before .before .least-size .result) (c .alike2 .result)
+good c = record {
+  pass = start (seen c) .pre;
+  look = seen c .look .ensures;
+  is-least = c .before .before .before .least-size .ensures;
+  some = c .before .before .if1 .left;
+  is-count = c .alike2 .ensures;
+}
+
+-- bad and kept points are not more than all
+fit : (c : tie.After-alike2) → c .before .alike .result + c .alike2 .result ≤ length (start (seen c) .args .points .now) / 3
+fit c = counts-fit (good c) (c .before .alike .result) (c .before .alike .ensures)
+
 look-requires : tie.Need-look-requires
 look-requires c κs =
     let s = c .before .before .before .before .before .before .before in
-    let q = question s in
-    look-ready q (s .pre)
+    look-ready (question s) (s .pre)
 
 least-size-requires : tie.Need-least-size-requires
 least-size-requires c κs =
-    let s = c .before .before .before .before .before .before .before .before .before .before in
-    let q = question s in
-    let l = c .before .before .look in
-    within q (s .pre) _ (l .result) (l .ensures)
+    let l = c .before .before in
+    within (question (start l)) (start l .pre) _ (l .look .result) (l .look .ensures)
 
 no-good-point-requires : tie.Need-no-good-point-requires
 no-good-point-requires c κs =
-    let s = c .before .before .before .before .before .before .before .before .before .before .before .before .before in
-    let q = question s in
-    let l = c .before .before .before .before .before .look in
-    room-after q (s .pre) _ (l .result) (l .ensures)
+    let l = c .before .before .before .before .before in
+    room-after (question (start l)) (start l .pre) _ (l .look .result) (l .look .ensures)
 
 same-length : tie.Need-same-length
 same-length c = search needs
 
 returns : tie.Need-returns
 returns c =
-    let s = c .before .before .before .before .before .before .before .before .before .before .before .before .before .before .before .before in
-    let q = question s in
-    let l = c .before .before .before .before .before .before .before .before .look in
+    let l = c .before .before .before .before .before .before .before .before in
     let m = c .before .before .before .before .before .least-size in
-    nothing-good q (s .pre) _ (l .result) (l .ensures) (sym (m .ensures) ∙ c .before .before .before .before .if1 .taken) _ (c .before .before .no-good-point .result) (c .before .before .no-good-point .ensures)
+    let r = c .before .before .no-good-point in
+    nothing-good (question (start l)) (start l .pre) _ (l .look .result) (l .look .ensures) (sym (m .ensures) ∙ c .before .before .before .before .if1 .taken) _ (r .result) (r .ensures)
 
 alike-requires : tie.Need-alike-requires
 alike-requires c κs =
-    let s = c .before .before .before .before .before .before .before .before .before .before .before .before in
-    let q = question s in
-    let l = c .before .before .before .before .look in
-    within q (s .pre) _ (l .result) (l .ensures)
+    let l = c .before .before .before .before in
+    within (question (start l)) (start l .pre) _ (l .look .result) (l .look .ensures)
 
 alike-requires-2 : tie.Need-alike-requires-2
 alike-requires-2 c κs =
-    let s = c .before .before .before .before .before .before .before .before .before .before .before .before .before in
-    let q = question s in
-    let l = c .before .before .before .before .before .look in
-    within q (s .pre) _ (l .result) (l .ensures)
+    let l = c .before .before .before .before .before in
+    within (question (start l)) (start l .pre) _ (l .look .result) (l .look .ensures)
 
 add-columns : tie.Need-add-columns
-add-columns c =
-    let s = c .before .before .before .before .before .before .before .before .before .before .before .before .before .before in
-    let q = question s in
-    let l = c .before .before .before .before .before .before .look in
-    let m = c .before .before .before .least-size in
-    let k = c .alike2 in
-    let small = count-small q (s .pre) _ (l .result) (l .ensures) (m .result) (m .ensures) (c .before .before .if1 .left) (k .result) (k .ensures) in
-    omega arith
+add-columns c = let small = count-small (good c) in omega arith
 
 equations-requires : tie.Need-equations-requires
-equations-requires c κs =
-    let s = c .before .before .before .before .before .before .before .before .before .before .before .before .before .before .before in
-    let q = question s in
-    let l = c .before .before .before .before .before .before .before .look in
-    let m = c .before .before .before .before .least-size in
-    let k = c .before .alike2 in
-    ready-equations q (s .pre) _ (l .result) (l .ensures) (m .result) (m .ensures) (c .before .before .before .if1 .left) (k .result) (k .ensures)
+equations-requires c κs = ready-equations (good (c .before))
 
 solution-requires : tie.Need-solution-requires
-solution-requires c κs =
-    let s = c .before .before .before .before .before .before .before .before .before .before .before .before .before .before .before .before in
-    let q = question s in
-    let l = c .before .before .before .before .before .before .before .before .look in
-    let m = c .before .before .before .before .before .least-size in
-    let k = c .before .before .alike2 in
-    let t = c .equations in
-    ready-table q (s .pre) _ (l .result) (l .ensures) (m .result) (m .ensures) (c .before .before .before .before .if1 .left) (k .result) (k .ensures) (t .result) (t .ensures)
+solution-requires c κs = ready-table (good (c .before .before)) (c .equations .result) (c .equations .ensures)
 
 settle-requires : tie.Need-settle-requires
 settle-requires c κs =
-    let s = c .before .before .before .before .before .before .before .before .before .before .before .before .before .before .before .before .before .before .before in
-    let q = question s in
-    let l = c .before .before .before .before .before .before .before .before .before .before .before .look in
-    let m = c .before .before .before .before .before .before .before .before .least-size in
-    let k = c .before .before .before .before .before .alike2 in
     let t = c .before .before .before .equations in
     let v = c .before .before .solution in
-    ready-verdict q (s .pre) _ (l .result) (l .ensures) (m .result) (m .ensures) (c .before .before .before .before .before .before .before .if1 .left) (k .result) (k .ensures) (t .result) (t .ensures) (v .result) (v .ensures)
+    ready-verdict (good (c .before .before .before .before .before)) (t .result) (t .ensures) (v .result) (v .ensures)
 
 at-requires : tie.Need-at-requires
 at-requires c κs = search needs
@@ -111,53 +101,26 @@ sub-t30 : tie.Need-sub-t30
 sub-t30 c = search needs
 
 sub-t31 : tie.Need-sub-t31
-sub-t31 c =
-    let s = c .before .before .before .before .before .before .before .before .before .before .before .before .before .before .before .before .before .before .before .before .before .before .before .before .before in
-    let q = question s in
-    let l = c .before .before .before .before .before .before .before .before .before .before .before .before .before .before .before .before .before .look in
-    let m = c .before .before .before .before .before .before .before .before .before .before .before .before .before .before .least-size in
-    let k = c .before .before .before .before .before .before .before .before .before .before .before .alike2 in
-    let t = c .before .before .before .before .before .before .before .before .before .equations in
-    let v = c .before .before .before .before .before .before .before .before .solution in
-    let b = c .before .before .before .before .before .before .before .before .before .before .before .before .alike in
-    let fit = bad-fits q (s .pre) _ (l .result) (l .ensures) (m .result) (m .ensures) (c .before .before .before .before .before .before .before .before .before .before .before .before .before .if1 .left) (k .result) (k .ensures) (t .result) (t .ensures) (v .result) (v .ensures) (b .result) (b .ensures) in
-    omega arith
+sub-t31 c = let f = fit (c .before .before .before .before .before .before .before .before .before .before .before) in omega arith
 
 sub-t32 : tie.Need-sub-t32
-sub-t32 c =
-    let s = c .before .before .before .before .before .before .before .before .before .before .before .before .before .before .before .before .before .before .before .before .before .before .before .before .before in
-    let q = question s in
-    let l = c .before .before .before .before .before .before .before .before .before .before .before .before .before .before .before .before .before .look in
-    let m = c .before .before .before .before .before .before .before .before .before .before .before .before .before .before .least-size in
-    let k = c .before .before .before .before .before .before .before .before .before .before .before .alike2 in
-    let t = c .before .before .before .before .before .before .before .before .before .equations in
-    let v = c .before .before .before .before .before .before .before .before .solution in
-    let b = c .before .before .before .before .before .before .before .before .before .before .before .before .alike in
-    let fit = bad-fits q (s .pre) _ (l .result) (l .ensures) (m .result) (m .ensures) (c .before .before .before .before .before .before .before .before .before .before .before .before .before .if1 .left) (k .result) (k .ensures) (t .result) (t .ensures) (v .result) (v .ensures) (b .result) (b .ensures) in
-    omega arith
+sub-t32 c = let f = fit (c .before .before .before .before .before .before .before .before .before .before .before) in omega arith
 
 same-length-2 : tie.Need-same-length-2
 same-length-2 c = search needs
 
 same-length-3 : tie.Need-same-length-3
 same-length-3 c =
-    let s = c .before .before .before .before .before .before .before .before .before .before .before .before .before .before .before .before .before .before .before .before .before .before .before .before .before in
-    let q = question s in
-    let l = c .before .before .before .before .before .before .before .before .before .before .before .before .before .before .before .before .before .look in
-    ap length (c .before .before .before .before .before .settle .ensures .clears) ∙ zeroed-length work-room _ (room-after q (s .pre) _ (l .result) (l .ensures)) ∙ l .ensures .same-length
+    let l = c .before .before .before .before .before .before .before .before .before .before .before .before .before .before .before .before .before in
+    ap length (c .before .before .before .before .before .settle .ensures .clears) ∙ zeroed-length work-room _ (room-after (question (start l)) (start l .pre) _ (l .look .result) (l .look .ensures)) ∙ l .look .ensures .same-length
 
 returns-2 : tie.Need-returns-2
 returns-2 c =
-    let s = c .before .before .before .before .before .before .before .before .before .before .before .before .before .before .before .before .before .before .before .before .before .before .before .before .before in
-    let q = question s in
-    let l = c .before .before .before .before .before .before .before .before .before .before .before .before .before .before .before .before .before .look in
-    let m = c .before .before .before .before .before .before .before .before .before .before .before .before .before .before .least-size in
-    let k = c .before .before .before .before .before .before .before .before .before .before .before .alike2 in
+    let e = c .before .before .before .before .before .before .before .before .before .before .before in
     let t = c .before .before .before .before .before .before .before .before .before .equations in
     let v = c .before .before .before .before .before .before .before .before .solution in
-    let b = c .before .before .before .before .before .before .before .before .before .before .before .before .alike in
     let w = c .before .before .before .before .before .settle in
-    answered-so q (s .pre) _ (l .result) (l .ensures) (m .result) (m .ensures) (c .before .before .before .before .before .before .before .before .before .before .before .before .before .if1 .left) (k .result) (k .ensures) (t .result) (t .ensures) (v .result) (v .ensures) (b .result) (b .ensures) (w .result) (w .ensures) (c .at .result) (c .at .ensures)
+    answered-so (good e) (t .result) (t .ensures) (v .result) (v .ensures) (e .before .alike .result) (e .before .alike .ensures) (w .result) (w .ensures) (c .at .result) (c .at .ensures)
 
 pub answer-spec : {M : Type 1} → statement M
 answer-spec =

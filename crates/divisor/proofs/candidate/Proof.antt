@@ -5,24 +5,26 @@ use borrow.Author.Needs.{needs}
 use Rattle.divisor.proofs.candidate.Statement.{statement}
 use Rattle.divisor.proofs.candidate.Tie as tie
 
+-- the call that is asked
+abbrev question : tie.Start → Call
+question s =
+    let a = s .args in
+    record { modulus = a .p; first-list = a .first .now; second-list = a .second .now; skeleton = a .skeleton .now; points = a .points .now; output = a .out .now; work = a .work .now }
+
 candidate-fault-requires : tie.Need-candidate-fault-requires
 candidate-fault-requires c κs = search needs
 
 returns : tie.Need-returns
 returns c =
     let s = c .before .before .before .before .before .before .before .before .before in
-    let a = s .args in
-    let q : Call = record { modulus = a .p; first-list = a .first .now; second-list = a .second .now; skeleton = a .skeleton .now; points = a .points .now; output = a .out .now; work = a .work .now } in
     let f = c .before .before .candidate-fault in
-    refused (f .result) (tested-refuses (table q) (f .result) (f .ensures) (c .if1 .taken))
+    refused (f .result) (tested-refuses (table (question s)) (f .result) (f .ensures) (c .if1 .taken))
 
 answer-requires : tie.Need-answer-requires
 answer-requires c κs =
     let s = c .before .before .before .before .before .before .before .before .before .before .before in
-    let a = s .args in
-    let q : Call = record { modulus = a .p; first-list = a .first .now; second-list = a .second .now; skeleton = a .skeleton .now; points = a .points .now; output = a .out .now; work = a .work .now } in
     let f = c .before .before .before .before .candidate-fault in
-    tested-passes (table q) tt (f .result) (f .ensures) (c .before .before .if1 .left) .0
+    tested-passes (table (question s)) tt (f .result) (f .ensures) (c .before .before .if1 .left) .0
 
 same-length : tie.Need-same-length
 same-length c = search needs
@@ -31,8 +33,7 @@ same-length-2 : tie.Need-same-length-2
 same-length-2 c = search needs
 
 returns-2 : tie.Need-returns-2
-returns-2 c =
-    c .before .before .before .before .answer .ensures
+returns-2 c = c .before .before .before .before .answer .ensures
 
 pub candidate-spec : {M : Type 1} → statement M
 candidate-spec =

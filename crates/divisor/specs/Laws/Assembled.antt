@@ -2,7 +2,7 @@
 -- and the two trial divisions. Assumes nothing.
 use mathlib.Core.Path.{_≡_, refl, sym, _∙_, ap, subst}
 use mathlib.Core.List.{List, [], _∷_, map}
-use Prim.Native.Nat.{ℕ, suc, _+_, _-_, _/_, _≤_, _<_}
+use Prim.Native.Nat.{ℕ, suc, _+_, _-_, _≤_, _<_}
 use native.Mathlib.Omega.{arith}
 use lib.ListN.{length, getD, take, drop, length-map}
 use lib.Seq.{drop-cons, length-take-le}
@@ -17,34 +17,27 @@ use Rattle.field.specs.Fp.{Fp, el}
 use Rattle.field.specs.Modulo.{Modulo}
 use Rattle.field.specs.Numbers.{NO_GOOD_POINT, NO_SOLUTION, SEVERAL_SOLUTIONS, DOES_NOT_DIVIDE}
 use Rattle.field.specs.Refusal.{Passes}
-use Rattle.poly.specs.declared.ImageRecord.{ImageRecord}
-use Rattle.poly.specs.Keys.{exponents, keys}
+use Rattle.poly.specs.Keys.{exponents}
 use Rattle.poly.specs.Terms.{Polynomial, numbers-of, poly, base}
 use Rattle.poly.specs.Image.{Divides, Image}
-use Rattle.poly.specs.Lists.{WrongKey}
 use Rattle.poly.specs.Room.{written, cleared}
-use Rattle.poly.specs.Laws.Lists.{none-wrong, FallFrom, keys-fall}
 use Rattle.divisor.specs.Rule.{report, Kept, Sorted, Unknowns, Solution, OnlySolution, without-zeros, made-monic, divisor, Verdict, none, several, rejected, accepted, all-bad, some-good}
-use Rattle.divisor.specs.Candidate.{Call, table, points-of, prime, Numbers, A, B, monomials, lent-points, Result, Candidate, answered}
+use Rattle.divisor.specs.Candidate.{Call, table, prime, Numbers, A, B, monomials, lent-points, Result, Candidate, answered}
 use Rattle.divisor.specs.Models.TableMeaning.{entries}
-use Rattle.divisor.specs.Models.Rows.{all-rows}
+use Rattle.divisor.specs.Models.Rows.{all-rows, with-coefficients, unknowns-of}
 use Rattle.divisor.specs.Models.Sorting.{sizes-of, alike, kept-of}
 use Rattle.divisor.specs.Models.Monic.{monic-terms}
+use Rattle.divisor.specs.Models.Verdict.{Both}
 use Rattle.divisor.specs.Laws.Determined.{counts-add-up}
 use Rattle.divisor.specs.Laws.Degree.{first-image}
-use Rattle.divisor.specs.Laws.Equations.{with-coefficients, unknowns-of}
 use Rattle.divisor.specs.Laws.Solutions.{no-solution, only-solution, several-solutions}
-use Rattle.divisor.specs.Laws.Sorting.{AllZero, AtLeast, Looked, sorted, kept-count}
+use Rattle.divisor.specs.Laws.Seen.{points-length}
+use Rattle.divisor.specs.Laws.Passed.{point-count, looks-of, skeleton-falls, looked}
+use Rattle.divisor.specs.Laws.Sorting.{AllZero, AtLeast, sorted, kept-count}
 use Rattle.divisor.specs.Laws.Sorting as sorting
 use Rattle.divisor.specs.Laws.MonicTerms.{AllBelow, skeleton-of, divisor-numbers}
+use Rattle.divisor.specs.Laws.Output.{length-numbers}
 use Rattle.divisor.specs.Laws.DivisorList.{GoodList, good-list}
-
-points-length : (p : ℕ) (P : Prime p) (ns : List ℕ) → length (points-of p P ns) ≡ length ns / 3
-unfolding points-of
-points-length p P [] = refl
-points-length p P (y ∷ []) = refl
-points-length p P (y ∷ z ∷ []) = refl
-points-length p P (y ∷ z ∷ w ∷ ns) = let h = points-length p P ns in omega arith
 
 -- the first of the entries are the coefficients
 module _ (p : ℕ) (P : Prime p) where
@@ -58,47 +51,39 @@ module _ (p : ℕ) (P : Prime p) where
       ∙ ap (record { exponents = e; coefficient = el p (getD values i 0) } ∷_) (coefficients-first es values (suc i) m (omega arith))
       ∙ sym (ap (λ (v : List ℕ). with-coefficients (Modulo p P) (e ∷ es) (map (el p) (take (suc (length es)) v))) (drop-cons values i 0 (omega arith)))
 
-module _ (c : Call) (pass : Passes (table c)) (listed : Listed (c .modulus)) (looks : List ImageRecord)
-    (looked : Looked (prime c listed) (A c listed) (B c listed) (lent-points c listed) looks) where
+module _ (c : Call) (pass : Passes (table c)) (listed : Listed (c .modulus)) where
   abbrev p : ℕ
   p = c .modulus
 
   abbrev P : Prime (c .modulus)
   P = prime c listed
 
-  -- how many points there are
-  abbrev pub points : ℕ
-  points = length (c .points) / 3
-
   -- all points are bad
-  pub answer-all-bad : AllZero (sizes-of looks)
-      → Candidate c (record { found = report NO_GOOD_POINT 0 (length (c .points) / 3) 0 0 0; output = c .output; work = cleared (c .work) })
+  pub answer-all-bad : AllZero (sizes-of (looks-of c))
+      → Candidate c (record { found = report NO_GOOD_POINT 0 (point-count c) 0 0 0; output = c .output; work = cleared (c .work) })
   answer-all-bad h =
       subst (λ (n : ℕ). Candidate c (record { found = report NO_GOOD_POINT 0 n 0 0 0; output = c .output; work = cleared (c .work) }))
       (points-length p P (c .points))
-      (answered pass listed _ [] (all-bad (sorting.all-bad P (A c listed) (B c listed) (lent-points c listed) looks looked h)))
+      (answered pass listed _ [] (all-bad (sorting.all-bad P (A c listed) (B c listed) (lent-points c listed) (looks-of c) (looked c pass listed) h)))
 
-  skeleton-falls : FallFrom keys (c .skeleton)
-  skeleton-falls = keys-fall (c .skeleton) (none-wrong (WrongKey (c .skeleton)) (pass .1 .1 .1 .1 .1 .1 .0))
+  module _ (d : ℕ) (least : AtLeast (suc d) (sizes-of (looks-of c))) (k : Kept (Numbers c listed)) (ks : List (Kept (Numbers c listed)))
+      (kept : kept-of (prime c listed) (suc d) (lent-points c listed) (looks-of c) ≡ k ∷ ks) where
+    abbrev pub bad-points : ℕ
+    bad-points = alike 0 (sizes-of (looks-of c))
 
-  module _ (d : ℕ) (least : AtLeast (suc d) (sizes-of looks)) (k : Kept (Numbers c listed)) (ks : List (Kept (Numbers c listed)))
-      (kept : kept-of P (suc d) (lent-points c listed) looks ≡ k ∷ ks) where
-    abbrev bad-count : ℕ
-    bad-count = alike 0 (sizes-of looks)
+    abbrev pub kept-points : ℕ
+    kept-points = alike (suc d) (sizes-of (looks-of c))
 
-    abbrev kept-points : ℕ
-    kept-points = alike (suc d) (sizes-of looks)
-
-    some : (u : ℕ) × Sorted (Numbers c listed) (A c listed) (B c listed) d (lent-points c listed) bad-count u (k ∷ ks)
-    some = let s = sorted P (A c listed) (B c listed) d (lent-points c listed) looks looked least in
-        (s .0, subst (Sorted (Numbers c listed) (A c listed) (B c listed) d (lent-points c listed) bad-count (s .0)) kept (s .1))
+    some : (u : ℕ) × Sorted (Numbers c listed) (A c listed) (B c listed) d (lent-points c listed) bad-points u (k ∷ ks)
+    some = let s = sorted P (A c listed) (B c listed) d (lent-points c listed) (looks-of c) (looked c pass listed) least in
+        (s .0, subst (Sorted (Numbers c listed) (A c listed) (B c listed) d (lent-points c listed) bad-points (s .0)) kept (s .1))
 
     count-kept : length (k ∷ ks) ≡ kept-points
-    count-kept = ap length (sym kept) ∙ kept-count P (A c listed) (B c listed) (suc d) (lent-points c listed) looks looked
+    count-kept = ap length (sym kept) ∙ kept-count P (A c listed) (B c listed) (suc d) (lent-points c listed) (looks-of c) (looked c pass listed)
 
-    count-unlucky : some .0 ≡ length (c .points) / 3 - bad-count - kept-points
+    count-unlucky : some .0 ≡ point-count c - bad-points - kept-points
     count-unlucky =
-        let e = counts-add-up (Numbers c listed) (A c listed) (B c listed) d (lent-points c listed) bad-count (some .0) (k ∷ ks) (some .1) in
+        let e = counts-add-up (Numbers c listed) (A c listed) (B c listed) d (lent-points c listed) bad-points (some .0) (k ∷ ks) (some .1) in
         let n = points-length p P (c .points) in
         let m = count-kept in
         omega arith
@@ -106,62 +91,57 @@ module _ (c : Call) (pass : Passes (table c)) (listed : Listed (c .modulus)) (lo
     -- the record and the rooms of a verdict
     abbrev pub result : ℕ → List ℕ → Result
     result number terms = record {
-      found = report number d (alike 0 (sizes-of looks)) (length (c .points) / 3 - alike 0 (sizes-of looks) - alike (suc d) (sizes-of looks)) (alike (suc d) (sizes-of looks)) (length terms);
+      found = report number d bad-points (point-count c - bad-points - kept-points) kept-points (length terms);
       output = written terms (c .output);
       work = cleared (c .work);
     }
 
-    length-numbers : (G : Polynomial (Numbers c listed)) → length (numbers-of p P G) ≡ length G
-    length-numbers [] = refl
-    length-numbers (t ∷ ts) = ap suc (length-numbers ts)
-
     answer-verdict : (number : ℕ) (G : Polynomial (Numbers c listed)) → Verdict (Numbers c listed) (A c listed) (B c listed) (monomials c listed) (k ∷ ks) number G
         → Candidate c (result number (numbers-of p P G))
-    answer-verdict number G v =
-        subst (λ (n : ℕ). Candidate c (record { found = report number d bad-count (length (c .points) / 3 - bad-count - kept-points) kept-points n; output = written (numbers-of p P G) (c .output); work = cleared (c .work) }))
-        (sym (length-numbers G))
-        (subst (λ (n : ℕ). Candidate c (record { found = report number d bad-count (length (c .points) / 3 - bad-count - kept-points) n (length G); output = written (numbers-of p P G) (c .output); work = cleared (c .work) }))
-        count-kept
-        (subst (λ (u : ℕ). Candidate c (record { found = report number d bad-count u (length (k ∷ ks)) (length G); output = written (numbers-of p P G) (c .output); work = cleared (c .work) }))
-        count-unlucky
-        (answered pass listed _ G (some-good d bad-count (some .0) k ks (some .1) number G v))))
+    answer-verdict number G v = subst (Candidate c)
+        (λ i. record {
+          found = report number d bad-points (count-unlucky i) (count-kept i) (sym (length-numbers p P G) i);
+          output = written (numbers-of p P G) (c .output);
+          work = cleared (c .work);
+        })
+        (answered pass listed _ G (some-good d bad-points (some .0) k ks (some .1) number G v))
 
     -- the image at the first kept point has 1 beside x^d
     image : Image (Numbers c listed) (A c listed) (B c listed) (k .point) d (k .image)
-    image = first-image (Numbers c listed) (A c listed) (B c listed) d (lent-points c listed) bad-count (some .0) k ks (some .1)
+    image = first-image (Numbers c listed) (A c listed) (B c listed) d (lent-points c listed) bad-points (some .0) k ks (some .1)
 
     -- as many unknowns as the skeleton has keys and there are kept points after the first
     abbrev pub unknowns : ℕ
     unknowns = length (c .skeleton) + length ks
 
-    abbrev equations : List (List (Fp (c .modulus)))
+    abbrev pub equations : List (List (Fp (c .modulus)))
     equations = all-rows (Numbers c listed) (monomials c listed) k ks
 
     length-monomials : length (monomials c listed) ≡ length (c .skeleton)
     length-monomials = length-map (c .skeleton) exponents
 
-    pub answer-none : linear.NoSolution (Numbers c listed) (length (c .skeleton) + length ks) (all-rows (Numbers c listed) (monomials c listed) k ks) → Candidate c (result NO_SOLUTION [])
+    pub answer-none : linear.NoSolution (Numbers c listed) unknowns equations → Candidate c (result NO_SOLUTION [])
     answer-none h = answer-verdict NO_SOLUTION [] (none (no-solution (Numbers c listed) (monomials c listed) k ks
         (subst (λ (n : ℕ). linear.NoSolution (Numbers c listed) (n + length ks) equations) (sym length-monomials) h)))
 
-    pub answer-several : (v w : List (Fp (c .modulus))) → linear.DifferentSolutions (Numbers c listed) (length (c .skeleton) + length ks) (all-rows (Numbers c listed) (monomials c listed) k ks) v w
+    pub answer-several : (v w : List (Fp (c .modulus))) → linear.DifferentSolutions (Numbers c listed) unknowns equations v w
         → Candidate c (result SEVERAL_SOLUTIONS [])
     answer-several v w h = answer-verdict SEVERAL_SOLUTIONS [] (several (several-solutions (Numbers c listed) (monomials c listed) k ks v w
         (subst (λ (n : ℕ). linear.DifferentSolutions (Numbers c listed) (n + length ks) equations v w) (sym length-monomials) h)))
 
     -- the values of the only solution, of which the first are the coefficients of the skeleton
     module _ (values : List ℕ)
-        (solves : linear.OnlySolution (Numbers c listed) (length (c .skeleton) + length ks) (all-rows (Numbers c listed) (monomials c listed) k ks) (entries (c .modulus) values 0 (length (c .skeleton) + length ks)))
+        (solves : linear.OnlySolution (Numbers c listed) unknowns equations (entries (c .modulus) values 0 unknowns))
         (long : length (c .skeleton) ≤ length values) (below : AllBelow (c .modulus) (take (length (c .skeleton)) values)) where
       abbrev cs : List ℕ
       cs = take (length (c .skeleton)) values
 
-      only : OnlySolution (Numbers c listed) (monomials c listed) (k ∷ ks) (unknowns-of (Numbers c listed) (monomials c listed) (entries p values 0 (length (c .skeleton) + length ks)))
-      only = only-solution (Numbers c listed) (monomials c listed) k ks (entries p values 0 (length (c .skeleton) + length ks))
-          (subst (λ (n : ℕ). linear.OnlySolution (Numbers c listed) (n + length ks) equations (entries p values 0 (length (c .skeleton) + length ks))) (sym length-monomials) solves)
-
       abbrev found : Unknowns (Numbers c listed)
-      found = unknowns-of (Numbers c listed) (monomials c listed) (entries p values 0 (length (c .skeleton) + length ks))
+      found = unknowns-of (Numbers c listed) (monomials c listed) (entries p values 0 unknowns)
+
+      only : OnlySolution (Numbers c listed) (monomials c listed) (k ∷ ks) found
+      only = only-solution (Numbers c listed) (monomials c listed) k ks (entries p values 0 unknowns)
+          (subst (λ (n : ℕ). linear.OnlySolution (Numbers c listed) (n + length ks) equations (entries p values 0 unknowns)) (sym length-monomials) solves)
 
       -- the skeleton polynomial of the solution
       same-skeleton : found .skeleton ≡ skeleton-of p P (c .skeleton) cs
@@ -180,7 +160,7 @@ module _ (c : Call) (pass : Passes (table c)) (listed : Listed (c .modulus)) (lo
       small = let b = listed-below listed in omega arith
 
       pub list : GoodList p P small (c .skeleton) cs
-      list = good-list p P small (c .skeleton) cs sized below skeleton-falls ks k (found .multipliers)
+      list = good-list p P small (c .skeleton) cs sized below (skeleton-falls c pass) ks k (found .multipliers)
           (subst (Solution (Numbers c listed) (monomials c listed) (k ∷ ks)) found-is (only .0)) d (image .small) (image .monic .leads)
 
       -- the divisor's polynomial is that of the list
@@ -192,20 +172,13 @@ module _ (c : Call) (pass : Passes (table c)) (listed : Listed (c .modulus)) (lo
       of-numbers = ap (λ (f : Polynomial (Numbers c listed)). numbers-of p P (made-monic (Numbers c listed) (without-zeros (Numbers c listed) f))) same-skeleton
           ∙ divisor-numbers p P (c .skeleton) cs sized below
 
-      abbrev Divides-list : List ℕ → Type 0
-      Divides-list f = Divides (Numbers c listed) (poly p P (monic-terms p (c .skeleton) cs)) (poly p P f)
+      abbrev DividesBothLists : S4 (Numbers c listed .ring) .Car → Type 0
+      DividesBothLists g = Divides (Numbers c listed) g (poly p P (c .first-list)) × Divides (Numbers c listed) g (poly p P (c .second-list))
 
-      pub answer-rejected : ¬ (Divides-list (c .first-list) × Divides-list (c .second-list)) → Candidate c (result DOES_NOT_DIVIDE [])
-      answer-rejected n = answer-verdict DOES_NOT_DIVIDE [] (rejected found only
-          (λ both. n (
-            subst (λ (g : S4 (Numbers c listed .ring) .Car). Divides (Numbers c listed) g (poly p P (c .first-list))) of-list (both .0),
-            subst (λ (g : S4 (Numbers c listed .ring) .Car). Divides (Numbers c listed) g (poly p P (c .second-list))) of-list (both .1),
-          )))
+      pub answer-rejected : ¬ Both p P (c .first-list) (c .second-list) (monic-terms p (c .skeleton) cs) → Candidate c (result DOES_NOT_DIVIDE [])
+      answer-rejected n = answer-verdict DOES_NOT_DIVIDE [] (rejected found only (λ both. n (subst DividesBothLists of-list both)))
 
-      pub answer-accepted : Divides-list (c .first-list) → Divides-list (c .second-list) → Candidate c (result 0 (monic-terms p (c .skeleton) cs))
-      answer-accepted first second =
+      pub answer-accepted : Both p P (c .first-list) (c .second-list) (monic-terms p (c .skeleton) cs) → Candidate c (result 0 (monic-terms p (c .skeleton) cs))
+      answer-accepted both =
           subst (λ (ts : List ℕ). Candidate c (result 0 ts)) of-numbers
-          (answer-verdict 0 (divisor (Numbers c listed) found) (accepted found only (
-            subst (λ (g : S4 (Numbers c listed .ring) .Car). Divides (Numbers c listed) g (poly p P (c .first-list))) (sym of-list) first,
-            subst (λ (g : S4 (Numbers c listed .ring) .Car). Divides (Numbers c listed) g (poly p P (c .second-list))) (sym of-list) second,
-          )))
+          (answer-verdict 0 (divisor (Numbers c listed) found) (accepted found only (subst DividesBothLists (sym of-list) both)))

@@ -2,35 +2,26 @@
 use mathlib.Core.Path.{_≡_, subst}
 use mathlib.Core.Bool.{Bool-discrete}
 use mathlib.Core.HLevel.{hedberg}
+use mathlib.Core.List.{_++_}
+use lib.ListN.{length}
 use Rattle.field.specs.Moduli.{Listed}
-use Rattle.field.specs.RefusalLaws.{OnePlaceEach, placed-one-place, first-one-place, refuses-determined, not-passes-and-refuses}
+use Rattle.field.specs.RefusalLaws.{OnePlaceEach, whole-one-place, first-one-place, one-place-append, refuses-determined, not-passes-and-refuses}
 use Rattle.poly.specs.Terms.{Polynomial, numbers-of}
+use Rattle.poly.specs.Lists.{of-lists}
 use Rattle.poly.specs.Room.{written, cleared}
+use Rattle.poly.specs.Laws.ListCheck.{lists-one-place}
 use Rattle.divisor.specs.declared.CandidateRecord.{CandidateRecord}
 use Rattle.divisor.specs.Rule.{Answer}
 use Rattle.divisor.specs.Candidate.{Call, table, prime, Numbers, A, B, monomials, lent-points, refusal, Result, Candidate, refused, answered}
+use Rattle.divisor.specs.Models.Checks.{of-skeleton, of-points, of-rooms}
 use Rattle.divisor.specs.Laws.Determined.{answer-determined}
 
-pub table-one-place : (c : Call) → OnePlaceEach (table c)
-table-one-place c = (
-  placed-one-place 0 _,
-  (
-    placed-one-place 0 _,
-    (
-      first-one-place _,
-      (
-        placed-one-place 0 _,
-        (
-          first-one-place _,
-          (
-            placed-one-place 0 _,
-            (first-one-place _, (placed-one-place 0 _, (first-one-place _, (placed-one-place 0 _, (placed-one-place 0 _, tt))))),
-          ),
-        ),
-      ),
-    ),
-  ),
-)
+table-one-place : (c : Call) → OnePlaceEach (table c)
+table-one-place c =
+    one-place-append (of-lists (c .modulus) (c .first-list) (c .second-list))
+    (of-skeleton (c .skeleton) ++ (of-points (c .modulus) (c .points) ++ of-rooms (length (c .output)) (length (c .skeleton)) (length (c .work))))
+    (lists-one-place (c .modulus) (c .first-list) (c .second-list))
+    (whole-one-place _, (first-one-place _, (whole-one-place _, (first-one-place _, (whole-one-place _, (whole-one-place _, tt))))))
 
 abbrev pub answer-of : (c : Call) (listed : Listed (c .modulus)) → CandidateRecord → Polynomial (Numbers c listed) → Type 0
 answer-of c listed = Answer (Numbers c listed) (A c listed) (B c listed) (monomials c listed) (lent-points c listed)

@@ -1,21 +1,19 @@
--- The checks of skeleton, points and rooms: what the searches settle, line by line; and what inputs that pass have. Assumes nothing.
+-- The checks of skeleton and points: what the searches settle, line by line. Assumes nothing.
 use mathlib.Core.Path.{_≡_, ap}
 use mathlib.Core.Logic.{_⊎_, inl, inr}
 use mathlib.Core.List.{List}
-use Prim.Native.Nat.{ℕ, _+_, _*_, _/_, _%_, _≤_, _<_}
-use native.Mathlib.Decide.{ℕ-discrete, decLe}
+use Prim.Native.Nat.{ℕ, _+_, _%_, _≤_, _<_}
 use native.Mathlib.Omega.{arith}
 use lib.ListN.{length, getD}
 use Rattle.field.specs.Numbers.{SKELETON_KEY, POINT_NUMBER}
-use Rattle.field.specs.Refusal.{fault, none, Passes, Tested}
-use Rattle.field.specs.RefusalLaws.{placed-never, never-placed, tested-line, tested-past, tested-end}
+use Rattle.field.specs.Refusal.{fault, none, Tested}
+use Rattle.field.specs.RefusalLaws.{placed-never, tested-line, tested-past, tested-end}
 use Rattle.field.specs.declared.Fault.{Fault}
 use Rattle.poly.specs.Keys.{keys}
 use Rattle.poly.specs.Lists.{Count, WrongKey, above, not-below, WrongNumber}
 use Rattle.poly.specs.Models.Search.{Searching, Searched}
-use Rattle.poly.specs.Laws.Lists.{none-wrong}
 use Rattle.poly.specs.Laws.Search.{search-begins, search-goes-on, search-stops, search-ends, searched-first, searched-none}
-use Rattle.poly.specs.Laws.PointCheck.{numbers-below, numbers-end}
+use Rattle.poly.specs.Laws.PointCheck.{numbers-end}
 use Rattle.divisor.specs.Candidate.{most-keys, most-point-numbers}
 use Rattle.divisor.specs.Models.Checks.{of-skeleton, of-points}
 
@@ -83,34 +81,3 @@ module _ (p : ℕ) (points : List ℕ) (n : ¬ (length points ≡ 0)) (m : lengt
 
   pub points-right : length points ≤ place → {f : Fault} → f ≡ none → Tested (of-points p points) f
   points-right l e = tested-past (placed-never well-counted) (tested-past (searched-none (WrongNumber p points) (length points) (numbers-end p points) place s l) (tested-end e))
-
--- what skeleton and points that pass have
-pub record RightPoints (p : ℕ) (points : List ℕ) : Type 0 where
-  pub some : 0 < length points
-  pub few : length points ≤ 96
-  pub threes : length points ≡ 3 * (length points / 3)
-  pub below : (i : ℕ) → i < length points → getD points i 0 < p
-
-pub points-are-right : (p : ℕ) (points : List ℕ) → Passes (of-points p points) → RightPoints p points
-points-are-right p points h = go (ℕ-discrete (length points) 0) (decLe (length points) 96) (ℕ-discrete (length points % 3) 0)
-  where
-    never : ¬ (Count most-point-numbers points ⊎ (¬ (length points % 3 ≡ 0)))
-    never = never-placed (h .0)
-
-    go : Dec (length points ≡ 0) → Dec (length points ≤ 96) → Dec (length points % 3 ≡ 0) → RightPoints p points
-    go (yes e) b c = absurd (never (inl (inl e)))
-    go (no e) (no l) c = absurd (never (inl (inr (omega arith))))
-    go (no e) (yes l) (no q) = absurd (never (inr q))
-    go (no e) (yes l) (yes q) = record { some = omega arith; few = l; threes = omega arith; below = numbers-below p points (none-wrong (WrongNumber p points) (h .1 .0)) }
-
-pub skeleton-count : (ks : List ℕ) → Passes (of-skeleton ks) → (0 < length ks) × (length ks ≤ 32)
-skeleton-count ks h = go (ℕ-discrete (length ks) 0) (decLe (length ks) 32)
-  where
-    go : Dec (length ks ≡ 0) → Dec (length ks ≤ 32) → (0 < length ks) × (length ks ≤ 32)
-    go (yes e) b = absurd (never-placed (h .0) (inl e))
-    go (no e) (no l) = absurd (never-placed (h .0) (inr (omega arith)))
-    go (no e) (yes l) = (omega arith, l)
-
--- keys that fall are below every limit
-pub keys-small : (ks : List ℕ) → Passes (of-skeleton ks) → (j : ℕ) → j < length ks → getD ks j 0 < keys
-keys-small ks h j l = elim (decLe keys (getD ks j 0)) [ yes m ↦ absurd (none-wrong (WrongKey ks) (h .1 .0) j (above l m)) | no q ↦ omega arith ]

@@ -20,7 +20,8 @@ use Rattle.poly.specs.Laws.Image.{image-top}
 use Rattle.poly.specs.Laws.Value.{polynomial-finite, value-finite, value-of-polynomial, WithinX}
 use Rattle.divisor.specs.Rule.{report, DividesBoth, Kept, Sorted, done, bad, unlucky, keep, Unknowns, Equations, Solution, OnlySolution, without-zeros, divided-by, made-monic, divisor, Verdict, accepted, Answer, some-good}
 use Rattle.divisor.specs.Demands.{DegreeX}
-use Rattle.divisor.specs.Laws.Monic.{value-divided, monic-of-multiple, monic-divides, divided-monomials}
+use Rattle.divisor.specs.Laws.MonicValue.{value-divided}
+use Rattle.divisor.specs.Laws.Monic.{monic-of-multiple, monic-divides, divided-monomials}
 use Rattle.divisor.specs.Laws.Degree.{divisor-at-good-point, value-divides-image}
 
 module _ (K : Field) (A B : Polynomial K) (within : WithinX K (x-degree (K .ring) A) A) where

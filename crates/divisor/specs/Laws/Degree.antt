@@ -20,7 +20,7 @@ use Rattle.poly.specs.Laws.Value.{polynomial-finite, valued, value-of-polynomia
 use Rattle.divisor.specs.declared.CandidateRecord.{CandidateRecord}
 use Rattle.divisor.specs.Rule.{DividesBoth, Kept, Sorted, bad, unlucky, keep, First, Equations, Unknowns, Solution, without-zeros, divisor, Verdict, none, several, rejected, accepted, Answer, all-bad, some-good}
 use Rattle.divisor.specs.Demands.{DegreeX, IsPolynomial, GreatestInX}
-use Rattle.divisor.specs.Laws.Monic.{value-without-zeros, without-zeros-nonzero, made-monic-nonzero}
+use Rattle.divisor.specs.Laws.MonicValue.{value-without-zeros, without-zeros-nonzero, made-monic-nonzero}
 
 module _ (K : Field) where
   open Field K using (ring as R)
@@ -29,7 +29,7 @@ module _ (K : Field) where
   infixl 60 _+_
   infixl 70 _*_
   -- where the x-leading coefficient of f is not 0, a divisor of f keeps its degree
-  pub divisor-keeps-degree-at : (f : Polynomial K) → WithinX K (x-degree R f) f → (at : Point R) → ¬ (value R f at (x-degree R f) ≡ 𝟘)
+  divisor-keeps-degree-at : (f : Polynomial K) → WithinX K (x-degree R f) f → (at : Point R) → ¬ (value R f at (x-degree R f) ≡ 𝟘)
       → (H : S4 R .Car) (fin : IsPolynomial K H) → Divides K H (polynomial R f) → (h : ℕ) → DegreeX K h H → Top R h (valued K at .fn H fin)
   divisor-keeps-degree-at f within at nonzero H fin d h top =
       divisor-keeps-degree (at-yzw R (domain K) (at .y) (at .z) (at .w) tt tt tt) (x-degree R f) h (polynomial R f) H (polynomial-finite K f) fin d
@@ -72,7 +72,7 @@ module _ (K : Field) where
       go (m ∷ ms) one holds = holds .0 i l ∙ ap (_* k .image i) one ∙ one-mul R _
 
   -- so G has a coefficient beside x^d
-  pub divisor-at-first : (monomials : List Exponents) (k : Kept K) (kept : List (Kept K)) (s : Unknowns K) → Solution K monomials (k ∷ kept) s
+  divisor-at-first : (monomials : List Exponents) (k : Kept K) (kept : List (Kept K)) (s : Unknowns K) → Solution K monomials (k ∷ kept) s
       → (d : ℕ) → d < 8 → k .image d ≡ 𝟙 → ¬ (value R (divisor K s) (k .point) d ≡ 𝟘)
   divisor-at-first monomials k kept s solution d l one =
       made-monic-nonzero K (without-zeros K (s .skeleton)) (k .point) d (without-zeros-nonzero K (s .skeleton))
@@ -86,7 +86,7 @@ module _ (K : Field) where
   first-image A B d (at ∷ points) b u k kept (keep U i rest) = i
 
   -- G itself is a common divisor, so its degree is d
-  pub accepted-degree : (A B : Polynomial K) (monomials : List Exponents) (points : List (Point R)) → WithinX K (x-degree R A) A
+  accepted-degree : (A B : Polynomial K) (monomials : List Exponents) (points : List (Point R)) → WithinX K (x-degree R A) A
       → (d b u : ℕ) (k : Kept K) (kept : List (Kept K)) → Sorted K A B d points b u (k ∷ kept)
       → (s : Unknowns K) → Solution K monomials (k ∷ kept) s → DividesBoth K A B (divisor K s) → GreatestInX K A B (divisor K s) d
   accepted-degree A B monomials points w d b u k kept sorted s solution both = record {

@@ -1,6 +1,5 @@
 -- DEMAND 3, both halves: proved of every result that meets the candidate call's promise. Assumes nothing.
 use mathlib.Core.Path.{_≡_, refl, sym, _∙_, ap, subst}
-use mathlib.Core.Logic.{inl, inr}
 use mathlib.Core.List.{List, [], _∷_, map}
 use Prim.Native.Nat.{ℕ, _≤_, _<_}
 use native.Mathlib.Omega.{arith}
@@ -8,19 +7,19 @@ use Rattle.algebra.specs.Series.{S4}
 use Rattle.algebra.specs.Field.{Field}
 use Rattle.algebra.specs.Monomial.{polynomial}
 use Rattle.field.specs.Moduli.{Listed}
-use Rattle.field.specs.Refusal.{Line, Refuses, Passes}
-use Rattle.field.specs.declared.Fault.{Fault}
+use Rattle.field.specs.Refusal.{Passes}
+use Rattle.field.specs.RefusalLaws.{refuses-numbered}
 use Rattle.poly.specs.Keys.{exponents, keys}
 use Rattle.poly.specs.Terms.{Polynomial}
 use Rattle.poly.specs.Value.{x-degree}
 use Rattle.poly.specs.Image.{Divides}
-use Rattle.poly.specs.Lists.{WrongKey}
 use Rattle.poly.specs.Laws.Keys.{exponents-order}
-use Rattle.poly.specs.Laws.Lists.{none-wrong, FallFrom, keys-fall, terms-fall, falling-within}
+use Rattle.poly.specs.Laws.Lists.{FallFrom, falling-within}
 use Rattle.poly.specs.Laws.Value.{WithinX}
 use Rattle.divisor.specs.Rule.{without-zeros, made-monic}
 use Rattle.divisor.specs.Candidate.{Call, table, prime, Numbers, A, B, monomials, lent-points, handed-out, Result, Candidate, refused, answered}
 use Rattle.divisor.specs.Demands.{DegreeX, GreatestInX, MadeMonic, AcceptedIsGreatest, CommonDivisorComesOut}
+use Rattle.divisor.specs.Laws.Passed.{right-lists, skeleton-falls}
 use Rattle.divisor.specs.Laws.Monic.{monic-is-made-monic}
 use Rattle.divisor.specs.Laws.Degree.{accepted-greatest}
 use Rattle.divisor.specs.Laws.CandidateDetermined.{candidate-determined}
@@ -28,26 +27,13 @@ use Rattle.divisor.specs.Laws.Proposed.{Under, Falling, terms-at, terms-
 use Rattle.divisor.specs.Laws.Complete.{common-divisor-found}
 use Rattle.divisor.specs.Laws.Output.{answered-output}
 
-abbrev AllPositive : List Line → Type 0
-AllPositive [] = Unit {0}
-AllPositive (l ∷ ls) = (0 < l .number) × AllPositive ls
-
--- a refusal has a number
-refuses-positive : (lines : List Line) → AllPositive lines → (f : Fault) → Refuses lines f → 0 < f .number
-refuses-positive [] h f r = absurd r
-refuses-positive (l ∷ ls) h f (inl r) = let e : f .number ≡ l .number = r .0 in let m : 0 < l .number = h .0 in omega arith
-refuses-positive (l ∷ ls) h f (inr r) = refuses-positive ls (h .1) f (r .1)
-
-table-positive : (c : Call) → AllPositive (table c)
-table-positive c = omega arith
-
 -- no power of x in a first list that passes is above the first term's
 first-within : (c : Call) → Passes (table c) → (listed : Listed (c .modulus)) → WithinX (Numbers c listed) (x-degree (Numbers c listed .ring) (A c listed)) (A c listed)
-first-within c pass listed = falling-within (c .modulus) (prime c listed) keys (c .first-list) (terms-fall (c .modulus) (c .first-list) (pass .1 .1 .0))
+first-within c pass listed = falling-within (c .modulus) (prime c listed) keys (c .first-list) (right-lists c pass .first .falls)
 
 -- DEMAND 3, first half
 pub accepted-is-greatest : (c : Call) (r : Result) → Candidate c r → AcceptedIsGreatest c r
-accepted-is-greatest c r (refused f h) e = let l : 0 < f .number = refuses-positive (table c) (table-positive c) f h in absurd (omega arith)
+accepted-is-greatest c r (refused f h) e = absurd (refuses-numbered (table c) tt f h e)
 accepted-is-greatest c r (answered pass listed f G x) e = (
   listed,
   subst (λ (H : Polynomial (Numbers c listed)). GreatestInX (Numbers c listed) (A c listed) (B c listed) H (f .degree))
@@ -87,7 +73,7 @@ common-divisor-comes-out c r meets pass listed d b u k kept sorted s only C fin 
 
     of-L : polynomial (F .ring) L ≡ C
     of-L = polynomial-of-terms-at F (monomials c listed)
-        (falling-of keys (c .skeleton) (keys-fall (c .skeleton) (none-wrong (WrongKey (c .skeleton)) (pass .1 .1 .1 .1 .1 .1 .0)))) C proposed
+        (falling-of keys (c .skeleton) (skeleton-falls c pass)) C proposed
 
     not-zero : ¬ (polynomial (F .ring) L ≡ S4 (F .ring) .𝟘)
     not-zero e = degree .nonzero (ap (λ (f : S4 (F .ring) .Car). f d) (sym of-L ∙ e))

@@ -59,13 +59,13 @@ module _ (K : Field) (A B : Polynomial K) where
   counts-add-up d points b u ks (keep {points = ps} {kept = ls} U i s) = let h : b +ₙ u +ₙ length ls ≡ length ps = counts-add-up d _ b u _ s in omega arith
 
   -- kept points rule out that all are bad
-  pub not-all-bad : (d : ℕ) (points : List (Point R)) (b u : ℕ) (k : Kept K) (ks : List (Kept K))
+  not-all-bad : (d : ℕ) (points : List (Point R)) (b u : ℕ) (k : Kept K) (ks : List (Kept K))
       → Sorted K A B d points b u (k ∷ ks) → ¬ AllBad K A B points
   not-all-bad d points b u k ks (bad x s) all = not-all-bad d _ _ u k ks s (all .1)
   not-all-bad d points b u k ks (unlucky e U i l s) all = i .good (all .0)
   not-all-bad d points b u k ks (keep U i s) all = i .good (all .0)
 
-  pub verdict-determined : (monomials : List Exponents) (kept : List (Kept K)) (n m : ℕ) (G H : Polynomial K)
+  verdict-determined : (monomials : List Exponents) (kept : List (Kept K)) (n m : ℕ) (G H : Polynomial K)
       → Verdict K A B monomials kept n G → Verdict K A B monomials kept m H → (n ≡ m) × (G ≡ H)
   verdict-determined monomials kept n m G H (none z) (none y) = (refl, refl)
   verdict-determined monomials kept n m G H (none z) (several t) = absurd (z (t .0) (t .2))

@@ -22,7 +22,7 @@ use Rattle.poly.specs.Laws.Lists.{FallFrom}
 use Rattle.poly.specs.Laws.Spread.{key-of-term, coefficient-of-term}
 use Rattle.divisor.specs.Rule.{Kept, Solution, without-zeros, made-monic}
 use Rattle.divisor.specs.Models.Monic.{leading, scaled-terms, monic-terms}
-use Rattle.divisor.specs.Laws.Monic.{value-without-zeros, inv-nonzero}
+use Rattle.divisor.specs.Laws.MonicValue.{value-without-zeros, inv-nonzero}
 use Rattle.divisor.specs.Laws.Degree.{solution-at-first}
 use Rattle.divisor.specs.Laws.MonicTerms.{AllBelow, leading-zero, scaled-zero, scaled-here, skeleton-of, Led, no-term, first-left, led, divisor-numbers}
 use Rattle.divisor.specs.Laws.Output.{divisor-within, read-numbers}

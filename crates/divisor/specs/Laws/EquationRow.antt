@@ -44,7 +44,7 @@ pub number-there : (p : ℕ) (ys zs ws : List ℕ) (i k : ℕ) → ¬ (exponents
 unfolding monomial-number
 number-there p ys zs ws i k n = rw (ne-eqb _ i n, monomial-number)
 
-pub number-below : (p : ℕ) → 0 < p → (ys zs ws : List ℕ) (i k : ℕ) → monomial-number p ys zs ws i k < p
+number-below : (p : ℕ) → 0 < p → (ys zs ws : List ℕ) (i k : ℕ) → monomial-number p ys zs ws i k < p
 number-below p pos ys zs ws i k = go (ℕ-discrete (exponents k .x) i)
   where
     go : Dec (exponents k .x ≡ i) → monomial-number p ys zs ws i k < p
@@ -68,7 +68,7 @@ module _ (p : ℕ) (P : Prime p) (y z w : ℕ) where
   R = K .ring
 
   -- the number of a monomial is its coefficient at the point
-  pub number-el : (i k : ℕ) → el p (monomial-number p (powers p y) (powers p z) (powers p w) i k) ≡ monomial-at K (at-numbers p P y z w) i (exponents k)
+  number-el : (i k : ℕ) → el p (monomial-number p (powers p y) (powers p z) (powers p w) i k) ≡ monomial-at K (at-numbers p P y z w) i (exponents k)
   number-el i k = go (ℕ-discrete (exponents k .x) i)
     where
       go : Dec (exponents k .x ≡ i) → el p (monomial-number p (powers p y) (powers p z) (powers p w) i k) ≡ monomial-at K (at-numbers p P y z w) i (exponents k)

@@ -1,15 +1,16 @@
 -- The turns of the loop that makes an equation's row: numbers for the keys passed, 0 for the rest, and last the multiplier's column. Assumes nothing.
-use mathlib.Core.Path.{_≡_, sym, _∙_, ap}
+use mathlib.Core.Path.{_≡_, refl, sym, _∙_, ap}
 use mathlib.Core.List.{List}
 use Prim.Native.Nat.{ℕ, _+_, _*_, _%_, _≤_, _<_}
-use native.Mathlib.Decide.{ℕ-discrete, decLt}
+use native.Mathlib.Decide.{ℕ-discrete}
 use native.Mathlib.Omega.{arith}
-use lib.ListN.{length, getD, set, replicate, length-set, length-replicate, getD-replicate, List·getD-eq-default}
+use lib.ListN.{length, getD, set, replicate, length-set, length-replicate}
 use lib.Seq.{getD-set-same, getD-set-other}
 use Rattle.poly.specs.Keys.{exponents}
 use Rattle.divisor.specs.declared.table.Row.{Row}
 use Rattle.divisor.specs.Models.Table.{COLUMNS, cell}
 use Rattle.divisor.specs.Models.Equation.{monomial-number, IsEquation}
+use Rattle.divisor.specs.Laws.TableRows.{replicate-all}
 use Rattle.divisor.specs.Laws.EquationRow.{number-here, number-there}
 
 -- the keys before j have their numbers, and all other cells are 0
@@ -23,11 +24,11 @@ with-cell r j v = record { cells = set (r .cells) j v }
 
 module _ (p : ℕ) (ys zs ws ks : List ℕ) (i : ℕ) where
   pub equation-start : EquationSo p ys zs ws ks i 0 (record { cells = replicate COLUMNS 0 })
-  equation-start = record { size = length-replicate {A = ℕ} COLUMNS 0; done = λ k l. absurd (omega arith); left = λ k l. go k (decLt k COLUMNS) }
-    where
-      go : (k : ℕ) → Dec (k < COLUMNS) → _≡_ {A = ℕ} (getD (replicate COLUMNS 0) k 0) 0
-      go k (yes l) = getD-replicate {A = ℕ} COLUMNS k 0 0 l
-      go k (no l) = List·getD-eq-default (replicate COLUMNS 0) 0 {n = k} (let e = length-replicate {A = ℕ} COLUMNS 0 in omega arith)
+  equation-start = record {
+    size = length-replicate {A = ℕ} COLUMNS 0;
+    done = λ k l. absurd (omega arith);
+    left = λ k l. replicate-all (λ a. a ≡ 0) COLUMNS k 0 0 refl refl;
+  }
 
   module _ (j : ℕ) (r : Row) (h : EquationSo p ys zs ws ks i j r) where
     pub equation-passed : ¬ (exponents (getD ks j 0) .x ≡ i) → EquationSo p ys zs ws ks i (j + 1) r

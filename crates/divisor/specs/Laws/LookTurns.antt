@@ -1,27 +1,26 @@
 -- The turns of the loop over the points that adds the equations of the kept ones. Assumes nothing.
 use mathlib.Core.Path.{_≡_, refl, sym, _∙_, ap, ap₂, subst}
 use mathlib.Core.List.{List, [], _∷_, _++_, map, append-assoc, append-nil}
-use Prim.Native.Nat.{ℕ, zero, suc, _+_, _-_, _*_, _/_, _≤_, _<_}
+use Prim.Native.Nat.{ℕ, zero, suc, _+_, _-_, _/_, _≤_, _<_}
 use native.Mathlib.Numerals.{add-one}
 use native.Mathlib.Omega.{arith}
-use lib.ListN.{length, getD, take, drop, length-append, length-drop}
-use lib.Seq.{length-take-le}
+use lib.ListN.{length, getD, take, length-append}
 use borrow.Author.Tests.{eq-eqb, ne-eqb}
 use Rattle.algebra.specs.Four.{Exponents}
 use Rattle.algebra.specs.Field.{Field}
 use Rattle.field.specs.Prime.{Prime}
 use Rattle.field.specs.Modulo.{Modulo}
 use Rattle.poly.specs.Keys.{exponents}
-use Rattle.divisor.specs.declared.table.Row.{Row}
 use Rattle.divisor.specs.declared.table.Table.{Table}
 use Rattle.divisor.specs.Rule.{Kept}
+use Rattle.divisor.specs.Candidate.{most-points, most-point-numbers}
 use Rattle.divisor.specs.Models.Table.{TableReady, empty-table}
-use Rattle.divisor.specs.Models.TableMeaning.{added, row-of, rows-of, AllReady}
-use Rattle.divisor.specs.Laws.TableAnswer.{added-append, added-ready, added-columns}
-use Rattle.divisor.specs.Models.Rows.{rows-at, rows-from}
+use Rattle.divisor.specs.Models.TableMeaning.{added}
+use Rattle.divisor.specs.Laws.TableAdded.{added-append, added-ready, added-columns, ready-append, rows-append}
+use Rattle.divisor.specs.Models.Rows.{rows-at, rows-from, kept-rows}
 use Rattle.divisor.specs.Models.Sorting.{alike}
 use Rattle.divisor.specs.Models.Equation.{kept-numbers, Equations-to}
-use Rattle.divisor.specs.Models.Looks.{next-column, point-at, image-at, kept-before, rows-so, Equations-before}
+use Rattle.divisor.specs.Models.Looks.{next-column, point-at, image-at, kept-before, Equations-before}
 
 module _ (K : Field) (es : List Exponents) (n : ℕ) where
   rows-from-more : (m : ℕ) (ks : List (Kept K)) (k : Kept K) (a : ℕ) → a ≡ m + length ks → rows-from K es n m (ks ++ (k ∷ [])) ≡ rows-from K es n m ks ++ rows-at K es n a k 0 8
@@ -32,42 +31,27 @@ pub next-fits : (n kept : ℕ) → kept < suc n → next-column n kept < suc n
 next-fits n zero l = omega arith
 next-fits n (suc kept) l = omega arith
 
--- a part of a list, of a times i, as the code takes it
-pub part-is : (a i : ℕ) (list : List ℕ) → take (a * i + a - a * i) (drop (a * i) list) ≡ take a (drop (a * i) list)
-part-is a i list = let e : a * i + a - a * i ≡ a = omega arith in ap (λ (n : ℕ). take n (drop (a * i) list)) e
-
-pub part-length : (a i : ℕ) (list : List ℕ) → a * i + a ≤ length list → length (take a (drop (a * i) list)) ≡ a
-part-length a i list l = length-take-le a (drop (a * i) list) (let e = length-drop (a * i) list in omega arith)
-
--- at most 32 points have their sizes
-pub enough : (points : ℕ) (sizes : List ℕ) → points ≤ 96 → length sizes ≡ 32 → points / 3 ≤ length sizes
-enough points sizes l e = omega arith
+-- every point has its size
+pub points-sized : (points : ℕ) (sizes : List ℕ) → points ≤ most-point-numbers → length sizes ≡ most-points → points / 3 ≤ length sizes
+points-sized points sizes l e = omega arith
 
 pub equations-to-at : {j p : ℕ} {t : Table} {ks point point′ image image′ : List ℕ} {column : ℕ} {r : Table} → point ≡ point′ → image ≡ image′
     → Equations-to j p t ks point image column r → Equations-to j p t ks point′ image′ column r
 equations-to-at {j} {p} {t} {ks} {column = column} {r} a b h =
     subst (λ (x : List ℕ × List ℕ). Equations-to j p t ks (x .0) (x .1) column r) (λ i. (a i, b i)) h
 
-pub rows-so-more : (K : Field) (es : List Exponents) (n : ℕ) (ks : List (Kept K)) (k : Kept K) → rows-so K es n (ks ++ (k ∷ [])) ≡ rows-so K es n ks ++ rows-at K es (suc n) (next-column n (length ks)) k 0 8
-rows-so-more K es n [] k = append-nil (rows-at K es (suc n) n k 0 8)
-rows-so-more K es n (x ∷ ks) k =
+kept-rows-more : (K : Field) (es : List Exponents) (n : ℕ) (ks : List (Kept K)) (k : Kept K) → kept-rows K es n (ks ++ (k ∷ [])) ≡ kept-rows K es n ks ++ rows-at K es (suc n) (next-column n (length ks)) k 0 8
+kept-rows-more K es n [] k = append-nil (rows-at K es (suc n) n k 0 8)
+kept-rows-more K es n (x ∷ ks) k =
     ap (rows-at K es (suc n) n x 0 8 ++_) (rows-from-more K es (suc n) 0 ks k (length ks) (omega arith))
     ∙ sym (append-assoc (rows-at K es (suc n) n x 0 8) (rows-from K es (suc n) 0 ks) (rows-at K es (suc n) (length ks) k 0 8))
 
-rows-append : (p c : ℕ) (xs ys : List Row) → rows-of p c (xs ++ ys) ≡ rows-of p c xs ++ rows-of p c ys
-rows-append p c [] ys = refl
-rows-append p c (x ∷ xs) ys = ap (row-of p c x ∷_) (rows-append p c xs ys)
-
-ready-append : (p : ℕ) (xs ys : List Row) → AllReady p xs → AllReady p ys → AllReady p (xs ++ ys)
-ready-append p [] ys h k = k
-ready-append p (x ∷ xs) ys h k = (h .0, ready-append p xs ys (h .1) k)
-
 module _ {p : ℕ} (P : Prime p) (m : ℕ) (points sizes work : List ℕ) (i : ℕ) where
-  pub kept-same : getD sizes i 0 ≡ m → kept-before P m points sizes work (i + 1) ≡ kept-before P m points sizes work i ++ (kept-numbers p P (point-at points i) (image-at work i) ∷ [])
+  kept-same : getD sizes i 0 ≡ m → kept-before P m points sizes work (i + 1) ≡ kept-before P m points sizes work i ++ (kept-numbers p P (point-at points i) (image-at work i) ∷ [])
   unfolding kept-before
   kept-same e = ap (kept-before P m points sizes work) (add-one i) ∙ rw (eq-eqb (getD sizes i 0) m e, kept-before)
 
-  pub kept-other : ¬ (getD sizes i 0 ≡ m) → kept-before P m points sizes work (i + 1) ≡ kept-before P m points sizes work i
+  kept-other : ¬ (getD sizes i 0 ≡ m) → kept-before P m points sizes work (i + 1) ≡ kept-before P m points sizes work i
   unfolding kept-before
   kept-other n = ap (kept-before P m points sizes work) (add-one i) ∙ rw (ne-eqb (getD sizes i 0) m n, kept-before) (append-nil (kept-before P m points sizes work i))
 
@@ -83,11 +67,11 @@ pub length-none : {p : ℕ} (P : Prime p) (m : ℕ) (points sizes work : List �
 unfolding kept-before
 length-none P m points sizes work = refl
 
-module _ (p : ℕ) (ks points sizes work : List ℕ) (m columns : ℕ) where
+module _ {p : ℕ} {ks points sizes work : List ℕ} {m columns : ℕ} where
   pub equations-start : Equations-before 0 p ks points sizes work m columns (empty-table columns)
   equations-start = record { rows = []; ready = tt; adds = (unfold added in refl); means = λ P. (unfold kept-before in refl) }
 
-  module _ (i : ℕ) (t : Table) (h : Equations-before i p ks points sizes work m columns t) where
+  module _ {i : ℕ} {t : Table} (h : Equations-before i p ks points sizes work m columns t) where
     pub equations-ready : TableReady p (empty-table columns) → TableReady p t
     equations-ready ready = subst (TableReady p) (sym (h .adds)) (added-ready p (empty-table columns) (h .rows) ready (h .ready))
 
@@ -99,7 +83,7 @@ module _ (p : ℕ) (ks points sizes work : List ℕ) (m columns : ℕ) where
       rows = h .rows;
       ready = h .ready;
       adds = h .adds;
-      means = λ P. h .means P ∙ ap (rows-so (Modulo p P) (map exponents ks) (alike m (take (length points / 3) sizes) - 1)) (sym (kept-other P m points sizes work i n));
+      means = λ P. h .means P ∙ ap (kept-rows (Modulo p P) (map exponents ks) (alike m (take (length points / 3) sizes) - 1)) (sym (kept-other P m points sizes work i n));
     }
 
     pub equations-same : getD sizes i 0 ≡ m → (column kept n : ℕ) (r : Table) → ((P : Prime p) → length (kept-before P m points sizes work i) ≡ kept)
@@ -114,8 +98,8 @@ module _ (p : ℕ) (ks points sizes work : List ℕ) (m columns : ℕ) where
           let K = Modulo p P in
           let N : alike m (take (length points / 3) sizes) - 1 ≡ n = omega arith in
           rows-append p (columns - 1) (h .rows) (g .rows)
-          ∙ ap₂ _++_ (h .means P ∙ ap (λ (a : ℕ). rows-so K (map exponents ks) a (kept-before P m points sizes work i)) N)
+          ∙ ap₂ _++_ (h .means P ∙ ap (λ (a : ℕ). kept-rows K (map exponents ks) a (kept-before P m points sizes work i)) N)
           (g .means P (columns - 1) (suc n) (next-column n kept) (omega arith) col fits ∙ ap (λ (a : ℕ). rows-at K (map exponents ks) (suc n) (next-column n a) k 0 8) (sym (counted P)))
-          ∙ sym (rows-so-more K (map exponents ks) n (kept-before P m points sizes work i) k)
-          ∙ ap₂ (rows-so K (map exponents ks)) (sym N) (sym (kept-same P m points sizes work i e));
+          ∙ sym (kept-rows-more K (map exponents ks) n (kept-before P m points sizes work i) k)
+          ∙ ap₂ (kept-rows K (map exponents ks)) (sym N) (sym (kept-same P m points sizes work i e));
     }

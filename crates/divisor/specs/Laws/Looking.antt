@@ -1,10 +1,9 @@
 -- Looking at a point of inputs that pass: its coordinates are in order, its record is the rule's, and the image has eight numbers. Assumes nothing.
-use mathlib.Core.Path.{sym, _∙_, subst}
+use mathlib.Core.Path.{sym, subst}
 use mathlib.Core.List.{List}
 use Prim.Native.Nat.{ℕ, _+_, _*_, _/_, _<_}
 use native.Mathlib.Omega.{arith}
-use lib.ListN.{length, drop}
-use lib.Seq.{getD-take, getD-drop}
+use lib.ListN.{length}
 use Rattle.field.specs.ModuliLaws.{listed-prime}
 use Rattle.field.specs.Prime.{Prime}
 use Rattle.field.specs.PrimeLaws.{prime-positive}
@@ -19,26 +18,26 @@ use Rattle.poly.specs.Laws.RightLists.{RightLists, lists-are-right}
 use Rattle.poly.specs.Laws.ImageModel.{image-of-answers}
 use Rattle.poly.specs.Laws.ValueModel.{zeros-eight}
 use Rattle.divisor.specs.Models.Looks.{point-at, look-at, LookReady}
-use Rattle.divisor.specs.Laws.LookTurns.{part-length}
+use Rattle.divisor.specs.Laws.Parts.{part-length, part-at}
 
 -- an answer's degree is below 8, and it has eight numbers below p
-pub answer-small : (p : ℕ) (P : Prime p) (A B : Polynomial (Modulo p P)) (at : Point (Modulo p P .ring)) (r : ImageRecord) → PointAnswer p P A B at r → r .degree < 8
+answer-small : (p : ℕ) (P : Prime p) (A B : Polynomial (Modulo p P)) (at : Point (Modulo p P .ring)) (r : ImageRecord) → PointAnswer p P A B at r → r .degree < 8
 answer-small p P A B at r (bad x) = omega arith
 answer-small p P A B at r (good d cs e i) = i .small
 
-pub answer-eight : (p : ℕ) (P : Prime p) (A B : Polynomial (Modulo p P)) (at : Point (Modulo p P .ring)) (r : ImageRecord) → PointAnswer p P A B at r → Eight p (r .coefficients)
+answer-eight : (p : ℕ) (P : Prime p) (A B : Polynomial (Modulo p P)) (at : Point (Modulo p P .ring)) (r : ImageRecord) → PointAnswer p P A B at r → Eight p (r .coefficients)
 answer-eight p P A B at r (bad x) = zeros-eight p (prime-positive P)
 answer-eight p P A B at r (good d cs e i) = e
 
 module _ (p : ℕ) (A B points work : List ℕ) (h : LookReady p A B points work) where
-  pub right : RightLists p A B
+  right : RightLists p A B
   right = lists-are-right p A B (h .lists)
 
   pub point-fine : (i : ℕ) → i < length points / 3 → Fine p A B (point-at points i)
   point-fine i l = record {
     lists = h .lists;
     three = part-length 3 i points (let t = h .threes in omega arith);
-    below = λ j b. subst (λ (n : ℕ). n < p) (sym (getD-take 3 (drop (3 * i) points) j 0 b ∙ getD-drop (3 * i) points j 0)) (h .below (3 * i + j) (let t = h .threes in omega arith));
+    below = λ j b. subst (λ (n : ℕ). n < p) (sym (part-at 3 i points j b)) (h .below (3 * i + j) (let t = h .threes in omega arith));
   }
 
   pub look-answers : (P : Prime p) (i : ℕ) → PointAnswer p P (terms-of p P A) (terms-of p P B) (point-of p P (point-at points i)) (look-at p A B points i)

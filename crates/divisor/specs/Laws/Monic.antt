@@ -1,22 +1,22 @@
--- Dropping zero coefficients and dividing by a number: what they do to the value and to the polynomial; a polynomial and its monic form
--- divide the same ones. Assumes nothing.
+-- Dropping zero coefficients and dividing by a number: what they do to the polynomial; a polynomial and its monic form divide the same ones.
+-- Assumes nothing.
 use mathlib.Core.Path.{_≡_, refl, sym, _∙_, ap, ap₂, fun-ext, subst}
 use mathlib.Core.List.{[], _∷_, map}
 use Prim.Native.Nat.{ℕ, zero, suc}
 use native.Mathlib.Nat.{add-zero}
-use Rattle.algebra.specs.Ring.{CommRing, zero-add, zero-mul, mul-zero, one-mul}
-use Rattle.algebra.specs.Solver.{_⊗_, _≗_, k0, ring3, ring4, ring5}
+use Rattle.algebra.specs.Ring.{CommRing, zero-add, zero-mul, one-mul}
+use Rattle.algebra.specs.Solver.{_⊗_, _≗_, ring4}
 use Rattle.algebra.specs.Series.{SeriesR, S4, constS}
-use Rattle.algebra.specs.Mono.{mono, mono-times, mono-null}
-use Rattle.algebra.specs.Divides.{pow, div-from}
+use Rattle.algebra.specs.Mono.{mono}
+use Rattle.algebra.specs.Divides.{div-from}
 use Rattle.algebra.specs.Four.{Exponents, D4, exponents-path}
 use Rattle.algebra.specs.Field.{Field, domain}
 use Rattle.algebra.specs.Monomial.{Term, polynomial, monomial, monomial-mul, monomial-zero, monomial-fin}
 use Rattle.poly.specs.Terms.{Polynomial}
-use Rattle.poly.specs.Value.{Point, value, number-at}
 use Rattle.poly.specs.Image.{Divides}
 use Rattle.divisor.specs.Rule.{without-zeros, divided-by, made-monic}
 use Rattle.divisor.specs.Demands.{MadeMonic, constant}
+use Rattle.divisor.specs.Laws.MonicValue.{inv-nonzero, NonZero, without-zeros-nonzero}
 
 -- the number 1 is the polynomial 1
 module _ (R : CommRing) where
@@ -30,11 +30,10 @@ module _ (R : CommRing) where
 
 module _ (K : Field) where
   open Field K using (ring as R)
-  open CommRing R using (Car, 𝟘, 𝟙, add as _+_, mul as _*_)
+  open CommRing R using (Car, 𝟘, 𝟙, mul as _*_)
 
-  infixl 60 _+_
   infixl 70 _*_
-  pub constant-one : constant K 𝟙 ≡ S4 R .𝟙
+  constant-one : constant K 𝟙 ≡ S4 R .𝟙
   unfolding monomial
   constant-one =
       ap (λ (u : SeriesR (SeriesR (SeriesR R)) .Car). mono (SeriesR (SeriesR (SeriesR R))) zero u)
@@ -46,66 +45,13 @@ module _ (K : Field) where
   monomial-times e u i = monomial-mul R e _ u i
       ∙ ap (λ (f : Exponents). monomial R f (u * i)) (exponents-path (add-zero (e .x)) (add-zero (e .y)) (add-zero (e .z)) (add-zero (e .w)))
 
-  pub inv-nonzero : (c : Car) → ¬ (c ≡ 𝟘) → ¬ (K .inv c ≡ 𝟘)
-  inv-nonzero c n e = K .one≢0 (sym (K .mul-inv c n) ∙ ap (c *_) e ∙ mul-zero R c)
-
-  abbrev pub NonZero : Polynomial K → Type 0
-  NonZero [] = Unit {0}
-  NonZero (t ∷ ts) = (¬ (t .coefficient ≡ 𝟘)) × NonZero ts
-
-  pub without-zeros-nonzero : (f : Polynomial K) → NonZero (without-zeros K f)
-  unfolding without-zeros
-  without-zeros-nonzero [] = tt
-  without-zeros-nonzero (t ∷ ts) = go (K .decide (t .coefficient)) (without-zeros-nonzero ts)
-    where
-      go : (z : Dec (t .coefficient ≡ 𝟘)) → NonZero (without-zeros K ts) → NonZero (elim z [ yes e ↦ without-zeros K ts | no q ↦ t ∷ without-zeros K ts ])
-      go (yes e) h = h
-      go (no q) h = (q, h)
-
-  -- every value is divided with the coefficients
-  pub value-divided : (c : Car) (f : Polynomial K) (at : Point R) (n : ℕ) → value R (divided-by K c f) at n ≡ value R f at n * K .inv c
-  unfolding value divided-by
-  value-divided c [] at n = sym (zero-mul R _)
-  value-divided c (t ∷ ts) at n =
-      let e = t .exponents in
-      ap₂ _+_
-      (ap (λ (u : Car). mono R (e .x) u n)
-      (ring5 R (λ u i a b c. u ⊗ i ⊗ a ⊗ b ⊗ c ≗ u ⊗ a ⊗ b ⊗ c ⊗ i) tt (t .coefficient) (K .inv c) (pow R (at .y) (e .y)) (pow R (at .z) (e .z)) (pow R (at .w) (e .w)))
-      ∙ mono-times R (e .x) (number-at R at t) (K .inv c) n)
-      (value-divided c ts at n)
-      ∙ sym (R .distrib _ _ _)
-
-  -- zero coefficients add nothing
-  number-null : (at : Point R) (t : Term R) → t .coefficient ≡ 𝟘 → number-at R at t ≡ 𝟘
-  number-null at t z =
-      let e = t .exponents in
-      ap (λ (u : Car). u * pow R (at .y) (e .y) * pow R (at .z) (e .z) * pow R (at .w) (e .w)) z
-      ∙ ring3 R (λ a b c. k0 ⊗ a ⊗ b ⊗ c ≗ k0) tt (pow R (at .y) (e .y)) (pow R (at .z) (e .z)) (pow R (at .w) (e .w))
-
-  pub value-without-zeros : (f : Polynomial K) (at : Point R) (n : ℕ) → value R (without-zeros K f) at n ≡ value R f at n
-  unfolding value without-zeros
-  value-without-zeros [] at n = refl
-  value-without-zeros (t ∷ ts) at n = go (K .decide (t .coefficient)) (value-without-zeros ts at n)
-    where
-      go : (z : Dec (t .coefficient ≡ 𝟘)) → value R (without-zeros K ts) at n ≡ value R ts at n
-          → value R (elim z [ yes e ↦ without-zeros K ts | no q ↦ t ∷ without-zeros K ts ]) at n ≡ mono R (t .exponents .x) (number-at R at t) n + value R ts at n
-      go (yes e) h = h ∙ sym (ap (_+ value R ts at n) (ap (λ (u : Car). mono R (t .exponents .x) u n) (number-null at t e) ∙ mono-null R (t .exponents .x) n) ∙ zero-add R _)
-      go (no q) h = ap (mono R (t .exponents .x) (number-at R at t) n +_) h
-
-  -- made monic, a value that was not 0 is not 0
-  pub made-monic-nonzero : (f : Polynomial K) (at : Point R) (n : ℕ) → NonZero f → ¬ (value R f at n ≡ 𝟘) → ¬ (value R (made-monic K f) at n ≡ 𝟘)
-  unfolding made-monic
-  made-monic-nonzero [] at n h q e = q e
-  made-monic-nonzero (t ∷ ts) at n h q e =
-      domain K .nzd _ _ tt tt q (inv-nonzero (t .coefficient) (h .0)) (sym (value-divided (t .coefficient) (t ∷ ts) at n) ∙ e)
-
-  pub polynomial-divided : (c : Car) (f : Polynomial K) → polynomial R (divided-by K c f) ≡ S4 R .mul (polynomial R f) (constant K (K .inv c))
+  polynomial-divided : (c : Car) (f : Polynomial K) → polynomial R (divided-by K c f) ≡ S4 R .mul (polynomial R f) (constant K (K .inv c))
   unfolding polynomial divided-by
   polynomial-divided c [] = sym (zero-mul (S4 R) _)
   polynomial-divided c (t ∷ ts) =
       ap₂ (S4 R .add) (sym (monomial-times (t .exponents) (t .coefficient) (K .inv c))) (polynomial-divided c ts) ∙ sym (S4 R .distrib _ _ _)
 
-  pub polynomial-without-zeros : (f : Polynomial K) → polynomial R (without-zeros K f) ≡ polynomial R f
+  polynomial-without-zeros : (f : Polynomial K) → polynomial R (without-zeros K f) ≡ polynomial R f
   unfolding polynomial without-zeros
   polynomial-without-zeros [] = refl
   polynomial-without-zeros (t ∷ ts) = go (K .decide (t .coefficient)) (polynomial-without-zeros ts)
@@ -116,7 +62,7 @@ module _ (K : Field) where
       go (no q) h = ap (S4 R .add (monomial R (t .exponents) (t .coefficient))) h
 
   -- a polynomial over a number that is not 0 divides what it divides
-  pub divided-divides : (c : Car) → ¬ (c ≡ 𝟘) → (f : Polynomial K) (g : S4 R .Car) → Divides K (polynomial R f) g → Divides K (polynomial R (divided-by K c f)) g
+  divided-divides : (c : Car) → ¬ (c ≡ 𝟘) → (f : Polynomial K) (g : S4 R .Car) → Divides K (polynomial R f) g → Divides K (polynomial R (divided-by K c f)) g
   divided-divides c n f g d = record {
     quo = S4 R .mul (constant K c) (d .quo);
     fin = D4 R (domain K) .P-mul _ _ (monomial-fin R (domain K) _ c tt) (d .fin);
@@ -126,14 +72,14 @@ module _ (K : Field) where
         ∙ S4 R .mul-one g;
   }
 
-  made-monic-divides : (f : Polynomial K) → NonZero f → (g : S4 R .Car) → Divides K (polynomial R f) g → Divides K (polynomial R (made-monic K f)) g
+  made-monic-divides : (f : Polynomial K) → NonZero K f → (g : S4 R .Car) → Divides K (polynomial R f) g → Divides K (polynomial R (made-monic K f)) g
   unfolding made-monic
   made-monic-divides [] h g d = d
   made-monic-divides (t ∷ ts) h g d = divided-divides (t .coefficient) (h .0) (t ∷ ts) g d
 
   -- the monic form divides what the polynomial divides
   pub monic-divides : (f : Polynomial K) (g : S4 R .Car) → Divides K (polynomial R f) g → Divides K (polynomial R (made-monic K (without-zeros K f))) g
-  monic-divides f g d = made-monic-divides (without-zeros K f) (without-zeros-nonzero f) g
+  monic-divides f g d = made-monic-divides (without-zeros K f) (without-zeros-nonzero K f) g
       (div-from (S4 R) (D4 R (domain K)) _ _ g (sym (polynomial-without-zeros f)) d)
 
   -- a factor that is not 0 makes no difference to the monic form
@@ -141,7 +87,7 @@ module _ (K : Field) where
   inv-of-quotient m c nm nc =
       sym (one-mul R _) ∙ ap (_* (K .inv c * I)) (sym (K .mul-inv m nm))
       ∙ ring4 R (λ m n c i. m ⊗ n ⊗ (c ⊗ i) ≗ n ⊗ (m ⊗ c ⊗ i)) tt m (K .inv m) (K .inv c) I
-      ∙ ap (K .inv m *_) (K .mul-inv (m * K .inv c) (domain K .nzd m (K .inv c) tt tt nm (inv-nonzero c nc))) ∙ R .mul-one _
+      ∙ ap (K .inv m *_) (K .mul-inv (m * K .inv c) (domain K .nzd m (K .inv c) tt tt nm (inv-nonzero K c nc))) ∙ R .mul-one _
     where
       I : Car
       I = K .inv (m * K .inv c)
@@ -153,7 +99,7 @@ module _ (K : Field) where
       (λ i. record { exponents = t .exponents; coefficient = (R .mul-assoc _ _ _ ∙ ap (t .coefficient *_) (inv-of-quotient m c nm nc)) i })
       (divided-twice m c nm nc ts)
 
-  made-monic-divided : (c : Car) → ¬ (c ≡ 𝟘) → (f : Polynomial K) → NonZero f → made-monic K (divided-by K c f) ≡ made-monic K f
+  made-monic-divided : (c : Car) → ¬ (c ≡ 𝟘) → (f : Polynomial K) → NonZero K f → made-monic K (divided-by K c f) ≡ made-monic K f
   unfolding made-monic divided-by
   made-monic-divided c nc [] h = refl
   made-monic-divided c nc (t ∷ ts) h = divided-twice (t .coefficient) c (h .0) nc (t ∷ ts)
@@ -170,20 +116,20 @@ module _ (K : Field) where
           → _≡_ {A = Polynomial K} (elim z [ yes e ↦ without-zeros K (divided-by K c ts) | no q ↦ over-c ∷ without-zeros K (divided-by K c ts) ])
           (divided-by K c (elim u [ yes e ↦ without-zeros K ts | no q ↦ t ∷ without-zeros K ts ]))
       go (yes e) (yes z) h = h
-      go (yes e) (no n) h = absurd (domain K .nzd _ _ tt tt n (inv-nonzero c nc) e)
+      go (yes e) (no n) h = absurd (domain K .nzd _ _ tt tt n (inv-nonzero K c nc) e)
       go (no q) (yes z) h = absurd (q (ap (_* K .inv c) z ∙ zero-mul R _))
       go (no q) (no n) h = ap (over-c ∷_) h
 
   -- the monic form of a polynomial and of a multiple are the same
   pub monic-of-multiple : (c : Car) → ¬ (c ≡ 𝟘) → (f : Polynomial K) → made-monic K (without-zeros K (divided-by K c f)) ≡ made-monic K (without-zeros K f)
-  monic-of-multiple c nc f = ap (made-monic K) (without-zeros-divided c nc f) ∙ made-monic-divided c nc (without-zeros K f) (without-zeros-nonzero f)
+  monic-of-multiple c nc f = ap (made-monic K) (without-zeros-divided c nc f) ∙ made-monic-divided c nc (without-zeros K f) (without-zeros-nonzero K f)
 
   pub divided-monomials : (c : Car) (f : Polynomial K) → map (λ (t : Term R). t .exponents) (divided-by K c f) ≡ map (λ (t : Term R). t .exponents) f
   unfolding divided-by
   divided-monomials c [] = refl
   divided-monomials c (t ∷ ts) = ap (t .exponents ∷_) (divided-monomials c ts)
 
-  nonzero-made-monic : (f : Polynomial K) → NonZero f → ¬ (polynomial R f ≡ S4 R .𝟘) → MadeMonic K (polynomial R f) (made-monic K f)
+  nonzero-made-monic : (f : Polynomial K) → NonZero K f → ¬ (polynomial R f ≡ S4 R .𝟘) → MadeMonic K (polynomial R f) (made-monic K f)
   unfolding made-monic
   nonzero-made-monic [] h n = absurd (n (unfold polynomial in refl))
   nonzero-made-monic (t ∷ ts) h n = record {
@@ -199,4 +145,4 @@ module _ (K : Field) where
   -- the monic form of a polynomial that is not 0
   pub monic-is-made-monic : (f : Polynomial K) → ¬ (polynomial R f ≡ S4 R .𝟘) → MadeMonic K (polynomial R f) (made-monic K (without-zeros K f))
   monic-is-made-monic f n = subst (λ (C : S4 R .Car). MadeMonic K C (made-monic K (without-zeros K f))) (polynomial-without-zeros f)
-      (nonzero-made-monic (without-zeros K f) (without-zeros-nonzero f) (λ e. n (sym (polynomial-without-zeros f) ∙ e)))
+      (nonzero-made-monic (without-zeros K f) (without-zeros-nonzero K f) (λ e. n (sym (polynomial-without-zeros f) ∙ e)))

@@ -1,7 +1,7 @@
 -- The numbers that the code makes of a solution are the terms of its divisor. Assumes nothing.
 use mathlib.Core.Path.{_≡_, refl, sym, _∙_, ap, ap₂, subst}
 use mathlib.Core.List.{List, [], _∷_, map}
-use Prim.Native.Nat.{ℕ, suc, _*_, _%_, _<_}
+use Prim.Native.Nat.{ℕ, zero, suc, _*_, _%_, _<_}
 use native.Mathlib.Decide.{ℕ-discrete, decLt}
 use native.Mathlib.Nat.{mod-mod}
 use native.Mathlib.Omega.{arith}
@@ -20,19 +20,25 @@ use Rattle.poly.specs.Keys.{key, exponents}
 use Rattle.poly.specs.Terms.{Polynomial, numbers-of, packed}
 use Rattle.poly.specs.Laws.Keys.{key-of-exponents}
 use Rattle.divisor.specs.Rule.{without-zeros, divided-by, made-monic}
+use Rattle.divisor.specs.Models.Rows.{with-coefficients}
 use Rattle.divisor.specs.Models.Monic.{leading, scaled-terms, monic-terms}
-use Rattle.divisor.specs.Laws.Equations.{with-coefficients}
+use Rattle.divisor.specs.Laws.MonicValue.{zero-dropped, nonzero-kept}
 
 -- each number is below p
 abbrev pub AllBelow : ℕ → List ℕ → Type 0
 AllBelow p [] = Unit {0}
 AllBelow p (c ∷ cs) = (c < p) × AllBelow p cs
 
+pub all-below : (p n : ℕ) (l : List ℕ) → ((i : ℕ) → getD l i 0 < p) → AllBelow p (take n l)
+all-below p zero l h = tt
+all-below p (suc n) [] h = tt
+all-below p (suc n) (x ∷ l) h = (h 0, all-below p n l (λ i. h (suc i)))
+
 pub leading-zero : (c : ℕ) (cs : List ℕ) → c ≡ 0 → leading (c ∷ cs) ≡ leading cs
 unfolding leading
 leading-zero c cs e = rw (eq-eqb c 0 e, leading)
 
-pub leading-here : (c : ℕ) (cs : List ℕ) → ¬ (c ≡ 0) → leading (c ∷ cs) ≡ c
+leading-here : (c : ℕ) (cs : List ℕ) → ¬ (c ≡ 0) → leading (c ∷ cs) ≡ c
 unfolding leading
 leading-here c cs n = rw (ne-eqb c 0 n, leading)
 
@@ -76,27 +82,14 @@ module _ (p : ℕ) (P : Prime p) where
     first-term = record { exponents = exponents k; coefficient = el p c }
 
     without-zero : c ≡ 0 → without-zeros K (skeleton-of (k ∷ ks) (c ∷ cs)) ≡ without-zeros K (skeleton-of ks cs)
-    unfolding without-zeros
-    without-zero e = go (K .decide (el p c))
-      where
-        go : (t : Dec (el p c ≡ el p 0)) → _≡_ {A = Polynomial K} (elim t [ yes q ↦ without-zeros K (skeleton-of ks cs) | no n ↦ first-term ∷ without-zeros K (skeleton-of ks cs) ]) (without-zeros K (skeleton-of ks cs))
-        go (yes q) = refl
-        go (no n) = absurd (n (ap (el p) e))
+    without-zero e = zero-dropped K first-term (skeleton-of ks cs) (ap (el p) e)
 
     with-first : c < p → ¬ (c ≡ 0) → without-zeros K (skeleton-of (k ∷ ks) (c ∷ cs)) ≡ first-term ∷ without-zeros K (skeleton-of ks cs)
-    unfolding without-zeros
-    with-first l n = go (K .decide (el p c))
-      where
-        go : (t : Dec (el p c ≡ el p 0)) → _≡_ {A = Polynomial K} (elim t [ yes q ↦ without-zeros K (skeleton-of ks cs) | no n ↦ first-term ∷ without-zeros K (skeleton-of ks cs) ]) (first-term ∷ without-zeros K (skeleton-of ks cs))
-        go (yes q) = absurd (el-nonzero p c l n q)
-        go (no m) = refl
+    with-first l n = nonzero-kept K first-term (skeleton-of ks cs) (el-nonzero p c l n)
 
   number-divided : (k c : ℕ) (u : Fp p) → packed (key (exponents k)) (mul (el p c) u .val) ≡ packed k ((c * u .val) % p)
   number-divided k c u = ap₂ packed (key-of-exponents k)
-      (ap (λ (x : Fp p). mul (el p c) x .val) (sym (el-val u)) ∙ ap (λ (x : Fp p). x .val) (sym (product-el p c (u .val))) ∙ val-of-el p ((c * u .val) % p) ∙ again)
-    where
-      again : (c * u .val) % p % p ≡ (c * u .val) % p
-      again = mod-mod (c * u .val) p
+      (ap (λ (x : Fp p). mul (el p c) x .val) (sym (el-val u)) ∙ ap (λ (x : Fp p). x .val) (sym (product-el p c (u .val))) ∙ val-of-el p ((c * u .val) % p) ∙ mod-mod (c * u .val) p)
 
   -- zeros dropped and all divided by a number
   divided-numbers : (a : Fp p) (ks cs : List ℕ) → length cs ≡ length ks → AllBelow p cs

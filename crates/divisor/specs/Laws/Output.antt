@@ -76,6 +76,11 @@ module _ (K : Field) where
       let c = made-monic-within (without-zeros K (s .skeleton)) (b .keyed) in
       record { keyed = c .keyed; count = let l = a .count in let m = b .count in let n = c .count in omega arith }
 
+module _ (p : ℕ) (P : Prime p) where
+  pub length-numbers : (f : Polynomial (Modulo p P)) → length (numbers-of p P f) ≡ length f
+  length-numbers [] = refl
+  length-numbers (t ∷ ts) = ap suc (length-numbers ts)
+
 module _ (p : ℕ) (P : Prime p) (small : p < base) where
   -- the numbers of a polynomial, read again
   pub read-numbers : (f : Polynomial (Modulo p P)) → Keyed (Modulo p P) f → terms-of p P (numbers-of p P f) ≡ f
@@ -92,15 +97,11 @@ module _ (p : ℕ) (P : Prime p) (small : p < base) where
       same-coefficient : el p (coefficient-of (number-of p P t)) ≡ t .coefficient
       same-coefficient = ap (el p) (coefficient-of-term (key (t .exponents)) (t .coefficient .val) below) ∙ el-val (t .coefficient)
 
-  length-numbers : (f : Polynomial (Modulo p P)) → length (numbers-of p P f) ≡ length f
-  length-numbers [] = refl
-  length-numbers (t ∷ ts) = ap suc (length-numbers ts)
-
   -- what is written first can be read there
-  pub output-read : (f : Polynomial (Modulo p P)) (out : List ℕ) → Keyed (Modulo p P) f
+  output-read : (f : Polynomial (Modulo p P)) (out : List ℕ) → Keyed (Modulo p P) f
       → terms-of p P (take (length f) (written (numbers-of p P f) out)) ≡ f
   output-read f out h =
-      ap (λ (n : ℕ). terms-of p P (take n (written (numbers-of p P f) out))) (sym (length-numbers f))
+      ap (λ (n : ℕ). terms-of p P (take n (written (numbers-of p P f) out))) (sym (length-numbers p P f))
       ∙ ap (terms-of p P) (take-at (numbers-of p P f) _ _ refl) ∙ read-numbers f h
 
 -- an answer's G has keys, and the record counts its terms

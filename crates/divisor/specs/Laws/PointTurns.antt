@@ -18,9 +18,9 @@ use Rattle.poly.specs.Coefficients.{series}
 use Rattle.divisor.specs.declared.table.Row.{Row}
 use Rattle.divisor.specs.declared.table.Table.{Table}
 use Rattle.divisor.specs.Rule.{Kept}
-use Rattle.divisor.specs.Models.Table.{TableReady, RowReady, with-row}
-use Rattle.divisor.specs.Models.TableMeaning.{row-of, rows-of, added, AllReady}
-use Rattle.divisor.specs.Laws.TableAnswer.{added-append, added-ready}
+use Rattle.divisor.specs.Models.Table.{TableReady, with-row}
+use Rattle.divisor.specs.Models.TableMeaning.{added}
+use Rattle.divisor.specs.Laws.TableAdded.{added-append, added-ready, ready-append, rows-append}
 use Rattle.divisor.specs.Models.Rows.{row, rows-at}
 use Rattle.divisor.specs.Models.Equation.{IsEquation, Equations-to, kept-numbers}
 use Rattle.divisor.specs.Laws.EquationRow.{equation-ready, equation-row}
@@ -29,14 +29,6 @@ use Rattle.divisor.specs.Laws.EquationRow.{equation-ready, equation-row}
 rows-at-more : (K : Field) (es : List Exponents) (n m : ℕ) (k : Kept K) (i j a : ℕ) → a ≡ i + j → rows-at K es n m k i (suc j) ≡ rows-at K es n m k i j ++ (row K es n m k a ∷ [])
 rows-at-more K es n m k i zero a e = let q : i ≡ a = omega arith in ap (λ (b : ℕ). row K es n m k b ∷ []) q
 rows-at-more K es n m k i (suc j) a e = ap (row K es n m k i ∷_) (rows-at-more K es n m k (suc i) j a (omega arith))
-
-rows-more : (p c : ℕ) (rows : List Row) (e : Row) → rows-of p c (rows ++ (e ∷ [])) ≡ rows-of p c rows ++ (row-of p c e ∷ [])
-rows-more p c [] e = refl
-rows-more p c (r ∷ rows) e = ap (row-of p c r ∷_) (rows-more p c rows e)
-
-ready-more : (p : ℕ) (rows : List Row) (e : Row) → AllReady p rows → RowReady p e → AllReady p (rows ++ (e ∷ []))
-ready-more p [] e h r = (r, tt)
-ready-more p (x ∷ rows) e h r = (h .0, ready-more p rows e (h .1) r)
 
 -- three tables of powers
 record Tables : Type 0 where
@@ -63,10 +55,10 @@ module _ (p : ℕ) (t : Table) (ks point image : List ℕ) (column : ℕ) where
       → Equations-to j p t ks point image column r → s ≡ with-row p r e → Equations-to (j + 1) p t ks point image column s
   point-next j r u e s pos below eu is h q = record {
     rows = h .rows ++ (e ∷ []);
-    ready = ready-more p (h .rows) e (h .ready) (equation-ready p pos _ _ _ ks j column u e (subst (λ (n : ℕ). n < p) (sym eu) (mod-lt _ pos)) is);
+    ready = ready-append p (h .rows) (e ∷ []) (h .ready) (equation-ready p pos _ _ _ ks j column u e (subst (λ (n : ℕ). n < p) (sym eu) (mod-lt _ pos)) is, tt);
     adds = q ∙ ap (λ (x : Table). with-row p x e) (h .adds) ∙ sym (added-append p t (h .rows) (e ∷ []) ∙ (unfold added in refl));
     means = λ P c n m l b d.
-        rows-more p c (h .rows) e
+        rows-append p c (h .rows) (e ∷ [])
         ∙ ap₂ (λ xs x. xs ++ (x ∷ [])) (h .means P c n m l b d)
         (equation-row p P (getD point 0 0) (getD point 1 0) (getD point 2 0) ks j column e u c n m is b d l (series p image)
         (ap (el p) eu ∙ el-mod p (p - getD image j 0) ∙ opposite-el p (getD image j 0) pos (omega arith)))

@@ -2,13 +2,11 @@
 use mathlib.Core.Path.{_≡_, refl, sym, _∙_, ap, ap₂, subst}
 use mathlib.Core.Bool.{Bool, true, false}
 use mathlib.Core.List.{List, [], _∷_, _++_, append-assoc, append-nil}
-use Prim.Native.Nat.{ℕ, zero, suc, _+_, _*_, _≤_}
-use native.Mathlib.Decide.{ℕ-discrete}
+use Prim.Native.Nat.{ℕ, zero, suc, _+_, _*_, _/_, _≤_}
 use native.Mathlib.Omega.{arith}
 use lib.Dec.{eqb}
 use lib.ListN.{length, getD, take, drop, length-drop}
 use lib.Seq.{drop-cons, drop-drop}
-use borrow.Author.Tests.{eq-eqb, ne-eqb}
 use Rattle.field.specs.Prime.{Prime}
 use Rattle.field.specs.Modulo.{Modulo}
 use Rattle.poly.specs.declared.ImageRecord.{ImageRecord}
@@ -16,33 +14,12 @@ use Rattle.poly.specs.Terms.{terms-of}
 use Rattle.poly.specs.Value.{Point}
 use Rattle.poly.specs.ImageCall.{point-of}
 use Rattle.divisor.specs.Rule.{Kept}
-use Rattle.divisor.specs.Candidate.{points-of}
-use Rattle.divisor.specs.Models.Sorting.{sizes-of, alike, kept-of}
+use Rattle.divisor.specs.Candidate.{most-points, points-of}
+use Rattle.divisor.specs.Models.Sorting.{sizes-of, kept-of}
 use Rattle.divisor.specs.Models.Equation.{kept-numbers}
 use Rattle.divisor.specs.Models.Looks.{point-at, image-at, look-at, LookReady, Looks, kept-before}
 use Rattle.divisor.specs.Laws.Sorting.{Looked, none, one}
 use Rattle.divisor.specs.Laws.Looking.{look-answers}
-
--- a size counts at most as often as there are sizes, and so do two different ones together
-pub alike-most : (a : ℕ) (l : List ℕ) → alike a l ≤ length l
-unfolding alike
-alike-most a [] = omega arith
-alike-most a (s ∷ l) = go (eqb s a) (alike-most a l)
-  where
-    go : (b : Bool) → alike a l ≤ length l → elim b as (λ _. ℕ) [ true ↦ suc (alike a l) | false ↦ alike a l ] ≤ suc (length l)
-    go true h = omega arith
-    go false h = omega arith
-
-pub alike-two : (a b : ℕ) → ¬ (a ≡ b) → (l : List ℕ) → alike a l + alike b l ≤ length l
-unfolding alike
-alike-two a b n [] = omega arith
-alike-two a b n (s ∷ l) = go (ℕ-discrete s a) (ℕ-discrete s b) (alike-two a b n l)
-  where
-    go : Dec (s ≡ a) → Dec (s ≡ b) → alike a l + alike b l ≤ length l → alike a (s ∷ l) + alike b (s ∷ l) ≤ suc (length l)
-    go (yes d) (yes e) h = absurd (n (sym d ∙ e))
-    go (yes d) (no e) h = rw (eq-eqb s a d, alike) (rw (ne-eqb s b e, alike) (omega arith))
-    go (no d) (yes e) h = rw (ne-eqb s a d, alike) (rw (eq-eqb s b e, alike) (omega arith))
-    go (no d) (no e) h = rw (ne-eqb s a d, alike) (rw (ne-eqb s b e, alike) (omega arith))
 
 -- three numbers of the points are one point
 module _ (p : ℕ) (P : Prime p) where
@@ -52,6 +29,13 @@ module _ (p : ℕ) (P : Prime p) where
   next-point (y ∷ []) h = absurd (omega arith)
   next-point (y ∷ z ∷ []) h = absurd (omega arith)
   next-point (y ∷ z ∷ w ∷ l) h = refl
+
+  pub points-length : (l : List ℕ) → length (points-of p P l) ≡ length l / 3
+  unfolding points-of
+  points-length [] = refl
+  points-length (y ∷ []) = refl
+  points-length (y ∷ z ∷ []) = refl
+  points-length (y ∷ z ∷ w ∷ l) = let h = points-length l in omega arith
 
   no-point : (l : List ℕ) → length l ≡ 0 → points-of p P l ≡ []
   unfolding points-of
@@ -83,7 +67,7 @@ module _ (p : ℕ) (A B points : List ℕ) where
         subst (λ (l : List (Point (Modulo p P .ring))). Looked P (terms-of p P A) (terms-of p P B) l (looks-from p A B points i (suc n))) (sym (points-next P i n e))
         (one (look-answers p A B points work ready P i) (seen (suc i) n (omega arith)))
 
-  module _ (N : ℕ) (before after sizes : List ℕ) (few : N ≤ 32) (looks : Looks N p A B points before after sizes) where
+  module _ (N : ℕ) (before after sizes : List ℕ) (few : N ≤ most-points) (looks : Looks N p A B points before after sizes) where
     sizes-from : (i n : ℕ) → i + n ≡ N → take n (drop i sizes) ≡ sizes-of (looks-from p A B points i n)
     sizes-from i zero e = refl
     sizes-from i (suc n) e =

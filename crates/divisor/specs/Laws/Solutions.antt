@@ -1,6 +1,6 @@
 -- The numbers that solve the rows and the unknowns that solve the equations are each other's: so none, one and several agree. Assumes nothing.
 use mathlib.Core.Path.{_≡_, refl, sym, _∙_, ap, ap₂, subst}
-use mathlib.Core.List.{List, [], _∷_, _++_, map}
+use mathlib.Core.List.{List, [], _∷_, _++_, map, append-nil}
 use Prim.Native.Nat.{ℕ, suc, _+_ as _+ₙ_}
 use native.Mathlib.Omega.{arith}
 use lib.ListN.{length, length-append}
@@ -12,8 +12,8 @@ use Rattle.algebra.specs.Linear.{SolvesAll}
 use Rattle.algebra.specs.Linear as linear
 use Rattle.poly.specs.Terms.{Polynomial}
 use Rattle.divisor.specs.Rule.{Kept, Unknowns, First, Equations, Solution, NoSolution, OnlySolution, SeveralSolutions}
-use Rattle.divisor.specs.Models.Rows.{all-rows}
-use Rattle.divisor.specs.Laws.Equations.{with-coefficients, behind, unknowns-of, rest, vector-of, rows-say, say-rows}
+use Rattle.divisor.specs.Models.Rows.{all-rows, with-coefficients, behind, unknowns-of, after-first, vector-of}
+use Rattle.divisor.specs.Laws.Equations.{rows-say, say-rows}
 
 module _ (K : Field) where
   open Field K using (ring as R)
@@ -74,12 +74,11 @@ module _ (K : Field) where
   length-own (t ∷ ts) = ap suc (length-own ts)
 
   with-coefficients-own : (f : Polynomial K) → with-coefficients K (monomials-of f) (coefficients f) ≡ f
-  with-coefficients-own [] = refl
-  with-coefficients-own (t ∷ ts) = ap (t ∷_) (with-coefficients-own ts)
+  with-coefficients-own f = ap (with-coefficients K (monomials-of f)) (sym (append-nil (coefficients f))) ∙ with-own f []
 
-  first-rest : (ms : List Car) → First K 𝟙 ms → ms ≡ 𝟙 ∷ rest K ms
-  first-rest [] h = absurd h
-  first-rest (m ∷ ms) h = ap (_∷ ms) h
+  first-and-after : (ms : List Car) → First K 𝟙 ms → ms ≡ 𝟙 ∷ after-first K ms
+  first-and-after [] h = absurd h
+  first-and-after (m ∷ ms) h = ap (_∷ ms) h
 
   equations-length : (f : Polynomial K) (ks : List (Kept K)) (ms : List Car) → Equations K f ks ms → length ms ≡ length ks
   equations-length f [] [] h = refl
@@ -89,13 +88,10 @@ module _ (K : Field) where
 
   module _ (es : List Exponents) (k : Kept K) (ks : List (Kept K)) where
     -- as many unknowns as there are monomials and kept points after the first
-    abbrev pub count : ℕ
-    count = length es +ₙ length ks
+    abbrev SolvesRows : List Car → Type 0
+    SolvesRows = linear.Solution K (length es +ₙ length ks) (all-rows K es k ks)
 
-    abbrev pub Solves-rows : List Car → Type 0
-    Solves-rows = linear.Solution K (length es +ₙ length ks) (all-rows K es k ks)
-
-    pub solution-of-rows : (v : List Car) → Solves-rows v → Solution K es (k ∷ ks) (unknowns-of K es v)
+    solution-of-rows : (v : List Car) → SolvesRows v → Solution K es (k ∷ ks) (unknowns-of K es v)
     solution-of-rows v h =
         let s = split es (length ks) v (h .unknowns) in
         record {
@@ -106,33 +102,33 @@ module _ (K : Field) where
               (rows-say K es (s .cs) (s .sized) (s .ms) k ks (s .left) (subst (λ (w : List Car). SolvesAll K w (all-rows K es k ks)) (s .parts) (h .solves))));
         }
 
-    pub rows-of-solution : (s : Unknowns K) → Solution K es (k ∷ ks) s → Solves-rows (vector-of K s)
+    rows-of-solution : (s : Unknowns K) → Solution K es (k ∷ ks) s → SolvesRows (vector-of K s)
     rows-of-solution s h = record {
-      unknowns = length-append (coefficients (s .skeleton)) (rest K (s .multipliers)) ∙ ap₂ _+ₙ_ sized left;
-      solves = say-rows K es (coefficients (s .skeleton)) sized (rest K (s .multipliers)) k ks left
-          (subst (λ (f : Polynomial K). Equations K f (k ∷ ks) (𝟙 ∷ rest K (s .multipliers)))
+      unknowns = length-append (coefficients (s .skeleton)) (after-first K (s .multipliers)) ∙ ap₂ _+ₙ_ sized left;
+      solves = say-rows K es (coefficients (s .skeleton)) sized (after-first K (s .multipliers)) k ks left
+          (subst (λ (f : Polynomial K). Equations K f (k ∷ ks) (𝟙 ∷ after-first K (s .multipliers)))
           (sym (subst (λ (ms : List Exponents). with-coefficients K ms (coefficients (s .skeleton)) ≡ s .skeleton) (h .proposed) (with-coefficients-own (s .skeleton)))) holds);
     }
       where
-        holds : Equations K (s .skeleton) (k ∷ ks) (𝟙 ∷ rest K (s .multipliers))
-        holds = subst (Equations K (s .skeleton) (k ∷ ks)) (first-rest (s .multipliers) (h .one-first)) (h .holds)
+        holds : Equations K (s .skeleton) (k ∷ ks) (𝟙 ∷ after-first K (s .multipliers))
+        holds = subst (Equations K (s .skeleton) (k ∷ ks)) (first-and-after (s .multipliers) (h .one-first)) (h .holds)
 
-        left : length (rest K (s .multipliers)) ≡ length ks
-        left = let e = equations-length (s .skeleton) (k ∷ ks) (𝟙 ∷ rest K (s .multipliers)) holds in omega arith
+        left : length (after-first K (s .multipliers)) ≡ length ks
+        left = let e = equations-length (s .skeleton) (k ∷ ks) (𝟙 ∷ after-first K (s .multipliers)) holds in omega arith
 
         sized : length (coefficients (s .skeleton)) ≡ length es
         sized = length-own (s .skeleton) ∙ ap length (h .proposed)
 
-    pub unknowns-of-vector : (s : Unknowns K) → Solution K es (k ∷ ks) s → unknowns-of K es (vector-of K s) ≡ s
-    unknowns-of-vector s h = λ i. record { skeleton = same i; multipliers = (ap (𝟙 ∷_) later ∙ sym (first-rest (s .multipliers) (h .one-first))) i }
+    unknowns-of-vector : (s : Unknowns K) → Solution K es (k ∷ ks) s → unknowns-of K es (vector-of K s) ≡ s
+    unknowns-of-vector s h = λ i. record { skeleton = same i; multipliers = (ap (𝟙 ∷_) later ∙ sym (first-and-after (s .multipliers) (h .one-first))) i }
       where
         same : with-coefficients K es (vector-of K s) ≡ s .skeleton
-        same = subst (λ (ms : List Exponents). with-coefficients K ms (vector-of K s) ≡ s .skeleton) (h .proposed) (with-own (s .skeleton) (rest K (s .multipliers)))
+        same = subst (λ (ms : List Exponents). with-coefficients K ms (vector-of K s) ≡ s .skeleton) (h .proposed) (with-own (s .skeleton) (after-first K (s .multipliers)))
 
-        later : behind K es (vector-of K s) ≡ rest K (s .multipliers)
-        later = subst (λ (ms : List Exponents). behind K ms (vector-of K s) ≡ rest K (s .multipliers)) (h .proposed) (behind-own (s .skeleton) (rest K (s .multipliers)))
+        later : behind K es (vector-of K s) ≡ after-first K (s .multipliers)
+        later = subst (λ (ms : List Exponents). behind K ms (vector-of K s) ≡ after-first K (s .multipliers)) (h .proposed) (behind-own (s .skeleton) (after-first K (s .multipliers)))
 
-    pub vector-of-unknowns : (v : List Car) → Solves-rows v → vector-of K (unknowns-of K es v) ≡ v
+    vector-of-unknowns : (v : List Car) → SolvesRows v → vector-of K (unknowns-of K es v) ≡ v
     vector-of-unknowns v h =
         let s = split es (length ks) v (h .unknowns) in
         ap₂ (λ (f : Polynomial K) (ms : List Car). coefficients f ++ ms) (s .same-skeleton) (s .same-behind)

@@ -1,9 +1,9 @@
 -- Sorting by size is the sorting of the rule: sizes of 0 are bad points, the least size is that of the kept ones. Assumes nothing.
-use mathlib.Core.Path.{_≡_, refl, sym, ap, subst}
+use mathlib.Core.Path.{_≡_, refl, sym, _∙_, ap, subst}
 use mathlib.Core.Logic.{_⊎_, inl, inr}
 use mathlib.Core.Bool.{Bool, true, false}
 use mathlib.Core.List.{List, [], _∷_}
-use Prim.Native.Nat.{ℕ, zero, suc, _≤_, _<_}
+use Prim.Native.Nat.{ℕ, zero, suc, _+_, _≤_, _<_}
 use native.Mathlib.Decide.{ℕ-discrete, decLt}
 use native.Mathlib.Omega.{arith}
 use lib.Dec.{eqb}
@@ -25,7 +25,7 @@ pub data Lesser (a b : ℕ) : ℕ → Type 0 where
   first : (b ≡ 0) ⊎ ((¬ (a ≡ 0)) × (a ≤ b)) → Lesser a b a
   second : ¬ (b ≡ 0) → (a ≡ 0) ⊎ (b < a) → Lesser a b b
 
-pub lesser-is : (a b : ℕ) → Lesser a b (lesser a b)
+lesser-is : (a b : ℕ) → Lesser a b (lesser a b)
 unfolding lesser
 lesser-is a b = go (ℕ-discrete b 0) (ℕ-discrete a 0) (decLt b a)
   where
@@ -64,6 +64,28 @@ alike-later m s sizes l = go (eqb s m)
     go true = omega arith
     go false = l
 
+-- a size counts at most as often as there are sizes, and so do two different ones together
+pub alike-most : (a : ℕ) (l : List ℕ) → alike a l ≤ length l
+unfolding alike
+alike-most a [] = omega arith
+alike-most a (s ∷ l) = go (eqb s a) (alike-most a l)
+  where
+    go : (b : Bool) → alike a l ≤ length l → elim b as (λ _. ℕ) [ true ↦ suc (alike a l) | false ↦ alike a l ] ≤ suc (length l)
+    go true h = omega arith
+    go false h = omega arith
+
+pub alike-two : (a b : ℕ) → ¬ (a ≡ b) → (l : List ℕ) → alike a l + alike b l ≤ length l
+unfolding alike
+alike-two a b n [] = omega arith
+alike-two a b n (s ∷ l) = go (ℕ-discrete s a) (ℕ-discrete s b) (alike-two a b n l)
+  where
+    go : Dec (s ≡ a) → Dec (s ≡ b) → alike a l + alike b l ≤ length l → alike a (s ∷ l) + alike b (s ∷ l) ≤ suc (length l)
+    go (yes d) (yes e) h = absurd (n (sym d ∙ e))
+    go (yes d) (no e) h = rw (eq-eqb s a d, alike) (rw (ne-eqb s b e, alike) (omega arith))
+    go (no d) (yes e) h = rw (ne-eqb s a d, alike) (rw (eq-eqb s b e, alike) (omega arith))
+    go (no d) (no e) h = rw (ne-eqb s a d, alike) (rw (ne-eqb s b e, alike) (omega arith))
+
+-- the least size is the least
 pub least-is : (a : ℕ) (sizes : List ℕ) → Least a sizes (least-from a sizes)
 unfolding least-from
 least-is a [] = record { below-first = inr (omega arith); below = tt; zero-first = λ e. e; zero = λ e. tt; reached = inl refl }
@@ -104,16 +126,16 @@ module _ {p : ℕ} (P : Prime p) (A B : Polynomial (Modulo p P)) where
   Kepts = List (Kept (Modulo p P))
 
   module _ (d : ℕ) (at : Point (Modulo p P .ring)) (points : List (Point (Modulo p P .ring))) (r : ImageRecord) (looks : List ImageRecord) where
-    abbrev Sorted-by : Bool → Bool → Type 0
-    Sorted-by zero-size same-size =
+    abbrev SortedBy : Bool → Bool → Type 0
+    SortedBy zero-size same-size =
         (u : ℕ) × Sorted (Modulo p P) A B d (at ∷ points)
         (elim zero-size as (λ _. ℕ) [ true ↦ suc (alike 0 (sizes-of looks)) | false ↦ alike 0 (sizes-of looks) ]) u
         (elim same-size as (λ _. Kepts) [ true ↦ record { point = at; image = series p (r .coefficients) } ∷ kept-of P (suc d) points looks | false ↦ kept-of P (suc d) points looks ])
 
-    sorted-by : (s : ℕ) → size-of r ≡ s → Sorted-by (eqb s 0) (eqb s (suc d))
+    sorted-by : (s : ℕ) → size-of r ≡ s → SortedBy (eqb s 0) (eqb s (suc d))
         → (u : ℕ) × Sorted (Modulo p P) A B d (at ∷ points) (alike 0 (sizes-of (r ∷ looks))) u (kept-of P (suc d) (at ∷ points) (r ∷ looks))
     unfolding alike kept-of
-    sorted-by s e h = subst (λ (n : ℕ). Sorted-by (eqb n 0) (eqb n (suc d))) (sym e) h
+    sorted-by s e h = subst (λ (n : ℕ). SortedBy (eqb n 0) (eqb n (suc d))) (sym e) h
 
   -- the least size is that of the kept points
   pub sorted : (d : ℕ) (points : List (Point (Modulo p P .ring))) (looks : List ImageRecord) → Looked points looks → AtLeast (suc d) (sizes-of looks)
@@ -128,7 +150,7 @@ module _ {p : ℕ} (P : Prime p) (A B : Polynomial (Modulo p P)) where
       (rw (ne-eqb (suc degree) 0 (λ z. omega arith)) (go (ℕ-discrete degree d) (sorted d points looks rest (h .1)) (unfold size-of in h .0)))
     where
       go : Dec (degree ≡ d) → (u : ℕ) × Sorted (Modulo p P) A B d points (alike 0 (sizes-of looks)) u (kept-of P (suc d) points looks)
-          → (suc degree ≡ 0) ⊎ (suc d ≤ suc degree) → Sorted-by d at points r looks false (eqb (suc degree) (suc d))
+          → (suc degree ≡ 0) ⊎ (suc d ≤ suc degree) → SortedBy d at points r looks false (eqb (suc degree) (suc d))
       go (yes q) s l = rw (eq-eqb (suc degree) (suc d) (ap suc q))
           (s .0, keep (series p cs) (subst (λ (n : ℕ). Image (Modulo p P) A B at n (series p cs)) q i) (s .1))
       go (no q) s l = rw (ne-eqb (suc degree) (suc d) (λ z. q (omega arith)))

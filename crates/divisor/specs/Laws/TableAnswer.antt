@@ -1,15 +1,13 @@
 -- The table's answer is right: for equations of n unknowns, taken one after the other into the empty table, `None` says that there is no solution,
 -- `One` that the values are the only one, and `Several` that there are two different ones. Assumes nothing.
 use mathlib.Core.Path.{_≡_, refl, sym, ap, _∙_, subst}
-use mathlib.Core.Bool.{Bool, true, false, not, true≢false}
-use mathlib.Core.List.{List, [], _∷_, _++_}
-use Prim.Native.Nat.{ℕ, zero, suc, _+_, _-_, _<_, _≤_}
-use native.Mathlib.Decide.{ℕ-discrete}
+use mathlib.Core.Bool.{Bool, true, false}
+use mathlib.Core.List.{List, [], _∷_}
+use Prim.Native.Nat.{ℕ, zero, suc, _-_, _<_}
 use native.Mathlib.Omega.{arith}
-use lib.Dec.{eqb}
 use lib.ListN.{length, getD, length-set}
 use Rattle.algebra.specs.Field.{Field}
-use Rattle.algebra.specs.Linear.{Table as Equations, free, fresh, has-failed, has-free, none, one, several, OnlySolution, Meets, steps, solution, answer}
+use Rattle.algebra.specs.Linear.{Table as Equations, fresh, has-failed, has-free, none, one, several, OnlySolution, Meets, steps, solution, answer}
 use Rattle.algebra.specs.LinearLaws.{solve-meets}
 use Rattle.field.specs.Moduli.{Listed}
 use Rattle.field.specs.ModuliLaws.{listed-positive}
@@ -20,99 +18,14 @@ use Rattle.divisor.specs.declared.table.Row.{Row}
 use Rattle.divisor.specs.declared.table.Table.{Table}
 use Rattle.divisor.specs.declared.table.Kind.{Kind}
 use Rattle.divisor.specs.declared.table.Kind.the-variants.{None, One, Several}
-use Rattle.divisor.specs.Models.Table.{COLUMNS, row-at, diagonal, empty-table, with-row, kind-from, kind, back, zeros, solved-as, solved, TableReady}
-use Rattle.divisor.specs.Models.TableMeaning.{entries, column, last-column, columns-of, table-of, added, rows-of, AllReady, Says}
-use Rattle.divisor.specs.Laws.TableStep.{column-free, column-pivot, last-solvable, table-step}
-use Rattle.divisor.specs.Laws.TableKept.{empty-cell, empty-ready, with-row-ready, with-row-columns}
+use Rattle.divisor.specs.Models.Table.{COLUMNS, empty-table, with-row, kind, back, zeros, solved-as, solved, TableReady}
+use Rattle.divisor.specs.Models.TableMeaning.{table-of, added, rows-of, AllReady, Says}
+use Rattle.divisor.specs.Laws.TableAdded.{added-ready, added-columns}
+use Rattle.divisor.specs.Laws.TableColumns.{empty-columns, kind-as, full-columns, kind-by-columns}
+use Rattle.divisor.specs.Laws.TableStep.{table-step}
+use Rattle.divisor.specs.Laws.TableKept.{empty-ready, with-row-ready, with-row-columns}
 use Rattle.divisor.specs.Laws.TableSolution.{values-solve, values-below}
 use Rattle.divisor.specs.Laws.TableRows.{replicate-all}
-
--- the empty table is that of no equation
-empty-columns : (p columns i n : ℕ) → columns-of p (empty-table columns) i n ≡ fresh n
-empty-columns p columns i zero = last-solvable p (empty-table columns) i (empty-cell columns i i)
-empty-columns p columns i (suc n) =
-    column-free p (empty-table columns) i n (empty-cell columns i i) ∙ ap free (empty-columns p columns (suc i) n)
-
-module _ (p : ℕ) where
-  pub added-ready : (t : Table) (es : List Row) → TableReady p t → AllReady p es → TableReady p (added p t es)
-  unfolding added
-  added-ready t [] ready ok = ready
-  added-ready t (e ∷ es) ready ok = added-ready (with-row p t e) es (with-row-ready p t e (ok .0) ready) (ok .1)
-
-  pub added-columns : (t : Table) (es : List Row) → AllReady p es → added p t es .columns ≡ t .columns
-  unfolding added
-  added-columns t [] ok = refl
-  added-columns t (e ∷ es) ok = added-columns (with-row p t e) es (ok .1) ∙ with-row-columns p t e (ok .0)
-
-  -- one more equation at the end
-  pub added-append : (t : Table) (es fs : List Row) → added p t (es ++ fs) ≡ added p (added p t es) fs
-  unfolding added
-  added-append t [] fs = refl
-  added-append t (e ∷ es) fs = added-append (with-row p t e) es fs
-
--- the kind by the columns
-abbrev pub some-kind : Bool → Kind
-some-kind true = Several
-some-kind false = One
-
-abbrev pub kind-as : Bool → Bool → Kind
-kind-as true b = None
-kind-as false b = some-kind b
-
-free-columns : (p : ℕ) (t : Table) (n i : ℕ) → kind-from n i t ≡ some-kind (has-free (columns-of p t i n))
-unfolding kind-from columns-of
-free-columns p t zero i = go (eqb (diagonal t i) 0)
-  where
-    go : (b : Bool) → One ≡ some-kind (has-free (last-column {A = Fp p} b))
-    go true = refl
-    go false = refl
-free-columns p t (suc n) i = go (eqb (diagonal t i) 0) (free-columns p t n (suc i))
-  where
-    go : (b : Bool) → kind-from n (suc i) t ≡ some-kind (has-free (columns-of p t (suc i) n))
-        → elim b [ true ↦ Several | false ↦ kind-from n (suc i) t ]
-        ≡ some-kind (has-free (column b (entries p (row-at t i .cells) (suc i) (suc n)) (columns-of p t (suc i) n)))
-    go true later = refl
-    go false later = later
-
-failed-columns : (p : ℕ) (t : Table) (last n i : ℕ) → i + n ≡ last → has-failed (columns-of p t i n) ≡ not (eqb (diagonal t last) 0)
-unfolding columns-of
-failed-columns p t last zero i h =
-    let same : i ≡ last = omega arith in
-    go (eqb (diagonal t i) 0) ∙ ap (λ m. not (eqb (diagonal t m) 0)) same
-  where
-    go : (b : Bool) → has-failed (last-column {A = Fp p} b) ≡ not b
-    go true = refl
-    go false = refl
-failed-columns p t last (suc n) i h = go (eqb (diagonal t i) 0) ∙ failed-columns p t last n (suc i) (omega arith)
-  where
-    go : (b : Bool) → has-failed (column b (entries p (row-at t i .cells) (suc i) (suc n)) (columns-of p t (suc i) n)) ≡ has-failed (columns-of p t (suc i) n)
-    go true = refl
-    go false = refl
-
--- a row is kept in every column before the last
-full-columns : (p : ℕ) (t : Table) (n i : ℕ) → has-free (columns-of p t i n) ≡ false → (k : ℕ) → i ≤ k → k < i + n → ¬ (diagonal t k ≡ 0)
-full-columns p t zero i f k h m z = omega arith
-full-columns p t (suc n) i f k h m z =
-    go (ℕ-discrete k i) (ℕ-discrete (diagonal t i) 0) (λ g l. full-columns p t n (suc i) g k l (omega arith) z)
-  where
-    go : Dec (k ≡ i) → Dec (diagonal t i ≡ 0) → (has-free (columns-of p t (suc i) n) ≡ false → suc i ≤ k → ⊥) → ⊥
-    go c (yes y) later = true≢false (sym (ap has-free (column-free p t i n y)) ∙ f)
-    go (yes e) (no y) later = y (subst (λ j. diagonal t j ≡ 0) e z)
-    go (no e) (no y) later = later (sym (ap has-free (column-pivot p t i n y)) ∙ f) (omega arith)
-
--- the code's kind is that of the field's table
-pub kind-by-columns : (p : ℕ) (t : Table) (n : ℕ) → suc n ≡ t .columns → kind t ≡ kind-as (has-failed (table-of p n t)) (has-free (table-of p n t))
-unfolding kind
-kind-by-columns p t n size =
-    let last : t .columns - 1 ≡ n = omega arith in
-    ap {B = Kind} (λ m. elim (eqb (diagonal t m) 0) [ true ↦ kind-from m 0 t | false ↦ None ]) last
-    ∙ go (eqb (diagonal t n) 0) (free-columns p t n 0)
-    ∙ ap (λ b. kind-as b (has-free (table-of p n t))) (sym (failed-columns p t n n 0 (omega arith)))
-  where
-    go : (b : Bool) → kind-from n 0 t ≡ some-kind (has-free (table-of p n t))
-        → elim b [ true ↦ kind-from n 0 t | false ↦ None ] ≡ kind-as (not b) (has-free (table-of p n t))
-    go true h = h
-    go false h = refl
 
 module _ (p : ℕ) (P : Prime p) where
   abbrev K : Field

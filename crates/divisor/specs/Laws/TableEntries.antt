@@ -2,7 +2,6 @@
 use mathlib.Core.Path.{_≡_, refl, sym, ap, ap₂, _∙_}
 use mathlib.Core.List.{List, _∷_}
 use Prim.Native.Nat.{ℕ, zero, suc, _+_, _-_, _*_, _%_, _<_, _≤_}
-use native.Mathlib.Nat.{mod-eq-of-lt, zero-mod}
 use native.Mathlib.Omega.{arith}
 use lib.ListN.{length, getD, set}
 use lib.Seq.{getD-set-other}
@@ -12,17 +11,13 @@ use Rattle.algebra.specs.Linear.{times, plus-times}
 use Rattle.field.specs.Prime.{Prime}
 use Rattle.field.specs.PrimeLaws.{prime-positive}
 use Rattle.field.specs.Fp.{Fp, el, add, mul, neg, inv}
-use Rattle.field.specs.FpLaws.{el-inj, el-val}
+use Rattle.field.specs.FpLaws.{el-nonzero, el-val}
 use Rattle.field.specs.Link.{product-el, plus-times-el, opposite-el}
 use Rattle.field.specs.Modulo.{Modulo}
 use Rattle.divisor.specs.declared.table.Row.{Row}
 use Rattle.divisor.specs.Models.Table.{COLUMNS, cell, minus, scaled-row}
 use Rattle.divisor.specs.Laws.TableRows.{altered-at}
 use Rattle.divisor.specs.Models.TableMeaning.{entries}
-
--- below p only 0 is 0
-pub el-zero : (p c : ℕ) → c < p → el p c ≡ el p 0 → c ≡ 0
-el-zero p c h e = sym (mod-eq-of-lt h) ∙ el-inj p c 0 e ∙ zero-mod p
 
 -- the entries behind a place that is set
 pub entries-set : (p : ℕ) (l : List ℕ) (j x i n : ℕ) → j < i → entries p (set l j x) i n ≡ entries p l i n
@@ -68,7 +63,7 @@ module _ (p : ℕ) (P : Prime p) where
     pub scaled-diagonal : j < columns → cell e j < p → ¬ (cell e j ≡ 0) → ¬ (cell (scaled-row p e j columns) j ≡ 0)
     scaled-diagonal h b z q =
         K .one≢0
-        (sym (K .mul-inv x (λ (y : x ≡ el p 0). z (el-zero p (cell e j) b y))) ∙ K .ring .mul-comm x (inv x) ∙ sym (el-times (inv x) (cell e j))
+        (sym (K .mul-inv x (el-nonzero p (cell e j) b z)) ∙ K .ring .mul-comm x (inv x) ∙ sym (el-times (inv x) (cell e j))
         ∙ ap (el p) (sym (altered-at _ j (columns - j) (e .cells) j (omega arith) (omega arith) (omega arith)) ∙ q))
       where
         x : Fp p

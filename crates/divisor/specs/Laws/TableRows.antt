@@ -23,12 +23,12 @@ replicate-all P (suc n) zero a d pa pd = pa
 replicate-all P (suc n) (suc i) a d pa pd = replicate-all P n i a d pa pd
 
 module _ (g : ℕ → ℕ → ℕ) where
-  pub altered-length : (i n : ℕ) (l : List ℕ) → length (altered g i n l) ≡ length l
+  altered-length : (i n : ℕ) (l : List ℕ) → length (altered g i n l) ≡ length l
   unfolding altered
   altered-length i zero l = refl
   altered-length i (suc n) l = altered-length (suc i) n (set l i (g i (getD l i 0))) ∙ length-set l i (g i (getD l i 0))
 
-  pub altered-all : (P : ℕ → Type 0) → ((k a : ℕ) → P (g k a)) → (i n : ℕ) (l : List ℕ) → ((k : ℕ) → P (getD l k 0))
+  altered-all : (P : ℕ → Type 0) → ((k a : ℕ) → P (g k a)) → (i n : ℕ) (l : List ℕ) → ((k : ℕ) → P (getD l k 0))
       → (k : ℕ) → P (getD (altered g i n l) k 0)
   unfolding altered
   altered-all P new i zero l old k = old k

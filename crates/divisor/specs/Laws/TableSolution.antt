@@ -25,7 +25,7 @@ use Rattle.divisor.specs.Models.Table.{COLUMNS, row-at, cell, diagonal, 
 use Rattle.divisor.specs.Laws.TableEntries.{entries-set}
 use Rattle.divisor.specs.Laws.TableRows.{replicate-all, set-all}
 use Rattle.divisor.specs.Models.TableMeaning.{entries, last-column, columns-of, table-of}
-use Rattle.divisor.specs.Laws.TableStep.{column-pivot}
+use Rattle.divisor.specs.Laws.TableColumns.{column-pivot}
 
 total-below : (p : ℕ) → 0 < p → (n k : ℕ) (e : Row) (v : List ℕ) (a : ℕ) → a < p → total n k p e v a < p
 unfolding total

@@ -1,4 +1,4 @@
--- A step of the model is a step of algebra's table, and keeps the table ready for the next. Assumes nothing.
+-- A step of the model is a step of algebra's table. Assumes nothing.
 use mathlib.Core.Path.{_≡_, refl, sym, ap, ap₂, _∙_}
 use mathlib.Core.Bool.{Bool, true, false}
 use mathlib.Core.List.{List, [], _∷_}
@@ -6,68 +6,30 @@ use Prim.Native.Nat.{ℕ, zero, suc, _+_, _<_, _≤_}
 use native.Mathlib.Decide.{ℕ-discrete}
 use native.Mathlib.Omega.{arith}
 use lib.Dec.{eqb}
-use borrow.Author.Tests.{eq-eqb, ne-eqb}
+use borrow.Author.Tests.{ne-eqb}
 use lib.Seq.{getD-set-same, getD-set-other}
 use Rattle.algebra.specs.Field.{Field}
 use Rattle.algebra.specs.Linear.{Table as Equations, solvable, failed, free, pivot, times, plus-times, step}
 use Rattle.field.specs.Prime.{Prime}
 use Rattle.field.specs.Fp.{Fp, el, neg, inv}
+use Rattle.field.specs.FpLaws.{el-nonzero}
 use Rattle.field.specs.Modulo.{Modulo}
 use Rattle.divisor.specs.declared.table.Row.{Row}
 use Rattle.divisor.specs.declared.table.Table.{Table}
 use Rattle.divisor.specs.Models.Table.{COLUMNS, no-row, row-at, cell, diagonal, minus, scaled-row, kept, insert, with-row, RowReady, TableReady}
+use Rattle.divisor.specs.Laws.Decided.{decided-yes, decided-no}
+use Rattle.divisor.specs.Laws.TableColumns.{last-solvable, last-failed, column-free, column-pivot, same-row, columns-same}
 use Rattle.divisor.specs.Laws.TableRows.{minus-ready}
 use Rattle.divisor.specs.Laws.TableKept.{insert-all}
 use Rattle.divisor.specs.Laws.TableTurns.{insert-at-zero, insert-at-free, insert-at-kept}
-use Rattle.divisor.specs.Laws.TableEntries.{el-zero, minus-entries, scaled-entries, scaled-diagonal, zero-times}
+use Rattle.divisor.specs.Laws.TableEntries.{minus-entries, scaled-entries, scaled-diagonal, zero-times}
 use Rattle.divisor.specs.Models.TableMeaning.{entries, column, last-column, columns-of, row-of, table-of}
-
--- the columns of a table, by the diagonal
-module _ (p : ℕ) (t : Table) (i : ℕ) where
-  pub last-solvable : diagonal t i ≡ 0 → columns-of p t i zero ≡ solvable
-  unfolding columns-of
-  last-solvable z = ap last-column (eq-eqb (diagonal t i) 0 z)
-
-  pub last-failed : ¬ (diagonal t i ≡ 0) → columns-of p t i zero ≡ failed
-  unfolding columns-of
-  last-failed z = ap last-column (ne-eqb (diagonal t i) 0 z)
-
-  module _ (n : ℕ) where
-    abbrev entries-behind : List (Fp p)
-    entries-behind = entries p (row-at t i .cells) (suc i) (suc n)
-
-    abbrev behind : Equations (Fp p)
-    behind = columns-of p t (suc i) n
-
-    pub column-free : diagonal t i ≡ 0 → columns-of p t i (suc n) ≡ free behind
-    unfolding columns-of
-    column-free z = ap (λ b. column b entries-behind behind) (eq-eqb (diagonal t i) 0 z)
-
-    pub column-pivot : ¬ (diagonal t i ≡ 0) → columns-of p t i (suc n) ≡ pivot entries-behind behind
-    unfolding columns-of
-    column-pivot z = ap (λ b. column b entries-behind behind) (ne-eqb (diagonal t i) 0 z)
-
--- the columns from i on are known by the rows from i on
-pub columns-same : (p : ℕ) (t u : Table) (i n : ℕ) → ((k : ℕ) → i ≤ k → row-at t k ≡ row-at u k) → columns-of p t i n ≡ columns-of p u i n
-unfolding columns-of
-columns-same p t u i zero h = ap (λ r. last-column (eqb (cell r i) 0)) (h i (omega arith))
-columns-same p t u i (suc n) h =
-    ap₂ (λ r rest. column (eqb (cell r i) 0) (entries p (r .cells) (suc i) (suc n)) rest) (h i (omega arith))
-    (columns-same p t u (suc i) n (λ k l. h k (omega arith)))
 
 -- a step at the columns from j on leaves the rows before j
 insert-before : (n j p : ℕ) (t : Table) (e : Row) (k : ℕ) → k < j → row-at (insert n j p t e) k ≡ row-at t k
 insert-before n j p t e k h =
     insert-all p t (λ u. row-at u k ≡ row-at t k) (λ f. Unit {0}) (λ i f u. tt) refl n j
     (λ i l f u. getD-set-other (t .rows) i k (scaled-row p f i (t .columns)) no-row (λ (q : k ≡ i). omega arith)) e tt
-
-decided-yes : {A X : Type 0} (d : Dec X) (x y : A) → X → elim d [ yes e ↦ x | no e ↦ y ] ≡ x
-decided-yes (yes e) x y h = refl
-decided-yes (no e) x y h = absurd (e h)
-
-decided-no : {A X : Type 0} (d : Dec X) (x y : A) → ¬ X → elim d [ yes e ↦ x | no e ↦ y ] ≡ y
-decided-no (yes e) x y h = absurd (h e)
-decided-no (no e) x y h = refl
 
 -- a step of the field's table at one column
 module _ (p : ℕ) (P : Prime p) where
@@ -90,22 +52,13 @@ module _ (p : ℕ) (P : Prime p) where
         (ap (λ x. plus-times K (entries p l i n) (neg x) (entries p m i n)) is-zero ∙ zero-times p P l m i n)
 
   module _ (c : ℕ) (b : c < p) (z : ¬ (c ≡ 0)) where
-    not-zero : ¬ (el p c ≡ el p 0)
-    not-zero e = z (el-zero p c b e)
-
     solvable-step : (r : List (Fp p)) → step K solvable (el p c ∷ r) ≡ failed
-    solvable-step r = decided-no (K .decide (el p c)) solvable failed not-zero
+    solvable-step r = decided-no (K .decide (el p c)) solvable failed (el-nonzero p c b z)
 
     free-step : (T : Equations (Fp p)) (r : List (Fp p)) → step K (free T) (el p c ∷ r) ≡ pivot (times K (inv (el p c)) r) T
-    free-step T r = decided-no (K .decide (el p c)) (free (step K T r)) _ not-zero
+    free-step T r = decided-no (K .decide (el p c)) (free (step K T r)) _ (el-nonzero p c b z)
 
   module _ (t : Table) (ready : TableReady p t) where
-    -- where the row of column i is left, and the columns behind it are known
-    same-row : (u : Table) (i n : ℕ) (T : Equations (Fp p)) → row-at u i ≡ row-at t i → columns-of p u (suc i) n ≡ T
-        → columns-of p u i (suc n) ≡ column (eqb (diagonal t i) 0) (entries p (row-at t i .cells) (suc i) (suc n)) T
-    unfolding columns-of
-    same-row u i n T same behind = ap₂ (λ r rest. column (eqb (cell r i) 0) (entries p (r .cells) (suc i) (suc n)) rest) same behind
-
     module _ (e : Row) (ok : RowReady p e) (i : ℕ) (within : i < t .columns) where
       most : t .columns ≤ COLUMNS
       most = ready .columns .most
@@ -118,7 +71,7 @@ module _ (p : ℕ) (P : Prime p) where
 
       kept-behind : (n : ℕ) → columns-of p (kept p t i e) (suc i) n ≡ columns-of p t (suc i) n
       kept-behind n =
-          columns-same p (kept p t i e) t (suc i) n
+          columns-same p t (kept p t i e) (suc i) n
           (λ k l. getD-set-other (t .rows) i k (scaled-row p e i (t .columns)) no-row (λ (q : k ≡ i). omega arith))
 
       -- the last column
@@ -156,7 +109,7 @@ module _ (p : ℕ) (P : Prime p) where
         at-zero : cell e i ≡ 0 → Goal (insert (suc n) (suc i) p t e)
         unfolding columns-of
         at-zero z =
-            same-row (insert (suc n) (suc i) p t e) i n (step K T r) (insert-before (suc n) (suc i) p t e i (omega arith)) (later e ok)
+            same-row p t (insert (suc n) (suc i) p t e) i n (step K T r) (insert-before (suc n) (suc i) p t e i (omega arith)) (later e ok)
             ∙ sym (column-step-zero (cell e i) z (eqb (diagonal t i) 0) T (e .cells) (row-at t i .cells) (suc i) (suc n))
 
         at-free : ¬ (cell e i ≡ 0) → diagonal t i ≡ 0 → Goal (kept p t i e)
@@ -171,7 +124,7 @@ module _ (p : ℕ) (P : Prime p) where
         at-kept : ¬ (diagonal t i ≡ 0) → Goal (insert (suc n) (suc i) p t (minus p e (row-at t i) i (t .columns)))
         at-kept y =
             let f = minus p e (row-at t i) i (t .columns) in
-            same-row (insert (suc n) (suc i) p t f) i n _ (insert-before (suc n) (suc i) p t f i (omega arith)) (later f (minus-ready p e (row-at t i) i (t .columns) ok))
+            same-row p t (insert (suc n) (suc i) p t f) i n _ (insert-before (suc n) (suc i) p t f i (omega arith)) (later f (minus-ready p e (row-at t i) i (t .columns) ok))
             ∙ ap (λ b. column b q (step K T (entries p (f .cells) (suc i) (suc n)))) (ne-eqb (diagonal t i) 0 y)
             ∙ ap (λ s. pivot q (step K T s))
             (minus-entries p P e i (t .columns) (ok .size) most (row-at t i) (ok .below i) (suc i) (suc n) (omega arith) (omega arith))

@@ -16,21 +16,21 @@ use Rattle.divisor.specs.declared.table.Kind.the-variants.{None, One, Se
 use Rattle.divisor.specs.Models.Table.{COLUMNS, row-at, cell, Entry, diagonal, altered, minus, kept, insert, with-row, kind-from, kind, total, value, back}
 
 -- what is left of n turns at turn i
-more : (i n : ℕ) → i < n → n - i ≡ suc (n - (i + 1))
-more i n h = omega arith
+turns-left : (i n : ℕ) → i < n → n - i ≡ suc (n - (i + 1))
+turns-left i n h = omega arith
 
-over : (i n : ℕ) → n ≤ i → n - i ≡ 0
-over i n h = omega arith
+no-turns-left : (i n : ℕ) → n ≤ i → n - i ≡ 0
+no-turns-left i n h = omega arith
 
 module _ (g : ℕ → ℕ → ℕ) (i n : ℕ) (l : List ℕ) where
   pub altered-turn : i < n → altered g i (n - i) l ≡ altered g (i + 1) (n - (i + 1)) (set l i (g i (getD l i 0)))
   unfolding altered
   altered-turn h =
-      ap (λ m. altered g i m l) (more i n h) ∙ ap (λ k. altered g k (n - (i + 1)) (set l i (g i (getD l i 0)))) (sym (add-one i))
+      ap (λ m. altered g i m l) (turns-left i n h) ∙ ap (λ k. altered g k (n - (i + 1)) (set l i (g i (getD l i 0)))) (sym (add-one i))
 
   pub altered-end : n ≤ i → altered g i (n - i) l ≡ l
   unfolding altered
-  altered-end h = ap (λ m. altered g i m l) (over i n h)
+  altered-end h = ap (λ m. altered g i m l) (no-turns-left i n h)
 
 -- a step at one column
 module _ (p : ℕ) (t : Table) (e : Row) (j n : ℕ) where
@@ -47,11 +47,11 @@ module _ (p : ℕ) (t : Table) (e : Row) (j n : ℕ) where
   unfolding insert
   insert-at-zero z = ap by-cell (eq-eqb (cell e j) 0 z)
 
-  pub insert-at-free : (cell e j ≡ 0 → ⊥) → diagonal t j ≡ 0 → insert (suc n) j p t e ≡ kept p t j e
+  pub insert-at-free : ¬ (cell e j ≡ 0) → diagonal t j ≡ 0 → insert (suc n) j p t e ≡ kept p t j e
   unfolding insert
   insert-at-free z y = ap by-cell (ne-eqb (cell e j) 0 z) ∙ ap by-diagonal (eq-eqb (diagonal t j) 0 y)
 
-  pub insert-at-kept : (cell e j ≡ 0 → ⊥) → (diagonal t j ≡ 0 → ⊥) → insert (suc n) j p t e ≡ taken-off
+  pub insert-at-kept : ¬ (cell e j ≡ 0) → ¬ (diagonal t j ≡ 0) → insert (suc n) j p t e ≡ taken-off
   unfolding insert
   insert-at-kept z y = ap by-cell (ne-eqb (cell e j) 0 z) ∙ ap by-diagonal (ne-eqb (diagonal t j) 0 y)
 
@@ -60,16 +60,16 @@ module _ (p : ℕ) (t : Table) (e : Row) (j : ℕ) where
   left = t .columns - (j + 1)
 
   insert-more : j < t .columns → insert (t .columns - j) j p t e ≡ insert (suc left) j p t e
-  insert-more h = ap (λ n. insert n j p t e) (more j (t .columns) h)
+  insert-more h = ap (λ n. insert n j p t e) (turns-left j (t .columns) h)
 
   pub insert-skip : j < t .columns → cell e j ≡ 0 → insert (t .columns - j) j p t e ≡ insert left (j + 1) p t e
   insert-skip h z =
       insert-more h ∙ insert-at-zero p t e j left z ∙ ap (λ i. insert left i p t e) (sym (add-one j))
 
-  pub insert-kept : j < t .columns → (cell e j ≡ 0 → ⊥) → diagonal t j ≡ 0 → insert (t .columns - j) j p t e ≡ kept p t j e
+  pub insert-kept : j < t .columns → ¬ (cell e j ≡ 0) → diagonal t j ≡ 0 → insert (t .columns - j) j p t e ≡ kept p t j e
   insert-kept h z y = insert-more h ∙ insert-at-free p t e j left z y
 
-  pub insert-minus : j < t .columns → (cell e j ≡ 0 → ⊥) → (diagonal t j ≡ 0 → ⊥)
+  pub insert-minus : j < t .columns → ¬ (cell e j ≡ 0) → ¬ (diagonal t j ≡ 0)
       → insert (t .columns - j) j p t e ≡ insert left (j + 1) p t (minus p e (row-at t j) j (t .columns))
   insert-minus h z y =
       insert-more h ∙ insert-at-kept p t e j left z y
@@ -77,7 +77,7 @@ module _ (p : ℕ) (t : Table) (e : Row) (j : ℕ) where
 
   pub insert-end : t .columns ≤ j → insert (t .columns - j) j p t e ≡ t
   unfolding insert
-  insert-end h = ap (λ n. insert n j p t e) (over j (t .columns) h)
+  insert-end h = ap (λ n. insert n j p t e) (no-turns-left j (t .columns) h)
 
 -- an equation without entries adds nothing
 insert-blank : (p : ℕ) (t : Table) (e : Row) (n j : ℕ) → ((k : ℕ) → k < j + n → cell e k ≡ 0) → insert n j p t e ≡ t
@@ -88,7 +88,7 @@ pub blank-adds-nothing : (p : ℕ) (t : Table) (e : Row) → t .columns ≤ COLU
 blank-adds-nothing p t e most place past searched = insert-blank p t e (t .columns) 0 (λ k l. elim (ℕ-discrete (cell e k) 0) [ yes q ↦ q | no q ↦ absurd (searched .before k (omega arith) q) ])
 
 module _ (t : Table) where
-  pub kind-none : (diagonal t (t .columns - 1) ≡ 0 → ⊥) → kind t ≡ None
+  pub kind-none : ¬ (diagonal t (t .columns - 1) ≡ 0) → kind t ≡ None
   unfolding kind
   kind-none z =
       ap (λ b. elim b [ true ↦ kind-from (t .columns - 1) 0 t | false ↦ None ]) (ne-eqb (diagonal t (t .columns - 1)) 0 z)
@@ -103,19 +103,19 @@ module _ (t : Table) where
         → kind-from (last - j) j t ≡ elim b [ true ↦ Several | false ↦ kind-from (last - (j + 1)) (suc j) t ]
     unfolding kind-from
     kind-meets h b q =
-        ap (λ n. kind-from n j t) (more j last h)
+        ap (λ n. kind-from n j t) (turns-left j last h)
         ∙ ap (λ b. elim b [ true ↦ Several | false ↦ kind-from (last - (j + 1)) (suc j) t ]) q
 
     pub kind-several : j < last → diagonal t j ≡ 0 → kind-from (last - j) j t ≡ Several
     kind-several h z = kind-meets h true (eq-eqb (diagonal t j) 0 z)
 
-    pub kind-turn : j < last → (diagonal t j ≡ 0 → ⊥) → kind-from (last - j) j t ≡ kind-from (last - (j + 1)) (j + 1) t
+    pub kind-turn : j < last → ¬ (diagonal t j ≡ 0) → kind-from (last - j) j t ≡ kind-from (last - (j + 1)) (j + 1) t
     kind-turn h z =
         kind-meets h false (ne-eqb (diagonal t j) 0 z) ∙ ap (λ i. kind-from (last - (j + 1)) i t) (sym (add-one j))
 
     pub kind-one : last ≤ j → kind-from (last - j) j t ≡ One
     unfolding kind-from
-    kind-one h = ap (λ n. kind-from n j t) (over j last h)
+    kind-one h = ap (λ n. kind-from n j t) (no-turns-left j last h)
 
 module _ (k last p : ℕ) (e : Row) (values : List ℕ) (a : ℕ) where
   pub total-turn : k < last
@@ -123,12 +123,12 @@ module _ (k last p : ℕ) (e : Row) (values : List ℕ) (a : ℕ) where
       ≡ total (last - (k + 1)) (k + 1) p e values ((a + cell e k * getD values k 0) % p)
   unfolding total
   total-turn h =
-      ap (λ n. total n k p e values a) (more k last h)
+      ap (λ n. total n k p e values a) (turns-left k last h)
       ∙ ap (λ i. total (last - (k + 1)) i p e values ((a + cell e k * getD values k 0) % p)) (sym (add-one k))
 
   pub total-end : last ≤ k → total (last - k) k p e values a ≡ a
   unfolding total
-  total-end h = ap (λ n. total n k p e values a) (over k last h)
+  total-end h = ap (λ n. total n k p e values a) (no-turns-left k last h)
 
 module _ (p : ℕ) (t : Table) (values : List ℕ) where
   pub back-turn : (j : ℕ) → 0 < j

@@ -12,13 +12,13 @@ use Rattle.divisor.specs.Models.Monic.{leading, scaled-terms}
 use Rattle.poly.specs.Terms.{packed}
 
 module _ (list : List ℕ) (n i : ℕ) where
-  pub next-left : n ≤ length list → i < n → drop i (take n list) ≡ getD list i 0 ∷ drop (i + 1) (take n list)
+  next-left : n ≤ length list → i < n → drop i (take n list) ≡ getD list i 0 ∷ drop (i + 1) (take n list)
   next-left l h =
       drop-cons (take n list) i 0 (let e = length-take-le n list l in omega arith)
       ∙ ap (λ (x : ℕ). x ∷ drop (suc i) (take n list)) (getD-take n list i 0 h)
       ∙ ap (λ (k : ℕ). getD list i 0 ∷ drop k (take n list)) (sym (add-one i))
 
-  pub none-left : n ≤ length list → n ≤ i → drop i (take n list) ≡ []
+  none-left : n ≤ length list → n ≤ i → drop i (take n list) ≡ []
   none-left l h = drop-of-length-le (take n list) {i = i} (let e = length-take-le n list l in omega arith)
 
   pub least-next : (m : ℕ) → n ≤ length list → i < n → least-from m (drop i (take n list)) ≡ least-from (lesser m (getD list i 0)) (drop (i + 1) (take n list))
@@ -65,16 +65,16 @@ module _ (p f : ℕ) (ks values : List ℕ) (i : ℕ) (long : length ks ≤ leng
   keys-left : i < length ks → drop i ks ≡ getD ks i 0 ∷ drop (i + 1) ks
   keys-left h = drop-cons ks i 0 h ∙ ap (λ (k : ℕ). getD ks i 0 ∷ drop k ks) (sym (add-one i))
 
-  pub scaled-passed : i < length ks → getD values i 0 ≡ 0 → scaled-terms p f (drop i ks) (drop i (take (length ks) values)) ≡ scaled-terms p f (drop (i + 1) ks) (drop (i + 1) (take (length ks) values))
+  scaled-passed : i < length ks → getD values i 0 ≡ 0 → scaled-terms p f (drop i ks) (drop i (take (length ks) values)) ≡ scaled-terms p f (drop (i + 1) ks) (drop (i + 1) (take (length ks) values))
   unfolding scaled-terms
   scaled-passed h e = ap₂ (scaled-terms p f) (keys-left h) (next-left values (length ks) i long h) ∙ rw (eq-eqb (getD values i 0) 0 e, scaled-terms)
 
-  pub scaled-taken : i < length ks → ¬ (getD values i 0 ≡ 0)
+  scaled-taken : i < length ks → ¬ (getD values i 0 ≡ 0)
       → scaled-terms p f (drop i ks) (drop i (take (length ks) values)) ≡ packed (getD ks i 0) ((getD values i 0 * f) % p) ∷ scaled-terms p f (drop (i + 1) ks) (drop (i + 1) (take (length ks) values))
   unfolding scaled-terms
   scaled-taken h e = ap₂ (scaled-terms p f) (keys-left h) (next-left values (length ks) i long h) ∙ rw (ne-eqb (getD values i 0) 0 e, scaled-terms)
 
-  pub scaled-end : length ks ≤ i → scaled-terms p f (drop i ks) (drop i (take (length ks) values)) ≡ []
+  scaled-end : length ks ≤ i → scaled-terms p f (drop i ks) (drop i (take (length ks) values)) ≡ []
   unfolding scaled-terms
   scaled-end h = ap (λ (l : List ℕ). scaled-terms p f l (drop i (take (length ks) values))) (drop-of-length-le ks {i = i} h)
 

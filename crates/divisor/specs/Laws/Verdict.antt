@@ -6,7 +6,8 @@ use Prim.Native.Nat.{ℕ, zero, suc, _+_, _≤_, _<_}
 use native.Mathlib.Numerals.{add-one}
 use native.Mathlib.Omega.{arith}
 use lib.ListN.{length, getD, set, take, drop}
-use lib.Seq.{length-take-le}
+use lib.Seq.{length-take-le, take-length}
+use borrow.Author.Tests.{not-true, not-false}
 use Rattle.field.specs.Prime.{Prime}
 use Rattle.field.specs.Numbers.{NO_SOLUTION, SEVERAL_SOLUTIONS, DOES_NOT_DIVIDE}
 use Rattle.poly.specs.Room.{work-room, written, cleared}
@@ -22,15 +23,15 @@ use Rattle.divisor.specs.Models.Monic.{monic-terms, Monic}
 use Rattle.divisor.specs.Models.Verdict.{Both, CanDivideBoth, BothDivided, VerdictReady, Settled, Refused, only, none, several, rejected, accepted}
 
 -- a room that is cleared is not shorter, and clearing it again changes nothing
-pub cleared-long : (work : List ℕ) → work-room ≤ length work → work-room ≤ length (cleared work)
+cleared-long : (work : List ℕ) → work-room ≤ length work → work-room ≤ length (cleared work)
 cleared-long work l = let e = zeroed-length work-room work l in omega arith
 
-pub cleared-again : (work : List ℕ) → cleared (cleared work) ≡ cleared work
+cleared-again : (work : List ℕ) → cleared (cleared work) ≡ cleared work
 cleared-again work = zeroed-same work-room (cleared work) work (zeroed-beyond work-room 0 work)
 
 -- the second division can follow the first
-pub divide-again : (p : ℕ) (B G work after : List ℕ) → after ≡ cleared work → CanDivide p B G work → CanDivide p B G after
-divide-again p B G work after e h = record {
+pub divide-again : {p : ℕ} {B G work after : List ℕ} → after ≡ cleared work → CanDivide p B G work → CanDivide p B G after
+divide-again {work = work} e h = record {
   is-listed = h .is-listed;
   some-dividend = h .some-dividend;
   dividend-falls = h .dividend-falls;
@@ -40,23 +41,18 @@ divide-again p B G work after e h = record {
 }
 
 -- no answer is both no and yes
-other : (b : Bool) → not b ≡ true → b ≡ true → ⊥
-other true e f = true≢false (sym e)
-other false e f = true≢false (sym f)
+not-both : (b : Bool) → not b ≡ true → b ≡ true → ⊥
+not-both b n y = true≢false (sym y ∙ not-true b n)
 
-module _ (p : ℕ) (A B G work after : List ℕ) (first : Bool) (divided : TrialDivision p A G work after first) where
+module _ {p : ℕ} {A B G work after : List ℕ} {first : Bool} (divided : TrialDivision p A G work after first) where
   pub first-fails : not first ≡ true → BothDivided p A B G work after false
-  first-fails n = record { says = λ P. (λ e. absurd (true≢false (sym e)), λ both. absurd (other first n (divided .says P .1 (both .0)))); room = divided .room }
+  first-fails n = record { says = λ P. (λ e. absurd (true≢false (sym e)), λ both. absurd (not-both first n (divided .says P .1 (both .0)))); room = divided .room }
 
-  pub then-second : not first ≡ false → (end : List ℕ) (second : Bool) → TrialDivision p B G after end second → BothDivided p A B G work end second
-  then-second n end second later = record {
-    says = λ P. (λ e. (divided .says P .0 (yes-first first n), later .says P .0 e), λ both. later .says P .1 (both .1));
+  pub then-second : {end : List ℕ} {second : Bool} → not first ≡ false → TrialDivision p B G after end second → BothDivided p A B G work end second
+  then-second n later = record {
+    says = λ P. (λ e. (divided .says P .0 (not-false first n), later .says P .0 e), λ both. later .says P .1 (both .1));
     room = later .room ∙ ap cleared (divided .room) ∙ cleared-again work;
   }
-    where
-      yes-first : (b : Bool) → not b ≡ false → b ≡ true
-      yes-first true e = refl
-      yes-first false e = absurd (true≢false e)
 
 -- a copy from the front, one store a turn
 copy-suc : (i : ℕ) (new old : List ℕ) → i < length new → i < length old → set (take i new ++ drop i old) i (getD new i 0) ≡ take (suc i) new ++ drop (suc i) old
@@ -69,15 +65,11 @@ pub copy-more : (i : ℕ) (new old : List ℕ) → i < length new → i < length
 copy-more i new old l m = subst (λ (k : ℕ). set (take i new ++ drop i old) i (getD new i 0) ≡ take k new ++ drop k old) (sym (add-one i)) (copy-suc i new old l m)
 
 pub copy-all : (i : ℕ) (new old : List ℕ) → i ≡ length new → take i new ++ drop i old ≡ written new old
-copy-all i new old e = ap (λ (k : ℕ). take k new ++ drop k old) e ∙ ap (λ (l : List ℕ). l ++ drop (length new) old) (all new)
-  where
-    all : (l : List ℕ) → take (length l) l ≡ l
-    all [] = refl
-    all (x ∷ l) = ap (x ∷_) (all l)
+copy-all i new old e = ap (λ (k : ℕ). take k new ++ drop k old) e ∙ ap (λ (l : List ℕ). l ++ drop (length new) old) (take-length new)
 
 -- the only solution makes a divisor, which is divided into both lists
-module _ (p : ℕ) (A B ks values output work : List ℕ) (ready : VerdictReady p A B ks (only values) output work) (r : Divisor) (made : Monic p ks values r)
-    (G : List ℕ) (list : G ≡ take (r .count) (r .terms)) where
+module _ {p : ℕ} {A B ks values output work : List ℕ} (ready : VerdictReady p A B ks (only values) output work) {r : Divisor} (made : Monic p ks values r)
+    {G : List ℕ} (list : G ≡ take (r .count) (r .terms)) where
   abbrev terms : List ℕ
   terms = monic-terms p ks (take (length ks) values)
 
@@ -107,35 +99,31 @@ module _ (p : ℕ) (A B ks values output work : List ℕ) (ready : VerdictReady 
   pub fits-output : length G ≤ length output
   fits-output = let e = ap length same ∙ sym counted in let l = made .fits in let m = ready .fits in omega arith
 
-  module _ (work-after : List ℕ) (yes : Bool) (divided : BothDivided p A B G work work-after yes) where
+  module _ {work-after : List ℕ} {yes : Bool} (divided : BothDivided p A B G work work-after yes) where
     both : (P : Prime p) → yes ≡ true → Both p P A B terms
     both P e = subst (Both p P A B) same (divided .says P .0 e)
 
     pub settled-rejected : not yes ≡ true → Settled p A B ks (only values) output output work work-after (record { number = DOES_NOT_DIVIDE; terms = 0 })
     settled-rejected n = record {
       terms = [];
-      settles = rejected refl (λ P b. other yes n (divided .says P .1 (subst (Both p P A B) (sym same) b)));
+      settles = rejected refl (λ P b. not-both yes n (divided .says P .1 (subst (Both p P A B) (sym same) b)));
       count = refl;
       writes = refl;
       clears = divided .room;
     }
 
-    pub settled-accepted : not yes ≡ false → (output-after : List ℕ) → output-after ≡ written G output
+    pub settled-accepted : {output-after : List ℕ} → not yes ≡ false → output-after ≡ written G output
         → Settled p A B ks (only values) output output-after work work-after (record { number = 0; terms = r .count })
-    settled-accepted n output-after w = record {
+    settled-accepted n w = record {
       terms = terms;
-      settles = accepted refl (λ P. both P (is-yes yes n));
+      settles = accepted refl (λ P. both P (not-false yes n));
       count = counted;
       writes = w ∙ ap (λ (g : List ℕ). written g output) same;
       clears = divided .room;
     }
-      where
-        is-yes : (b : Bool) → not b ≡ false → b ≡ true
-        is-yes true e = refl
-        is-yes false e = absurd (true≢false e)
 
 -- what the kind settles
-module _ (p : ℕ) (A B ks : List ℕ) (s : Solved) (output work work-after : List ℕ) (r : Verdict) where
+module _ {p : ℕ} {A B ks : List ℕ} {s : Solved} {output work work-after : List ℕ} {r : Verdict} where
   pub settled-none : s .kind ≡ None → Refused NO_SOLUTION work work-after r → Settled p A B ks s output output work work-after r
   settled-none e h = subst (Settled p A B ks s output output work work-after) (sym (h .is)) (record { terms = []; settles = none e; count = refl; writes = refl; clears = h .clears })
 
@@ -146,7 +134,7 @@ module _ (p : ℕ) (A B ks : List ℕ) (s : Solved) (output work work-after : Li
 is-only : (s : Solved) → s .kind ≡ One → only (s .values) ≡ s
 is-only s e = λ i. record { kind = sym e i; values = s .values }
 
-module _ (p : ℕ) (A B ks : List ℕ) (s : Solved) (output work : List ℕ) (e : s .kind ≡ One) where
+module _ {p : ℕ} {A B ks : List ℕ} (s : Solved) {output work : List ℕ} (e : s .kind ≡ One) where
   pub only-ready : VerdictReady p A B ks s output work → VerdictReady p A B ks (only (s .values)) output work
   only-ready = subst (λ (v : Solved). VerdictReady p A B ks v output work) (sym (is-only s e))
 

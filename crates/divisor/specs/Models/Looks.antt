@@ -6,8 +6,6 @@ use mathlib.Core.List.{List, [], _∷_, _++_, map}
 use Prim.Native.Nat.{ℕ, zero, suc, _+_, _-_, _*_, _/_, _≤_, _<_}
 use lib.Dec.{eqb}
 use lib.ListN.{length, getD, take, drop}
-use Rattle.algebra.specs.Four.{Exponents}
-use Rattle.algebra.specs.Field.{Field}
 use Rattle.field.specs.Moduli.{Listed}
 use Rattle.field.specs.Prime.{Prime}
 use Rattle.field.specs.Modulo.{Modulo}
@@ -21,9 +19,10 @@ use Rattle.poly.specs.Models.Image.{image-of}
 use Rattle.divisor.specs.declared.table.Row.{Row}
 use Rattle.divisor.specs.declared.table.Table.{Table}
 use Rattle.divisor.specs.Rule.{Kept}
+use Rattle.divisor.specs.Candidate.{most-points, most-point-numbers}
 use Rattle.divisor.specs.Models.Table.{COLUMNS, empty-table}
 use Rattle.divisor.specs.Models.TableMeaning.{added, rows-of, AllReady}
-use Rattle.divisor.specs.Models.Rows.{rows-at, rows-from}
+use Rattle.divisor.specs.Models.Rows.{kept-rows}
 use Rattle.divisor.specs.Models.Sorting.{size-of, alike}
 use Rattle.divisor.specs.Models.Equation.{kept-numbers}
 
@@ -42,13 +41,13 @@ look-at p A B points i = image-of p A B (point-at points i)
 pub record LookReady (p : ℕ) (A B points work : List ℕ) : Type 0 where
   pub lists : Passes (of-lists p A B)
   pub threes : length points ≡ 3 * (length points / 3)
-  pub few : length points ≤ 96
+  pub few : length points ≤ most-point-numbers
   pub below : (i : ℕ) → i < length points → getD points i 0 < p
   pub room : work-room ≤ length work
 
 -- the sizes and the images of the points before n
 pub record Looks (n p : ℕ) (A B points before after sizes : List ℕ) : Type 0 where
-  pub count : length sizes ≡ 32
+  pub count : length sizes ≡ most-points
   pub sized : (i : ℕ) → i < n → getD sizes i 0 ≡ size-of (look-at p A B points i)
   pub same-length : length after ≡ length before
   pub images : (i : ℕ) → i < n → image-at after i ≡ look-at p A B points i .coefficients
@@ -60,11 +59,6 @@ kept-before P m points sizes work zero = []
 kept-before {p} P m points sizes work (suc i) =
     kept-before P m points sizes work i
     ++ (elim (eqb (getD sizes i 0) m) [ true ↦ kept-numbers p P (point-at points i) (image-at work i) ∷ [] | false ↦ [] ])
-
--- the rows of kept points, of which n stand behind the first: the first one's multiplier is the last unknown
-abbrev pub rows-so : (K : Field) → List Exponents → ℕ → List (Kept K) → List (List (K .ring .Car))
-rows-so K es n [] = []
-rows-so K es n (k ∷ ks) = rows-at K es (suc n) n k 0 8 ++ rows-from K es (suc n) 0 ks
 
 -- the column of the next point's multiplier, behind the monomials: the last for the first point
 abbrev pub next-column : ℕ → ℕ → ℕ
@@ -82,8 +76,8 @@ pub record EquationsReady (p : ℕ) (ks points sizes work : List ℕ) (m columns
   pub listed : Listed p
   pub small : (j : ℕ) → j < length ks → getD ks j 0 < keys
   pub threes : length points ≡ 3 * (length points / 3)
-  pub few : length points ≤ 96
-  pub count : length sizes ≡ 32
+  pub few : length points ≤ most-point-numbers
+  pub count : length sizes ≡ most-points
   pub room : work-room ≤ length work
   pub images : (i : ℕ) → i < length points / 3 → Eight p (image-at work i)
   pub some : 0 < alike m (take (length points / 3) sizes)
@@ -96,11 +90,11 @@ pub record Equations-before (i p : ℕ) (ks points sizes work : List ℕ) (m col
   pub ready : AllReady p rows
   pub adds : t ≡ added p (empty-table columns) rows
   pub means : (P : Prime p) → rows-of p (columns - 1) rows
-      ≡ rows-so (Modulo p P) (map exponents ks) (alike m (take (length points / 3) sizes) - 1) (kept-before P m points sizes work i)
+      ≡ kept-rows (Modulo p P) (map exponents ks) (alike m (take (length points / 3) sizes) - 1) (kept-before P m points sizes work i)
 
 -- room for eight numbers from a place on, in the part that the points' images take
 pub record StoreReady (at : ℕ) (work : List ℕ) : Type 0 where
-  pub within : at + 8 ≤ 256
+  pub within : at + 8 ≤ 8 * most-points
   pub room : work-room ≤ length work
 
 -- the first n of the numbers are stored from the place on, and nothing else has changed

@@ -7,8 +7,10 @@ use lib.Dec.{eqb}
 use lib.ListN.{length, getD, take}
 use Rattle.field.specs.Moduli.{Listed}
 use Rattle.field.specs.Fp.{el, inv}
-use Rattle.divisor.specs.declared.monic.Divisor.{Divisor}
 use Rattle.poly.specs.Terms.{packed}
+use Rattle.divisor.specs.declared.monic.Divisor.{Divisor}
+use Rattle.divisor.specs.Candidate.{most-keys}
+use Rattle.divisor.specs.Models.Table.{COLUMNS}
 
 -- the first coefficient but 0, or 0
 unfoldable pub leading : List ℕ → ℕ
@@ -29,18 +31,18 @@ monic-terms p ks cs = scaled-terms p (inv (el p (leading cs)) .val) ks cs
 -- the first n of the values
 pub record Counted (n : ℕ) (values : List ℕ) : Type 0 where
   pub within : n ≤ length values
-  pub most : n ≤ 64
+  pub most : n ≤ COLUMNS
 
 -- what making the divisor asks for: coefficients of the skeleton, below p, not all 0
 pub record Solvable (p : ℕ) (ks values : List ℕ) : Type 0 where
   pub listed : Listed p
-  pub few : length ks ≤ 32
+  pub few : length ks ≤ most-keys
   pub long : length ks ≤ length values
   pub below : (i : ℕ) → getD values i 0 < p
   pub led : 0 < leading (take (length ks) values)
 
 -- what it promises: the divisor's terms first
 pub record Monic (p : ℕ) (ks values : List ℕ) (r : Divisor) : Type 0 where
-  pub sized : length (r .terms) ≡ 32
+  pub sized : length (r .terms) ≡ most-keys
   pub fits : r .count ≤ length ks
   pub terms : take (r .count) (r .terms) ≡ monic-terms p ks (take (length ks) values)

@@ -10,11 +10,12 @@ use Rattle.poly.specs.declared.ImageRecord.{ImageRecord}
 use Rattle.poly.specs.Value.{Point}
 use Rattle.poly.specs.Coefficients.{series}
 use Rattle.divisor.specs.Rule.{Kept}
+use Rattle.divisor.specs.Candidate.{most-points}
 
 -- the first n of the sizes
 pub record Within (n : ℕ) (sizes : List ℕ) : Type 0 where
   pub within : n ≤ length sizes
-  pub few : n ≤ 32
+  pub few : n ≤ most-points
 
 unfoldable pub size-of : ImageRecord → ℕ
 size-of r = elim (eqb (r .fault .number) 0) [ true ↦ suc (r .degree) | false ↦ 0 ]

@@ -12,10 +12,11 @@ use Rattle.divisor.specs.declared.table.Table.{Table}
 use Rattle.divisor.specs.declared.table.Kind.{Kind}
 use Rattle.divisor.specs.declared.table.Kind.the-variants.{None, One, Several}
 use Rattle.divisor.specs.declared.table.Solved.{Solved}
+use Rattle.divisor.specs.Candidate.{most-keys, most-points}
 
--- 63 unknowns and the last one
+-- an unknown for each key, and a multiplier for each point, of which the first is fixed
 abbrev pub COLUMNS : ℕ
-COLUMNS = 64
+COLUMNS = most-keys + most-points
 
 abbrev pub no-row : Row
 no-row = record { cells = [] }

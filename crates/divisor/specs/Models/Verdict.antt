@@ -17,6 +17,7 @@ use Rattle.poly.specs.Lists.{Falling}
 use Rattle.poly.specs.Laws.RightLists.{RightLists}
 use Rattle.divisor.specs.declared.CandidateRecord.{CandidateRecord}
 use Rattle.divisor.specs.Rule.{report}
+use Rattle.divisor.specs.Candidate.{most-keys}
 use Rattle.divisor.specs.declared.table.Kind.the-variants.{None, One, Several}
 use Rattle.divisor.specs.declared.table.Solved.{Solved}
 use Rattle.divisor.specs.declared.verdict.Verdict.{Verdict}
@@ -43,7 +44,7 @@ pub record MakesDivisor (p : ℕ) (ks cs : List ℕ) : Type 0 where
 
 pub record VerdictReady (p : ℕ) (A B ks : List ℕ) (s : Solved) (output work : List ℕ) : Type 0 where
   pub lists : RightLists p A B
-  pub few : length ks ≤ 32
+  pub few : length ks ≤ most-keys
   pub long : length ks ≤ length (s .values)
   pub below : (i : ℕ) → getD (s .values) i 0 < p
   pub one : s .kind ≡ One → MakesDivisor p ks (take (length ks) (s .values))

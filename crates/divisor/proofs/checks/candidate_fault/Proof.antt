@@ -1,6 +1,8 @@
 -- `divisor::checks::candidate_fault` meets its contract: the table is tested part by part, and the first fault is given. Assumes nothing.
-use mathlib.Core.List.{_++_}
+use mathlib.Core.List.{List, _++_}
 use lib.ListN.{length}
+use Rattle.field.specs.Refusal.{Line, Tested}
+use Rattle.field.specs.declared.Fault.{Fault}
 use Rattle.field.specs.RefusalLaws.{tested-stops, tested-goes-on}
 use Rattle.poly.specs.Lists.{of-lists}
 use Rattle.divisor.specs.Models.Checks.{of-skeleton, of-points, of-rooms}
@@ -8,66 +10,74 @@ use borrow.Author.Needs.{needs}
 use Rattle.divisor.proofs.checks.candidate_fault.Statement.{statement}
 use Rattle.divisor.proofs.checks.candidate_fault.Tie as tie
 
+-- where the routine began
+abbrev start : tie.After-lists-fault → tie.Start
+start c = c .before .before .before .before .before
+
+-- the lines of the table in parts
+abbrev of-both : tie.Start → List Line
+of-both s = of-lists (s .args .p) (s .args .first .now) (s .args .second .now)
+
+abbrev of-keys : tie.Start → List Line
+of-keys s = of-skeleton (s .args .skeleton .now)
+
+abbrev of-numbers : tie.Start → List Line
+of-numbers s = of-points (s .args .p) (s .args .points .now)
+
+abbrev of-last : tie.Start → List Line
+of-last s = of-rooms (s .args .output) (length (s .args .skeleton .now)) (s .args .work)
+
+-- the lists passed: what the lines behind say, all say
+past-lists : {f : Fault} (c : tie.Else1) → let s = start (c .before .before) in
+    Tested (of-keys s ++ (of-numbers s ++ of-last s)) f → Tested (of-both s ++ (of-keys s ++ (of-numbers s ++ of-last s))) f
+past-lists c =
+    let s = start (c .before .before) in
+    let r = c .before .before .lists-fault in
+    tested-goes-on (of-both s) (of-keys s ++ (of-numbers s ++ of-last s)) (r .result) (r .ensures) tt (c .if1 .left)
+
+-- and so where the skeleton passed
+past-keys : {f : Fault} (c : tie.Else2) → let s = start (c .before .before .before .before .before) in
+    Tested (of-numbers s ++ of-last s) f → Tested (of-both s ++ (of-keys s ++ (of-numbers s ++ of-last s))) f
+past-keys c t =
+    let s = start (c .before .before .before .before .before) in
+    let r = c .before .before .skeleton-fault in
+    past-lists (c .before .before .before) (tested-goes-on (of-keys s) (of-numbers s ++ of-last s) (r .result) (r .ensures) tt (c .if2 .left) t)
+
 lists-fault-requires : tie.Need-lists-fault-requires
 lists-fault-requires c κs = search needs
 
 returns : tie.Need-returns
 returns c =
-    let a = c .before .before .before .before .before .before .before .args in
-    let of-first = of-lists (a .p) (a .first .now) (a .second .now) in
-    let of-second = of-skeleton (a .skeleton .now) in
-    let of-third = of-points (a .p) (a .points .now) in
-    let of-last = of-rooms (a .output) (length (a .skeleton .now)) (a .work) in
-    tested-stops of-first (of-second ++ (of-third ++ of-last)) (c .before .before .lists-fault .result) (c .before .before .lists-fault .ensures) (c .if1 .taken)
+    let s = start (c .before .before) in
+    let r = c .before .before .lists-fault in
+    tested-stops (of-both s) (of-keys s ++ (of-numbers s ++ of-last s)) (r .result) (r .ensures) (c .if1 .taken)
 
 skeleton-fault-requires : tie.Need-skeleton-fault-requires
 skeleton-fault-requires c κs = search needs
 
 returns-2 : tie.Need-returns-2
 returns-2 c =
-    let a = c .before .before .before .before .before .before .before .before .before .before .args in
-    let of-first = of-lists (a .p) (a .first .now) (a .second .now) in
-    let of-second = of-skeleton (a .skeleton .now) in
-    let of-third = of-points (a .p) (a .points .now) in
-    let of-last = of-rooms (a .output) (length (a .skeleton .now)) (a .work) in
-    let lists = c .before .before .before .before .before .lists-fault in
-    let keys = c .before .before .skeleton-fault in
-    tested-goes-on of-first (of-second ++ (of-third ++ of-last)) (lists .result) (lists .ensures) tt (c .before .before .before .if1 .left)
-    (tested-stops of-second (of-third ++ of-last) (keys .result) (keys .ensures) (c .if2 .taken))
+    let s = start (c .before .before .before .before .before) in
+    let r = c .before .before .skeleton-fault in
+    past-lists (c .before .before .before) (tested-stops (of-keys s) (of-numbers s ++ of-last s) (r .result) (r .ensures) (c .if2 .taken))
 
 points-fault-requires : tie.Need-points-fault-requires
 points-fault-requires c κs = search needs
 
 returns-3 : tie.Need-returns-3
 returns-3 c =
-    let a = c .before .before .before .before .before .before .before .before .before .before .before .before .before .args in
-    let of-first = of-lists (a .p) (a .first .now) (a .second .now) in
-    let of-second = of-skeleton (a .skeleton .now) in
-    let of-third = of-points (a .p) (a .points .now) in
-    let of-last = of-rooms (a .output) (length (a .skeleton .now)) (a .work) in
-    let lists = c .before .before .before .before .before .before .before .before .lists-fault in
-    let keys = c .before .before .before .before .before .skeleton-fault in
-    let numbers = c .before .before .points-fault in
-    tested-goes-on of-first (of-second ++ (of-third ++ of-last)) (lists .result) (lists .ensures) tt (c .before .before .before .before .before .before .if1 .left)
-    (tested-goes-on of-second (of-third ++ of-last) (keys .result) (keys .ensures) tt (c .before .before .before .if2 .left)
-    (tested-stops of-third of-last (numbers .result) (numbers .ensures) (c .if3 .taken)))
+    let s = start (c .before .before .before .before .before .before .before .before) in
+    let r = c .before .before .points-fault in
+    past-keys (c .before .before .before) (tested-stops (of-numbers s) (of-last s) (r .result) (r .ensures) (c .if3 .taken))
 
 rooms-fault-requires : tie.Need-rooms-fault-requires
 rooms-fault-requires c κs = search needs
 
 returns-4 : tie.Need-returns-4
 returns-4 c =
-    let a = c .before .before .before .before .before .before .before .before .before .before .before .before .before .before .args in
-    let of-first = of-lists (a .p) (a .first .now) (a .second .now) in
-    let of-second = of-skeleton (a .skeleton .now) in
-    let of-third = of-points (a .p) (a .points .now) in
-    let of-last = of-rooms (a .output) (length (a .skeleton .now)) (a .work) in
-    let lists = c .before .before .before .before .before .before .before .before .before .lists-fault in
-    let keys = c .before .before .before .before .before .before .skeleton-fault in
-    let numbers = c .before .before .before .points-fault in
-    tested-goes-on of-first (of-second ++ (of-third ++ of-last)) (lists .result) (lists .ensures) tt (c .before .before .before .before .before .before .before .if1 .left)
-    (tested-goes-on of-second (of-third ++ of-last) (keys .result) (keys .ensures) tt (c .before .before .before .before .if2 .left)
-    (tested-goes-on of-third of-last (numbers .result) (numbers .ensures) tt (c .before .if3 .left) (c .rooms-fault .ensures)))
+    let s = start (c .before .before .before .before .before .before .before .before .before) in
+    let r = c .before .before .before .points-fault in
+    past-keys (c .before .before .before .before) (tested-goes-on (of-numbers s) (of-last s) (r .result) (r .ensures) tt (c .before .if3 .left) (c .rooms-fault .ensures))
 
 pub candidate-fault-spec : {M : Type 1} → statement M
 candidate-fault-spec =

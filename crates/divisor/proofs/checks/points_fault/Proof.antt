@@ -4,7 +4,6 @@ use mathlib.Core.Logic.{inl, inr}
 use Rattle.field.specs.RefusalLaws.{tested-line}
 use Rattle.divisor.specs.Laws.Checks.{points-wrong, points-right}
 use borrow.Author.Needs.{needs}
-use borrow.Author.Needs.{needs}
 use Rattle.divisor.proofs.checks.points_fault.Statement.{statement}
 use Rattle.divisor.proofs.checks.points_fault.Tie as tie
 

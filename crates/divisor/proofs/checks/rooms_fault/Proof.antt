@@ -3,7 +3,6 @@ use mathlib.Core.Path.{refl}
 use native.Mathlib.Omega.{arith}
 use Rattle.field.specs.RefusalLaws.{placed-never, tested-line, tested-past, tested-end}
 use borrow.Author.Needs.{needs}
-use borrow.Author.Needs.{needs}
 use Rattle.divisor.proofs.checks.rooms_fault.Statement.{statement}
 use Rattle.divisor.proofs.checks.rooms_fault.Tie as tie
 

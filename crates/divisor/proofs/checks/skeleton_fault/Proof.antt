@@ -4,7 +4,6 @@ use mathlib.Core.Logic.{inl, inr}
 use Rattle.field.specs.RefusalLaws.{tested-line}
 use Rattle.divisor.specs.Laws.Checks.{skeleton-wrong, skeleton-right}
 use borrow.Author.Needs.{needs}
-use borrow.Author.Needs.{needs}
 use Rattle.divisor.proofs.checks.skeleton_fault.Statement.{statement}
 use Rattle.divisor.proofs.checks.skeleton_fault.Tie as tie
 

@@ -4,12 +4,6 @@ use mathlib.Core.Path.{_≡_, refl, sym, _∙_, ap}
 use Prim.Native.Nat.{ℕ, zero, suc, _+_, _-_}
 use native.Mathlib.Omega.{arith}
 use Rattle.divisor.specs.Models.Looks.{next-column}
--- `divisor::equations::column_of` meets its contract: the two cases of the definition. Assumes nothing.
-use borrow.Author.Needs.{needs}
-use mathlib.Core.Path.{_≡_, refl, sym, _∙_, ap}
-use Prim.Native.Nat.{ℕ, zero, suc, _+_, _-_}
-use native.Mathlib.Omega.{arith}
-use Rattle.divisor.specs.Models.Looks.{next-column}
 use Rattle.divisor.proofs.equations.column_of.Statement.{statement}
 use Rattle.divisor.proofs.equations.column_of.Tie as tie
 

@@ -12,7 +12,8 @@ use Rattle.divisor.specs.Laws.TableKept.{empty-ready}
 use Rattle.divisor.specs.Models.Sorting.{alike}
 use Rattle.divisor.specs.Models.Looks.{kept-before, Equations-before}
 use Rattle.divisor.specs.Laws.Turns.{alike-same, alike-other}
-use Rattle.divisor.specs.Laws.LookTurns.{equations-start, equations-ready, equations-columns, equations-other, equations-same, enough, next-fits, part-is, part-length, equations-to-at, length-none, length-same, length-other}
+use Rattle.divisor.specs.Laws.Parts.{part-is, part-length}
+use Rattle.divisor.specs.Laws.LookTurns.{equations-start, equations-ready, equations-columns, equations-other, equations-same, points-sized, next-fits, equations-to-at, length-none, length-same, length-other}
 use Rattle.divisor.proofs.equations.equations.Statement.{statement}
 use Rattle.divisor.proofs.equations.equations.Tie as tie
 
@@ -35,7 +36,7 @@ loop-holds c =
       omega arith,
       omega arith,
       subst (Equations-before 0 (a .p) (a .skeleton .now) (a .points .now) (a .t4) (a .work .now) (a .least) (a .columns)) (sym (c .empty .ensures))
-          (equations-start (a .p) (a .skeleton .now) (a .points .now) (a .t4) (a .work .now) (a .least) (a .columns)),
+          equations-start,
       λ P. length-none P (a .least) (a .points .now) (a .t4) (a .work .now),
     )
 
@@ -50,7 +51,7 @@ column-of-requires c κs =
     let s = c .before .before .before .before .before .before .before in
     let a = s .args in
     let l = c .before .before .loop in
-    let left = alike-same (a .t4) (length (a .points .now) / 3) (l .i) (a .least) (enough (length (a .points .now)) (a .t4) (s .pre .few) (s .pre .count)) (c .before .loop-test .taken) (c .if1 .taken) in
+    let left = alike-same (a .t4) (length (a .points .now) / 3) (l .i) (a .least) (points-sized (length (a .points .now)) (a .t4) (s .pre .few) (s .pre .count)) (c .before .loop-test .taken) (c .if1 .taken) in
     record {
       behind = omega (arith, s .pre .columns-are, s .pre .some);
       most = s .pre .most;
@@ -99,12 +100,12 @@ point-equations-requires c κs =
     let a = s .args in
     let l = c .before .before .before .before .before .loop in
     let e = c .before .before .column-of .ensures in
-    let left = alike-same (a .t4) (length (a .points .now) / 3) (l .i) (a .least) (enough (length (a .points .now)) (a .t4) (s .pre .few) (s .pre .count)) (c .before .before .before .before .loop-test .taken) (c .before .before .before .if1 .taken) in
+    let left = alike-same (a .t4) (length (a .points .now) / 3) (l .i) (a .least) (points-sized (length (a .points .now)) (a .t4) (s .pre .few) (s .pre .count)) (c .before .before .before .before .loop-test .taken) (c .before .before .before .if1 .taken) in
     let i : l .i < length (a .points .now) / 3 = c .before .before .before .before .loop-test .taken in
     let fits = next-fits (a .columns - length (a .skeleton .now) - 1) (l .kept) (omega (arith, s .pre .columns-are, l .inv .1, left)) in
-    let columns = equations-columns (a .p) (a .skeleton .now) (a .points .now) (a .t4) (a .work .now) (a .least) (a .columns) (l .i) (l .t) (l .inv .2) in
+    let columns = equations-columns (l .inv .2) in
     record {
-      table = equations-ready (a .p) (a .skeleton .now) (a .points .now) (a .t4) (a .work .now) (a .least) (a .columns) (l .i) (l .t) (l .inv .2)
+      table = equations-ready (l .inv .2)
           (empty-ready (a .p) (a .columns) (s .pre .listed) (record { some = omega (arith, s .pre .columns-are, s .pre .some); most = s .pre .most }));
       small = s .pre .small;
       three = ap length (part-is 3 (l .i) (a .points .now)) ∙ part-length 3 (l .i) (a .points .now) (omega (arith, s .pre .threes));
@@ -129,7 +130,7 @@ loop-again c =
     let l = c .before .before .loop in
     let n = length (a .points .now) / 3 in
     let i : l .i < length (a .points .now) / 3 = c .before .loop-test .taken in
-    let within = enough (length (a .points .now)) (a .t4) (s .pre .few) (s .pre .count) in
+    let within = points-sized (length (a .points .now)) (a .t4) (s .pre .few) (s .pre .count) in
     ⊎-elim
     (λ w.
     let left = alike-same (a .t4) n (l .i) (a .least) within i (w .0 .taken) in
@@ -137,7 +138,7 @@ loop-again c =
       omega arith,
       omega (arith, k, l .inv .1, left),
       subst (Equations-before (l .i + 1) (a .p) (a .skeleton .now) (a .points .now) (a .t4) (a .work .now) (a .least) (a .columns)) (sym (w .5))
-          (equations-same (a .p) (a .skeleton .now) (a .points .now) (a .t4) (a .work .now) (a .least) (a .columns) (l .i) (l .t) (l .inv .2) (w .0 .taken)
+          (equations-same (l .inv .2) (w .0 .taken)
           (w .1 .result) (l .kept) (a .columns - length (a .skeleton .now) - 1) (w .4 .result) (l .inv .3)
           (omega (arith, s .pre .columns-are, s .pre .some)) (omega (arith, s .pre .columns-are, s .pre .some)) (w .1 .ensures)
           (next-fits (a .columns - length (a .skeleton .now) - 1) (l .kept) (omega (arith, s .pre .columns-are, l .inv .1, left)))
@@ -150,7 +151,7 @@ loop-again c =
       omega arith,
       omega (arith, k, l .inv .1, left),
       subst (Equations-before (l .i + 1) (a .p) (a .skeleton .now) (a .points .now) (a .t4) (a .work .now) (a .least) (a .columns)) (sym (w .1))
-          (equations-other (a .p) (a .skeleton .now) (a .points .now) (a .t4) (a .work .now) (a .least) (a .columns) (l .i) (l .t) (l .inv .2) (w .0 .left)),
+          (equations-other (l .inv .2) (w .0 .left)),
       λ P. length-other P (a .least) (a .points .now) (a .t4) (a .work .now) (l .i) (l .kept) (l .inv .3 P) (w .0 .left) ∙ sym k,
     ))
     (c .if1 .came)

@@ -7,7 +7,7 @@ use lib.ListN.{length}
 use Rattle.poly.specs.declared.ImageRecord.{ImageRecord}
 use Rattle.poly.specs.Models.Image.{Fine, image-of}
 use Rattle.divisor.specs.Models.Looks.{look-at, Looks}
-use Rattle.divisor.specs.Laws.LookTurns.{part-is}
+use Rattle.divisor.specs.Laws.Parts.{part-is}
 use Rattle.divisor.specs.Laws.Stores.{looks-start, looks-next}
 use Rattle.divisor.specs.Laws.Looking.{point-fine, look-small, look-eight}
 use Rattle.divisor.proofs.points.look.Statement.{statement}
@@ -20,7 +20,7 @@ abbrev μ-loop : tie.MeasureT-loop
 μ-loop p first second points work₀ sizes₀ i₀ work sizes i = length points / 3 - i
 
 loop-holds : tie.Need-loop-holds Inv-loop μ-loop
-loop-holds c = (omega arith, looks-start _ _ _ _ _)
+loop-holds c = (omega arith, looks-start)
 
 mul-at : tie.Need-mul-at Inv-loop μ-loop
 mul-at c = search needs
@@ -85,7 +85,7 @@ loop-again c =
     let seen = c .before .before .before .before .before .before .image-at in
     let e : seen .result ≡ look-at (a .p) (a .first .now) (a .second .now) (a .points .now) (l .i) = seen .ensures ∙ ap (image-of (a .p) (a .first .now) (a .second .now)) (part-is 3 (l .i) (a .points .now)) in (
       omega arith,
-      looks-next (a .p) (a .first .now) (a .second .now) (a .points .now) (a .work .now) (l .i) (l .work) _ (l .sizes) (seen .result) (c .before .before .before .before .before .size .result) (omega (arith, s .pre .few)) (s .pre .room) (l .inv .1)
+      looks-next (omega (arith, s .pre .few)) (s .pre .room) (l .inv .1)
           e (ap (λ (r : ImageRecord). length (r .coefficients)) e ∙ look-eight (a .p) (a .first .now) (a .second .now) (a .points .now) (a .work .now) (s .pre) (l .i) .eight)
           (c .before .before .before .before .before .size .ensures) (c .before .before .store .ensures),
     )

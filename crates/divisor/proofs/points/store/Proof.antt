@@ -15,7 +15,7 @@ abbrev μ-loop : tie.MeasureT-loop
 μ-loop at work₀ coefficients j₀ work j = 8 - j
 
 loop-holds : tie.Need-loop-holds Inv-loop μ-loop
-loop-holds c = (omega arith, stored-start _ _ _)
+loop-holds c = (omega arith, stored-start)
 
 mul-work : tie.Need-mul-work Inv-loop μ-loop
 mul-work c = search needs
@@ -42,7 +42,7 @@ loop-again : tie.Need-loop-again Inv-loop μ-loop
 loop-again c =
     let s = c .before .before in
     let l = c .before .loop in
-    (omega arith, stored-next (s .args .t1) (s .args .at) (s .args .work .now) (l .j) (l .work) (omega (arith, l .inv .1 .same-length, s .pre .within, s .pre .room)) (l .inv .1))
+    (omega arith, stored-next (omega (arith, l .inv .1 .same-length, s .pre .within, s .pre .room)) (l .inv .1))
 
 same-length : tie.Need-same-length Inv-loop μ-loop
 same-length c = search needs

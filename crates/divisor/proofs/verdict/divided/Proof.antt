@@ -33,9 +33,8 @@ slice-aggregate-list c =
 divides-both-requires : tie.Need-divides-both-requires
 divides-both-requires c κs =
     let s = c .before .before .before .before .before .before .before .before .before in
-    let a = s .args in
     let m = c .before .before .before .made-monic in
-    can-divide (a .p) (a .first .now) (a .second .now) (a .skeleton .now) (a .values) (a .output .now) (a .work .now) (s .pre) (m .result) (m .ensures) _ refl
+    can-divide (s .pre) (m .ensures) refl
 
 same-length : tie.Need-same-length
 same-length c = search needs
@@ -43,17 +42,15 @@ same-length c = search needs
 returns : tie.Need-returns
 returns c =
     let s = c .before .before .before .before .before .before .before .before .before .before .before .before .before in
-    let a = s .args in
     let m = c .before .before .before .before .before .before .before .made-monic in
     let d = c .before .before .before .divides-both in
-    settled-rejected (a .p) (a .first .now) (a .second .now) (a .skeleton .now) (a .values) (a .output .now) (a .work .now) (s .pre) (m .result) (m .ensures) _ refl _ (d .result) (d .ensures) (c .if1 .taken)
+    settled-rejected (s .pre) (m .ensures) refl (d .ensures) (c .if1 .taken)
 
 write-requires : tie.Need-write-requires
 write-requires c κs =
     let s = c .before .before .before .before .before .before .before .before .before .before .before .before .before .before in
-    let a = s .args in
     let m = c .before .before .before .before .before .before .before .before .made-monic in
-    fits-output (a .p) (a .first .now) (a .second .now) (a .skeleton .now) (a .values) (a .output .now) (a .work .now) (s .pre) (m .result) (m .ensures) _ refl
+    fits-output (s .pre) (m .ensures) refl
 
 same-length-2 : tie.Need-same-length-2
 same-length-2 c = search needs
@@ -64,10 +61,9 @@ same-length-3 c = search needs
 returns-2 : tie.Need-returns-2
 returns-2 c =
     let s = c .before .before .before .before .before .before .before .before .before .before .before .before .before .before .before .before .before in
-    let a = s .args in
     let m = c .before .before .before .before .before .before .before .before .before .before .before .made-monic in
     let d = c .before .before .before .before .before .before .before .divides-both in
-    settled-accepted (a .p) (a .first .now) (a .second .now) (a .skeleton .now) (a .values) (a .output .now) (a .work .now) (s .pre) (m .result) (m .ensures) _ refl _ (d .result) (d .ensures) (c .before .before .before .before .if1 .left) _ (c .before .before .write .ensures)
+    settled-accepted (s .pre) (m .ensures) refl (d .ensures) (c .before .before .before .before .if1 .left) (c .before .before .write .ensures)
 
 pub divided-spec : {M : Type 1} → statement M
 divided-spec =

@@ -11,22 +11,16 @@ same-length : tie.Need-same-length
 same-length c = search needs
 
 returns : tie.Need-returns
-returns c =
-    let a = c .before .before .before .before .before .before .before .before .before .args in
-    first-fails (a .p) (a .first .now) (a .second .now) (a .divisor .now) (a .work .now) _ (c .before .before .before .divides .result) (c .before .before .before .divides .ensures) (c .if1 .taken)
+returns c = first-fails (c .before .before .before .divides .ensures) (c .if1 .taken)
 
 divides-requires-2 : tie.Need-divides-requires-2
-divides-requires-2 c κs =
-    let s = c .before .before .before .before .before .before .before .before .before .before in
-    divide-again (s .args .p) (s .args .second .now) (s .args .divisor .now) (s .args .work .now) _ (c .before .before .before .before .divides .ensures .room) (s .pre .second)
+divides-requires-2 c κs = divide-again (c .before .before .before .before .divides .ensures .room) (c .before .before .before .before .before .before .before .before .before .before .pre .second)
 
 same-length-2 : tie.Need-same-length-2
 same-length-2 c = search needs
 
 returns-2 : tie.Need-returns-2
-returns-2 c =
-    let a = c .before .before .before .before .before .before .before .before .before .before .before .before .before .args in
-    then-second (a .p) (a .first .now) (a .second .now) (a .divisor .now) (a .work .now) _ (c .before .before .before .before .before .before .before .divides .result) (c .before .before .before .before .before .before .before .divides .ensures) (c .before .before .before .before .if1 .left) _ (c .before .before .divides2 .result) (c .before .before .divides2 .ensures)
+returns-2 c = then-second (c .before .before .before .before .before .before .before .divides .ensures) (c .before .before .before .before .if1 .left) (c .before .before .divides2 .ensures)
 
 pub divides-both-spec : {M : Type 1} → statement M
 divides-both-spec =

@@ -22,26 +22,21 @@ enum-told-3 c = search needs
 divided-requires : tie.Need-divided-requires
 divided-requires c κs =
     let s = c .before .before .before .before .before .before .before .before .before .before in
-    let a = s .args in
-    only-ready (a .p) (a .first .now) (a .second .now) (a .skeleton .now) (a .solved) (a .output .now) (a .work .now) (c .before .before .enum-told3 .given .1) (s .pre)
+    only-ready (s .args .solved) (c .before .before .enum-told3 .given .1) (s .pre)
 
 same-length : tie.Need-same-length
 same-length c = search needs
 
 returns : tie.Need-returns
 returns c =
-    let a = c .before .before .before .before .before .before .before .before .before .before .before .before .args in
-    let r = c .before .before .refused in
-    settled-none (a .p) (a .first .now) (a .second .now) (a .skeleton .now) (a .solved) (a .output .now) (a .work .now) _ (r .result) (c .before .before .before .before .enum-told .given .1) (r .ensures)
+    settled-none (c .before .before .before .before .enum-told .given .1) (c .before .before .refused .ensures)
 
 same-length-2 : tie.Need-same-length-2
 same-length-2 c = search needs
 
 returns-2 : tie.Need-returns-2
 returns-2 c =
-    let a = c .before .before .before .before .before .before .before .before .before .before .before .before .args in
-    let r = c .before .before .refused2 in
-    settled-several (a .p) (a .first .now) (a .second .now) (a .skeleton .now) (a .solved) (a .output .now) (a .work .now) _ (r .result) (c .before .before .before .before .enum-told2 .given .1) (r .ensures)
+    settled-several (c .before .before .before .before .enum-told2 .given .1) (c .before .before .refused2 .ensures)
 
 same-length-3 : tie.Need-same-length-3
 same-length-3 c = search needs
@@ -52,8 +47,7 @@ same-length-4 c = search needs
 returns-3 : tie.Need-returns-3
 returns-3 c =
     let a = c .before .before .before .before .before .before .before .before .before .before .before .before .before .before .before .args in
-    let d = c .before .before .before .before .divided in
-    settled-only (a .p) (a .first .now) (a .second .now) (a .skeleton .now) (a .solved) (a .output .now) (a .work .now) (c .before .before .before .before .before .before .before .enum-told3 .given .1) (d .ensures)
+    settled-only (a .solved) (c .before .before .before .before .before .before .before .enum-told3 .given .1) (c .before .before .before .before .divided .ensures)
 
 pub settle-spec : {M : Type 1} → statement M
 settle-spec =
