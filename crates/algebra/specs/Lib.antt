@@ -1,5 +1,7 @@
 -- The mathematics that the layers cite: generic in the ring or the field, constructive, without a function of code.
 pub mod Ring
+pub mod NormalForm
+pub mod NormalFormLaws
 pub mod Solver
 pub mod Series
 pub mod Degree

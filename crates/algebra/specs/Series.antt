@@ -56,7 +56,7 @@ module _ (R : CommRing) where
   unfolding conv
   conv-dist f g h zero = R .distrib _ _ _
   conv-dist f g h (suc n) = ap₂ _+_ (R .distrib _ _ _) (conv-dist (tail f) (tail g) h n)
-      ∙ simp (R .add-assoc, R .add-comm, add-left-comm R)
+      ∙ simp (R .add-assoc, R .add-comm)
 
   pub conv-assoc : (f g h : Seq R) (n : ℕ) → conv (conv f g) h n ≡ conv f (conv g h) n
   unfolding conv
