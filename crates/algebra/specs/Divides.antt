@@ -69,18 +69,31 @@ module _ (R : CommRing) where
   pub top-le : (m n : ℕ) (f : Seq R) → Top R m f → Top R n f → m ≤ n
   top-le m n f s t = elim (decLe m n) [ yes l ↦ l | no q ↦ absurd (s .nonzero (t .ends m (omega arith))) ]
 
-  -- a divisor's degree is at most the degree
-  pub div-top : (D : Domain R) (m : ℕ) (e f : Seq R) → Finite R D e → Div (SeriesR R) (SeriesD R D) e f → Top R m f → (n : ℕ) × (n ≤ m) × Top R n e
-  div-top D m e f he d t = go (finite-top R D e he) (finite-top R D (d .quo) (d .fin))
-    where
-      go : ((n : ℕ) → e n ≡ 𝟘) ⊎ ((n : ℕ) × Top R n e) → ((n : ℕ) → d .quo n ≡ 𝟘) ⊎ ((n : ℕ) × Top R n (d .quo)) → (n : ℕ) × (n ≤ m) × Top R n e
-      go (inl z) b = absurd (t .nonzero (sym (ap (λ (u : Seq R). u m) (d .eq)) ∙ conv-null R e (d .quo) z m))
-      go (inr s) (inl z) = absurd (t .nonzero (sym (ap (λ (u : Seq R). u m) (d .eq)) ∙ conv-comm R e (d .quo) m ∙ conv-null R (d .quo) e z m))
-      go (inr s) (inr u) =
-          let w : Top R (s .0 +ₙ u .0) f = subst (Top R (s .0 +ₙ u .0)) (d .eq)
-          (top-mul R D (s .0) (u .0) e (d .quo) (he .coef (s .0)) (d .fin .coef (u .0)) (s .1) (u .1)) in
-          let l : s .0 +ₙ u .0 ≤ m = top-le (s .0 +ₙ u .0) m f w t in
-          (s .0, omega arith, s .1)
+  pub top-unique : (m n : ℕ) (f : Seq R) → Top R m f → Top R n f → m ≡ n
+  top-unique m n f s t = let l = top-le m n f s t in let k = top-le n m f t s in omega arith
+
+  module _ (D : Domain R) (m : ℕ) (e f : Seq R) (he : Finite R D e) (d : Div (SeriesR R) (SeriesD R D) e f) (t : Top R m f) where
+    product-at : f m ≡ conv R e (d .quo) m
+    product-at = sym (ap (λ (u : Seq R). u m) (d .eq))
+
+    -- the degrees of a divisor and of the quotient add up to the degree
+    pub quotient-top : (n : ℕ) → Top R n e → (k : ℕ) × (n +ₙ k ≡ m) × Top R k (d .quo)
+    quotient-top n s = go (finite-top R D (d .quo) (d .fin))
+      where
+        go : ((k : ℕ) → d .quo k ≡ 𝟘) ⊎ ((k : ℕ) × Top R k (d .quo)) → (k : ℕ) × (n +ₙ k ≡ m) × Top R k (d .quo)
+        go (inl z) = absurd (t .nonzero (product-at ∙ conv-comm R e (d .quo) m ∙ conv-null R (d .quo) e z m))
+        go (inr u) =
+            let both : Top R (n +ₙ u .0) f = subst (Top R (n +ₙ u .0)) (d .eq)
+            (top-mul R D n (u .0) e (d .quo) (he .coef n) (d .fin .coef (u .0)) s (u .1)) in
+            (u .0, top-unique (n +ₙ u .0) m f both t, u .1)
+
+    -- a divisor's degree is at most the degree
+    pub div-top : (n : ℕ) × (n ≤ m) × Top R n e
+    div-top = go (finite-top R D e he)
+      where
+        go : ((n : ℕ) → e n ≡ 𝟘) ⊎ ((n : ℕ) × Top R n e) → (n : ℕ) × (n ≤ m) × Top R n e
+        go (inl z) = absurd (t .nonzero (product-at ∙ conv-null R e (d .quo) z m))
+        go (inr s) = let q = quotient-top (s .0) (s .1) in (s .0, omega (arith, q .1), s .1)
 
   unfoldable pub pow : Car → ℕ → Car
   pow a zero = 𝟙

@@ -1,4 +1,4 @@
--- GreatestCommon common divisors of two elements, and what leaves the common divisors of a pair as they are.
+-- Greatest common divisors of two elements, and what leaves the common divisors of a pair as they are.
 use mathlib.Core.Path.{_∙_, ap₂}
 use Rattle.algebra.specs.Ring.{CommRing}
 use Rattle.algebra.specs.Solver.{_⊕_, _⊗_, _⊖_, _≗_, ring3}

@@ -8,6 +8,7 @@ pub mod Degree
 pub mod Maps
 pub mod Mono
 pub mod Divides
+pub mod SameDegree
 pub mod Finite
 pub mod Field
 pub mod GreatestCommon
@@ -20,6 +21,5 @@ pub mod Division
 pub mod DivisionLaws
 pub mod Evaluate
 pub mod GoodValue
-pub mod SameDegree
 pub mod Linear
 pub mod LinearLaws

@@ -3,14 +3,14 @@ use mathlib.Core.Path.{_≡_, sym, _∙_, ap, ap₂, fun-ext, subst}
 use mathlib.Core.Logic.{_⊎_, inl, inr}
 use Prim.Native.Nat.{ℕ, zero, suc, _+_ as _+ₙ_, _-_ as _-ₙ_, _≤_}
 use native.Mathlib.Decide.{ℕ-discrete, decLe}
-use native.Mathlib.Nat.{add-zero as add-zeroₙ}
 use native.Mathlib.Omega.{arith}
 use Rattle.algebra.specs.Ring.{CommRing, mul-zero, one-mul}
 use Rattle.algebra.specs.Solver.{_⊕_, _⊗_, _⊖_, _≗_, k0, ring2, ring4}
-use Rattle.algebra.specs.Series.{Seq, addS, negS, zeroS, constS, conv, conv-const, conv-comm, SeriesR}
-use Rattle.algebra.specs.Degree.{Ends, Top, Domain, Finite, SeriesD, Ends-weaken, conv-null, conv-ends, conv-top, top-mul, finite-top}
+use Rattle.algebra.specs.Series.{Seq, addS, negS, zeroS, constS, conv, conv-const, SeriesR}
+use Rattle.algebra.specs.Degree.{Ends, Top, Domain, Finite, SeriesD, Ends-weaken, conv-ends, finite-top}
 use Rattle.algebra.specs.Mono.{mono, mono-high, mono-ends}
-use Rattle.algebra.specs.Divides.{top-le, div-top, mono-fin, const-fin}
+use Rattle.algebra.specs.Divides.{quotient-top, mono-fin, const-fin}
+use Rattle.algebra.specs.SameDegree.{same-degree-multiple}
 use Rattle.algebra.specs.Field.{Field, domain}
 use Rattle.algebra.specs.GreatestCommon.{GreatestCommon, Associate, greatest-swap, greatest-zero, greatest-subtract, greatest-first, greatest-associate}
 
@@ -180,14 +180,9 @@ module _ (F : Field) where
             greatest = greatest-divided (t .0) f g (w .gcd) d (w .greatest);
           }
 
-  constant : (u : Seq (F .ring)) → Ends (F .ring) 1 u → u 0 ≡ 𝟙 → (i : ℕ) → u i ≡ constS (F .ring) 𝟙 i
-  unfolding constS
-  constant u h e zero = e
-  constant u h e (suc i) = h (suc i) (omega arith)
-
   -- monic polynomials that divide each other are equal
   pub monic-associate : (m n : ℕ) (f g : Seq (F .ring)) → Monic (F .ring) m f → Monic (F .ring) n g → Associate Poly PolyD f g → (m ≡ n) × (f ≡ g)
-  monic-associate m n f g mf mg s = (same, go (finite-top (F .ring) (domain F) (s .to .quo) (s .to .fin)))
+  monic-associate m n f g mf mg s = (same, fun-ext λ i. sym (ap (_* f i) one ∙ one-mul (F .ring) (f i)) ∙ multiple .1 i)
     where
       tf : Top (F .ring) m f
       tf = monic-top m f mf
@@ -197,29 +192,15 @@ module _ (F : Field) where
 
       same : m ≡ n
       same =
-          let a = div-top (F .ring) (domain F) n f g (monic-fin m f mf) (s .to) tg in
-          let b = div-top (F .ring) (domain F) m g f (monic-fin n g mg) (s .from) tf in
-          let l : m ≤ a .0 = top-le (F .ring) m (a .0) f tf (a .2) in
-          let k : n ≤ b .0 = top-le (F .ring) n (b .0) g tg (b .2) in
-          let l′ : a .0 ≤ n = a .1 in
-          let k′ : b .0 ≤ m = b .1 in
-          omega arith
+          let a = quotient-top (F .ring) (domain F) n f g (monic-fin m f mf) (s .to) tg m tf in
+          let b = quotient-top (F .ring) (domain F) m g f (monic-fin n g mg) (s .from) tf n tg in
+          omega (arith, a .1, b .1)
 
-      go : ((i : ℕ) → s .to .quo i ≡ 𝟘) ⊎ ((k : ℕ) × Top (F .ring) k (s .to .quo)) → f ≡ g
-      go (inl z) = absurd (tg .nonzero (sym (ap (λ (u : Seq (F .ring)). u n) (s .to .eq)) ∙ conv-comm (F .ring) f (s .to .quo) n
-          ∙ conv-null (F .ring) (s .to .quo) f z n))
-      go (inr t) =
-          let w : Top (F .ring) (m +ₙ t .0) g = subst (Top (F .ring) (m +ₙ t .0)) (s .to .eq)
-          (top-mul (F .ring) (domain F) m (t .0) f (s .to .quo) tt tt tf (t .1)) in
-          let l : m +ₙ t .0 ≤ n = top-le (F .ring) (m +ₙ t .0) n g w tg in
-          let k0 : t .0 ≡ 0 = omega (arith, same) in
-          let q : Ends (F .ring) 1 (s .to .quo) = subst (λ k. Ends (F .ring) (suc k) (s .to .quo)) k0 (t .1 .ends) in
-          let one : s .to .quo 0 ≡ 𝟙 =
-          sym (one-mul (F .ring) _) ∙ ap (_* s .to .quo 0) (sym (mf .leads))
-          ∙ sym (conv-top (F .ring) m 0 f (s .to .quo) (mf .ends) q)
-          ∙ ap (conv (F .ring) f (s .to .quo)) (add-zeroₙ m ∙ same)
-          ∙ ap (λ (u : Seq (F .ring)). u n) (s .to .eq) ∙ mg .leads in
-          sym (Poly .mul-one f) ∙ ap (conv (F .ring) f) (sym (fun-ext (constant (s .to .quo) q one))) ∙ s .to .eq
+      multiple : (c : Car) × ((i : ℕ) → c * f i ≡ g i)
+      multiple = same-degree-multiple (F .ring) (domain F) m f g (monic-fin m f mf) tf (subst (λ k. Top (F .ring) k g) (sym same) tg) (s .to)
+
+      one : multiple .0 ≡ 𝟙
+      one = sym (ap (multiple .0 *_) (mf .leads) ∙ F .ring .mul-one _) ∙ multiple .1 m ∙ ap g same ∙ mg .leads
 
   -- and it is unique
   pub monic-greatest-unique : (m n : ℕ) (f g u v : Seq (F .ring)) → Monic (F .ring) m u → Monic (F .ring) n v
