@@ -5,7 +5,7 @@ use Prim.Native.Nat.{ℕ, _+_, _≤_, _<_}
 use native.Mathlib.Decide.{decLt}
 use native.Mathlib.Omega.{arith}
 use Rattle.algebra.specs.Ring.{CommRing}
-use Rattle.algebra.specs.Series.{SeriesR, S4}
+use Rattle.algebra.specs.Series.{SeriesR, S2, S3, S4}
 use Rattle.algebra.specs.Degree.{Domain, SeriesD}
 
 pub record Exponents : Type 0 where
@@ -87,6 +87,12 @@ module _ (R : CommRing) where
   abbrev pub coef : S4 R .Car → Exponents → R .Car
   coef f e = f (e .x) (e .y) (e .z) (e .w)
 
-  -- the finite elements: polynomials
+  -- the finite elements: polynomials, in two, three and four variables
+  abbrev pub D2 : Domain R → Domain (S2 R)
+  D2 D = SeriesD (SeriesR R) (SeriesD R D)
+
+  abbrev pub D3 : Domain R → Domain (S3 R)
+  D3 D = SeriesD (S2 R) (D2 D)
+
   abbrev pub D4 : Domain R → Domain (S4 R)
-  D4 D = SeriesD (SeriesR (SeriesR (SeriesR R))) (SeriesD (SeriesR (SeriesR R)) (SeriesD (SeriesR R) (SeriesD R D)))
+  D4 D = SeriesD (S3 R) (D3 D)

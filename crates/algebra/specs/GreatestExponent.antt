@@ -5,11 +5,11 @@ use Prim.Native.Nat.{ℕ, zero, suc, _+_ as _+ₙ_, _<_}
 use native.Mathlib.Decide.{decLt}
 use native.Mathlib.Omega.{arith}
 use Rattle.algebra.specs.Ring.{CommRing}
-use Rattle.algebra.specs.Series.{SeriesR, S4}
+use Rattle.algebra.specs.Series.{SeriesR, S2, S3, S4}
 use Rattle.algebra.specs.Degree.{Ends, Top, Domain, SeriesD, top-mul, series-top, series-dec0}
 use Rattle.algebra.specs.Maps.{Hom, SeriesH, flipH}
 use Rattle.algebra.specs.Finite.{Keeps, keeps-map, keeps-flip}
-use Rattle.algebra.specs.Four.{Exponents, coef, D4}
+use Rattle.algebra.specs.Four.{Exponents, coef, D2, D3, D4}
 use Rattle.algebra.specs.Lead.{lead-exists}
 
 pub data Variable : Type 0 where
@@ -67,46 +67,28 @@ module _ (Q R S : CommRing) where
   keeps-compose D E F φ ψ k l a pa = l (φ .fn a) (k a pa)
 
 module _ (R : CommRing) (D : Domain R) where
-  abbrev S₁ : CommRing
-  S₁ = SeriesR R
-
-  abbrev S₂ : CommRing
-  S₂ = SeriesR S₁
-
-  abbrev S₃ : CommRing
-  S₃ = SeriesR S₂
-
-  abbrev D₁ : Domain S₁
-  D₁ = SeriesD R D
-
-  abbrev D₂ : Domain S₂
-  D₂ = SeriesD S₁ D₁
-
-  abbrev D₃ : Domain S₃
-  D₃ = SeriesD S₂ D₂
-
   -- x y, y z and z w change places
   abbrev swap-xy : Hom (S4 R) (S4 R)
-  swap-xy = flipH S₂
+  swap-xy = flipH (S2 R)
 
   abbrev swap-yz : Hom (S4 R) (S4 R)
-  swap-yz = SeriesH S₃ S₃ (flipH S₁)
+  swap-yz = SeriesH (S3 R) (S3 R) (flipH (SeriesR R))
 
   abbrev swap-zw : Hom (S4 R) (S4 R)
-  swap-zw = SeriesH S₃ S₃ (SeriesH S₂ S₂ (flipH R))
+  swap-zw = SeriesH (S3 R) (S3 R) (SeriesH (S2 R) (S2 R) (flipH R))
 
   keeps-same : Keeps (S4 R) (S4 R) (D4 R D) (D4 R D) (record { fn = λ f. f; zero = refl; one = refl; add = λ a b. refl; mul = λ a b. refl })
   unfolding Keeps
   keeps-same f pf = pf
 
   keeps-xy : Keeps (S4 R) (S4 R) (D4 R D) (D4 R D) swap-xy
-  keeps-xy = keeps-flip S₂ D₂
+  keeps-xy = keeps-flip (S2 R) (D2 R D)
 
   keeps-yz : Keeps (S4 R) (S4 R) (D4 R D) (D4 R D) swap-yz
-  keeps-yz = keeps-map S₃ S₃ D₃ D₃ (flipH S₁) (keeps-flip S₁ D₁)
+  keeps-yz = keeps-map (S3 R) (S3 R) (D3 R D) (D3 R D) (flipH (SeriesR R)) (keeps-flip (SeriesR R) (SeriesD R D))
 
   keeps-zw : Keeps (S4 R) (S4 R) (D4 R D) (D4 R D) swap-zw
-  keeps-zw = keeps-map S₃ S₃ D₃ D₃ (SeriesH S₂ S₂ (flipH R)) (keeps-map S₂ S₂ D₂ D₂ (flipH R) (keeps-flip R D))
+  keeps-zw = keeps-map (S3 R) (S3 R) (D3 R D) (D3 R D) (SeriesH (S2 R) (S2 R) (flipH R)) (keeps-map (S2 R) (S2 R) (D2 R D) (D2 R D) (flipH R) (keeps-flip R D))
 
   front : (v : Variable) → Front R D v
   front in-x = record {
@@ -166,32 +148,32 @@ module _ (R : CommRing) (D : Domain R) where
     unfolding moved
     moved-mul f g = F .hom .mul f g
 
-    ends-of : (n : ℕ) (f : S4 R .Car) → Within R v n f → Ends S₃ (suc n) (moved f)
+    ends-of : (n : ℕ) (f : S4 R .Car) → Within R v n f → Ends (S3 R) (suc n) (moved f)
     unfolding moved
     ends-of n f h k l = fun-ext λ b. fun-ext λ c. fun-ext λ d.
         let e : Exponents = record { x = k; y = b; z = c; w = d } in
         F .back-coef f e ∙ h (F .back e) (subst (λ i. n < i) (sym (F .back-v e)) l)
 
-    within-of : (n : ℕ) (f : S4 R .Car) → Ends S₃ (suc n) (moved f) → Within R v n f
+    within-of : (n : ℕ) (f : S4 R .Car) → Ends (S3 R) (suc n) (moved f) → Within R v n f
     unfolding moved
     within-of n f h e l = sym (F .there-coef f e)
-        ∙ ap (λ (u : S₃ .Car). u (F .there e .y) (F .there e .z) (F .there e .w)) (h (F .there e .x) (subst (λ i. n < i) (sym (F .there-x e)) l))
+        ∙ ap (λ (u : S3 R .Car). u (F .there e .y) (F .there e .z) (F .there e .w)) (h (F .there e .x) (subst (λ i. n < i) (sym (F .there-x e)) l))
 
-    top-of : (n : ℕ) (f : S4 R .Car) → GreatestExponent R v n f → Top S₃ n (moved f)
+    top-of : (n : ℕ) (f : S4 R .Car) → GreatestExponent R v n f → Top (S3 R) n (moved f)
     unfolding moved
     top-of n f g = record {
       nonzero = λ z. g .stands (sym (F .there-coef f (g .place))
           ∙ ap (λ i. moved f i (F .there (g .place) .y) (F .there (g .place) .z) (F .there (g .place) .w)) (F .there-x (g .place) ∙ g .reached)
-          ∙ ap (λ (u : S₃ .Car). u (F .there (g .place) .y) (F .there (g .place) .z) (F .there (g .place) .w)) z);
+          ∙ ap (λ (u : S3 R .Car). u (F .there (g .place) .y) (F .there (g .place) .z) (F .there (g .place) .w)) z);
       ends = ends-of n f (g .within);
     }
 
-    greatest-of : (n : ℕ) (f : S4 R .Car) → D4 R D .P f → Top S₃ n (moved f) → GreatestExponent R v n f
+    greatest-of : (n : ℕ) (f : S4 R .Car) → D4 R D .P f → Top (S3 R) n (moved f) → GreatestExponent R v n f
     unfolding moved
     greatest-of n f pf t =
         let p = moved-fin f pf .coef n in
-        let b = series-top S₂ D₂ (moved f n) p (t .nonzero) in
-        let c = series-top S₁ D₁ (moved f n (b .0)) (p .coef _) (b .1 .nonzero) in
+        let b = series-top (S2 R) (D2 R D) (moved f n) p (t .nonzero) in
+        let c = series-top (SeriesR R) (SeriesD R D) (moved f n (b .0)) (p .coef _) (b .1 .nonzero) in
         let d = series-top R D (moved f n (b .0) (c .0)) (p .coef _ .coef _) (c .1 .nonzero) in
         let e : Exponents = record { x = n; y = b .0; z = c .0; w = d .0 } in
         record {
@@ -204,20 +186,20 @@ module _ (R : CommRing) (D : Domain R) where
     -- the greatest exponents of two factors add
     pub greatest-of-product : (m n : ℕ) (f g : S4 R .Car) → D4 R D .P f → D4 R D .P g → GreatestExponent R v m f → GreatestExponent R v n g → GreatestExponent R v (m +ₙ n) (S4 R .mul f g)
     greatest-of-product m n f g pf pg s t = greatest-of (m +ₙ n) (S4 R .mul f g) (D4 R D .P-mul f g pf pg)
-        (subst (Top S₃ (m +ₙ n)) (sym (moved-mul f g))
-        (top-mul S₃ D₃ m n (moved f) (moved g) (moved-fin f pf .coef m) (moved-fin g pg .coef n) (top-of m f s) (top-of n g t)))
+        (subst (Top (S3 R) (m +ₙ n)) (sym (moved-mul f g))
+        (top-mul (S3 R) (D3 R D) m n (moved f) (moved g) (moved-fin f pf .coef m) (moved-fin g pg .coef n) (top-of m f s) (top-of n g t)))
 
     pub greatest-exists : (f : S4 R .Car) → D4 R D .P f → ¬ (f ≡ S4 R .𝟘) → (n : ℕ) × GreatestExponent R v n f
-    greatest-exists f pf nf = go (series-dec0 S₃ D₃ (moved f) (moved-fin f pf))
+    greatest-exists f pf nf = go (series-dec0 (S3 R) (D3 R D) (moved f) (moved-fin f pf))
       where
         go : Dec (moved f ≡ S4 R .𝟘) → (n : ℕ) × GreatestExponent R v n f
         go (yes z) = let l = lead-exists R D f pf nf in absurd (l .1 .stands (sym (F .there-coef f (l .0)) ∙ (unfold moved in ap (λ (u : S4 R .Car). coef R u (F .there (l .0))) z)))
-        go (no q) = let t = series-top S₃ D₃ (moved f) (moved-fin f pf) q in (t .0, greatest-of (t .0) f pf (t .1))
+        go (no q) = let t = series-top (S3 R) (D3 R D) (moved f) (moved-fin f pf) q in (t .0, greatest-of (t .0) f pf (t .1))
 
     -- a factor's exponents are at most the product's greatest less the other factor's
     pub factor-within : (a b : ℕ) (f g q : S4 R .Car) → D4 R D .P g → D4 R D .P q → GreatestExponent R v a f → GreatestExponent R v b g → S4 R .mul g q ≡ f
         → (e : Exponents) → a < exponent v e +ₙ b → coef R q e ≡ R .𝟘
-    factor-within a b f g q pg pq ga gb eq e l = go (series-dec0 S₃ D₃ q pq)
+    factor-within a b f g q pg pq ga gb eq e l = go (series-dec0 (S3 R) (D3 R D) q pq)
       where
         go : Dec (q ≡ S4 R .𝟘) → coef R q e ≡ R .𝟘
         go (yes z) = ap (λ (u : S4 R .Car). coef R u e) z

@@ -4,7 +4,7 @@ use Prim.Native.Nat.{ℕ, zero, suc, _+_ as _+ₙ_, _<_}
 use native.Mathlib.Nat.{suc-add, zero-add as zero-addₙ}
 use native.Mathlib.Omega.{arith}
 use Rattle.algebra.specs.Ring.{CommRing, zero-add, zero-mul, mul-zero}
-use Rattle.algebra.specs.Series.{Seq, conv, SeriesR, S4}
+use Rattle.algebra.specs.Series.{Seq, conv, SeriesR, S2, S3, S4}
 use Rattle.algebra.specs.Degree.{Ends, conv-null}
 
 module _ (R : CommRing) where
@@ -82,12 +82,12 @@ module _ (R : CommRing) where
   mono-null (suc n) (suc k) = mono-null n k
 
 abbrev pub mono4 : (R : CommRing) (a b c d : ℕ) → R .Car → S4 R .Car
-mono4 R a b c d u = mono (SeriesR (SeriesR (SeriesR R))) a (mono (SeriesR (SeriesR R)) b (mono (SeriesR R) c (mono R d u)))
+mono4 R a b c d u = mono (S3 R) a (mono (S2 R) b (mono (SeriesR R) c (mono R d u)))
 
 pub mono4-mul : (R : CommRing) (a b c d a′ b′ c′ d′ : ℕ) (u w : R .Car)
     → S4 R .mul (mono4 R a b c d u) (mono4 R a′ b′ c′ d′ w) ≡ mono4 R (a +ₙ a′) (b +ₙ b′) (c +ₙ c′) (d +ₙ d′) (R .mul u w)
 mono4-mul R a b c d a′ b′ c′ d′ u w =
-    mono-mul (SeriesR (SeriesR (SeriesR R))) a a′ _ _
-    ∙ ap (mono (SeriesR (SeriesR (SeriesR R))) (a +ₙ a′)) (mono-mul (SeriesR (SeriesR R)) b b′ _ _
-    ∙ ap (mono (SeriesR (SeriesR R)) (b +ₙ b′)) (mono-mul (SeriesR R) c c′ _ _
+    mono-mul (S3 R) a a′ _ _
+    ∙ ap (mono (S3 R) (a +ₙ a′)) (mono-mul (S2 R) b b′ _ _
+    ∙ ap (mono (S2 R) (b +ₙ b′)) (mono-mul (SeriesR R) c c′ _ _
     ∙ ap (mono (SeriesR R) (c +ₙ c′)) (mono-mul R d d′ u w)))

@@ -4,7 +4,7 @@ use mathlib.Core.List.{List, [], _∷_}
 use Prim.Native.Nat.{ℕ}
 use native.Mathlib.Decide.{ℕ-discrete}
 use Rattle.algebra.specs.Ring.{CommRing, neg-unique}
-use Rattle.algebra.specs.Series.{Seq, SeriesR, S4}
+use Rattle.algebra.specs.Series.{Seq, SeriesR, S2, S3, S4}
 use Rattle.algebra.specs.Degree.{Domain}
 use Rattle.algebra.specs.Mono.{mono, mono4, mono4-mul, mono-at, mono-off}
 use Rattle.algebra.specs.Divides.{mono-fin}
@@ -21,22 +21,22 @@ module _ (R : CommRing) where
   pub monomial-at : (e : Exponents) (u : Car) → coef R (monomial e u) e ≡ u
   unfolding monomial
   monomial-at e u =
-      ap (λ (t : SeriesR (SeriesR (SeriesR R)) .Car). t (e .y) (e .z) (e .w)) (mono-at (SeriesR (SeriesR (SeriesR R))) (e .x) _)
-      ∙ ap (λ (t : SeriesR (SeriesR R) .Car). t (e .z) (e .w)) (mono-at (SeriesR (SeriesR R)) (e .y) _)
+      ap (λ (t : S3 R .Car). t (e .y) (e .z) (e .w)) (mono-at (S3 R) (e .x) _)
+      ∙ ap (λ (t : S2 R .Car). t (e .z) (e .w)) (mono-at (S2 R) (e .y) _)
       ∙ ap (λ (t : Seq R). t (e .w)) (mono-at (SeriesR R) (e .z) _) ∙ mono-at R (e .w) u
 
   off : (a b c d a′ b′ c′ d′ : ℕ) (u : Car) → Dec (a ≡ a′) → Dec (b ≡ b′) → Dec (c ≡ c′) → Dec (d ≡ d′)
       → ¬ ((a ≡ a′) × (b ≡ b′) × (c ≡ c′) × (d ≡ d′)) → mono4 R a b c d u a′ b′ c′ d′ ≡ 𝟘
-  off a b c d a′ b′ c′ d′ u (no q) y z w n = ap (λ (x : SeriesR (SeriesR (SeriesR R)) .Car). x b′ c′ d′) (mono-off (SeriesR (SeriesR (SeriesR R))) a _ a′ q)
+  off a b c d a′ b′ c′ d′ u (no q) y z w n = ap (λ (x : S3 R .Car). x b′ c′ d′) (mono-off (S3 R) a _ a′ q)
   off a b c d a′ b′ c′ d′ u (yes p) (no q) z w n =
-      ap (λ i. mono4 R a b c d u i b′ c′ d′) (sym p) ∙ ap (λ (x : SeriesR (SeriesR (SeriesR R)) .Car). x b′ c′ d′) (mono-at (SeriesR (SeriesR (SeriesR R))) a _)
-      ∙ ap (λ (x : SeriesR (SeriesR R) .Car). x c′ d′) (mono-off (SeriesR (SeriesR R)) b _ b′ q)
+      ap (λ i. mono4 R a b c d u i b′ c′ d′) (sym p) ∙ ap (λ (x : S3 R .Car). x b′ c′ d′) (mono-at (S3 R) a _)
+      ∙ ap (λ (x : S2 R .Car). x c′ d′) (mono-off (S2 R) b _ b′ q)
   off a b c d a′ b′ c′ d′ u (yes p) (yes p₂) (no q) w n =
-      ap₂ (λ i j. mono4 R a b c d u i j c′ d′) (sym p) (sym p₂) ∙ ap (λ (x : SeriesR (SeriesR (SeriesR R)) .Car). x b c′ d′) (mono-at (SeriesR (SeriesR (SeriesR R))) a _)
-      ∙ ap (λ (x : SeriesR (SeriesR R) .Car). x c′ d′) (mono-at (SeriesR (SeriesR R)) b _) ∙ ap (λ (x : Seq R). x d′) (mono-off (SeriesR R) c _ c′ q)
+      ap₂ (λ i j. mono4 R a b c d u i j c′ d′) (sym p) (sym p₂) ∙ ap (λ (x : S3 R .Car). x b c′ d′) (mono-at (S3 R) a _)
+      ∙ ap (λ (x : S2 R .Car). x c′ d′) (mono-at (S2 R) b _) ∙ ap (λ (x : Seq R). x d′) (mono-off (SeriesR R) c _ c′ q)
   off a b c d a′ b′ c′ d′ u (yes p) (yes p₂) (yes p₃) (no q) n =
-      ap₂ (λ i j. mono4 R a b c d u i j c′ d′) (sym p) (sym p₂) ∙ ap (λ (x : SeriesR (SeriesR (SeriesR R)) .Car). x b c′ d′) (mono-at (SeriesR (SeriesR (SeriesR R))) a _)
-      ∙ ap (λ (x : SeriesR (SeriesR R) .Car). x c′ d′) (mono-at (SeriesR (SeriesR R)) b _)
+      ap₂ (λ i j. mono4 R a b c d u i j c′ d′) (sym p) (sym p₂) ∙ ap (λ (x : S3 R .Car). x b c′ d′) (mono-at (S3 R) a _)
+      ∙ ap (λ (x : S2 R .Car). x c′ d′) (mono-at (S2 R) b _)
       ∙ ap (λ i. mono (SeriesR R) c (mono R d u) i d′) (sym p₃) ∙ ap (λ (x : Seq R). x d′) (mono-at (SeriesR R) c _) ∙ mono-off R d u d′ q
   off a b c d a′ b′ c′ d′ u (yes p) (yes p₂) (yes p₃) (yes p₄) n = absurd (n (p, p₂, p₃, p₄))
 

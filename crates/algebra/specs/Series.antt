@@ -91,5 +91,12 @@ module _ (R : CommRing) where
     distrib = λ f g h. fun-ext (conv-dist f g h);
   }
 
+-- in two, three and four variables
+abbrev pub S2 : CommRing → CommRing
+S2 R = SeriesR (SeriesR R)
+
+abbrev pub S3 : CommRing → CommRing
+S3 R = SeriesR (S2 R)
+
 abbrev pub S4 : CommRing → CommRing
-S4 R = SeriesR (SeriesR (SeriesR (SeriesR R)))
+S4 R = SeriesR (S3 R)
