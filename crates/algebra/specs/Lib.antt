@@ -13,6 +13,7 @@ pub mod Finite
 pub mod Field
 pub mod GreatestCommon
 pub mod Univariate
+pub mod MonicGreatest
 pub mod Four
 pub mod Lead
 pub mod GreatestExponent
