@@ -13,7 +13,8 @@ use Rattle.algebra.specs.Degree.{Domain}
 use Rattle.algebra.specs.Divides.{Div, cancel}
 use Rattle.algebra.specs.Four.{Exponents, _⊞_, _≼_, _≺_, compare, below-cancel, exponents-cancel, exponents-path, coef, D4}
 use Rattle.algebra.specs.Lead.{Lead, Upto, lead-unique, lead-of-product, lead-exists, lead-nonzero, coef-of-product, upto-of-product}
-use Rattle.algebra.specs.GreatestExponent.{Variable, in-x, in-y, in-z, in-w, exponent, greatest-unique, factor-within}
+use Rattle.algebra.specs.GreatestExponent.{Variable, in-x, in-y, in-z, in-w, exponent, greatest-unique}
+use Rattle.algebra.specs.GreatestExponentLaws.{factor-within}
 use Rattle.algebra.specs.Monomial.{Term, term, polynomial, monomial-at, monomial-off, monomial-above, monomial-fin, polynomial-fin, FallsBelow, Falls}
 use Rattle.algebra.specs.Division.{Most, Sizes, Over, Goes, done, stop, step, Division}
 

@@ -17,6 +17,8 @@ pub mod MonicGreatest
 pub mod Four
 pub mod Lead
 pub mod GreatestExponent
+pub mod Front
+pub mod GreatestExponentLaws
 pub mod Monomial
 pub mod Division
 pub mod DivisionLaws
