@@ -64,11 +64,11 @@ module _ (R : CommRing) where
       (ap₂ _+_ (ap (f zero *_) (hg (suc (m +ₙ n)) (omega arith)) ∙ mul-zero R _) (conv-top m n (tail f) g (Ends-tail (suc m) f hf) hg)
       ∙ zero-add R _)
 
-  pub Ends-pred : (N : ℕ) (f : Seq R) → Ends R (suc N) f → f N ≡ 𝟘 → Ends R N f
+  Ends-pred : (N : ℕ) (f : Seq R) → Ends R (suc N) f → f N ≡ 𝟘 → Ends R N f
   Ends-pred N f h e n l = elim (ℕ-discrete n N) [ yes p ↦ ap f p ∙ e | no q ↦ h n (omega arith) ]
 
   -- a series that ends and whose coefficients can be tested is zero or has a top
-  pub find-top : (N : ℕ) (f : Seq R) → Ends R N f → ((n : ℕ) → Dec (f n ≡ 𝟘)) → ((n : ℕ) → f n ≡ 𝟘) ⊎ ((m : ℕ) × Top R m f)
+  find-top : (N : ℕ) (f : Seq R) → Ends R N f → ((n : ℕ) → Dec (f n ≡ 𝟘)) → ((n : ℕ) → f n ≡ 𝟘) ⊎ ((m : ℕ) × Top R m f)
   find-top zero f h d = inl λ n. h n (omega arith)
   find-top (suc N) f h d = go (d N) λ e. find-top N f (Ends-pred N f h e) d
     where

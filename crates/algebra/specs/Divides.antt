@@ -69,7 +69,7 @@ module _ (R : CommRing) where
   pub top-le : (m n : ℕ) (f : Seq R) → Top R m f → Top R n f → m ≤ n
   top-le m n f s t = elim (decLe m n) [ yes l ↦ l | no q ↦ absurd (s .nonzero (t .ends m (omega arith))) ]
 
-  pub top-unique : (m n : ℕ) (f : Seq R) → Top R m f → Top R n f → m ≡ n
+  top-unique : (m n : ℕ) (f : Seq R) → Top R m f → Top R n f → m ≡ n
   top-unique m n f s t = let l = top-le m n f s t in let k = top-le n m f t s in omega arith
 
   module _ (D : Domain R) (m : ℕ) (e f : Seq R) (he : Finite R D e) (d : Div (SeriesR R) (SeriesD R D) e f) (t : Top R m f) where
@@ -111,7 +111,7 @@ module _ (R : CommRing) (D : Domain R) where
   pub const-fin : (c : Car) → P c → Finite R D (constS R c)
   const-fin c pc = record { bound = 1; ends = const-ends R D c; coef = const-P R D c pc }
 
-  pub mono-P : (n : ℕ) (c : Car) → P c → (k : ℕ) → P (mono R n c k)
+  mono-P : (n : ℕ) (c : Car) → P c → (k : ℕ) → P (mono R n c k)
   unfolding mono
   mono-P zero c pc zero = pc
   mono-P zero c pc (suc k) = D .P-zero

@@ -1,7 +1,7 @@
--- The rule says yes exactly if the divisor divides; its answer is determined; the terms fall and mean the quotient. Assumes nothing.
+-- The rule says yes exactly if the divisor divides; its answer is determined; the terms fall and mean the quotient.
 use mathlib.Core.Path.{_≡_, refl, sym, _∙_, ap, ap₂, subst}
 use mathlib.Core.Logic.{_⊎_, inl, inr, _↔_}
-use mathlib.Core.Bool.{Bool, true, false}
+use mathlib.Core.Bool.{Bool, true, false, true≢false, false≢true}
 use mathlib.Core.List.{List, _∷_}
 use Prim.Native.Nat.{ℕ, _+_ as _+ₙ_, _≤_, _<_}
 use native.Mathlib.Decide.{decLe}
@@ -30,7 +30,7 @@ module _ (R : CommRing) (D : Domain R) (every : (c : R .Car) → D .P c) where
     yes-means : {r : Poly} {ts : List (Term R)} {whole : Bool} → Goes R f g s r ts whole → whole ≡ true → S4 R .mul (polynomial R ts) g ≡ r
     unfolding polynomial
     yes-means (done z) e = zero-mul (S4 R) g ∙ sym z
-    yes-means (stop m l n) e = absurd (let z : _≡_ {A = ℕ} 0 1 = cc in omega arith)
+    yes-means (stop m l n) e = absurd (false≢true e)
     yes-means (step {r = r} {ts = ts} m t l o c k) e =
         S4 R .distrib (term R t) (polynomial R ts) g ∙ ap (S4 R .add (S4 R .mul (term R t) g)) (yes-means k e)
         ∙ ring2 (S4 R) (λ a r. a ⊕ (r ⊖ a) ≗ r) tt (S4 R .mul (term R t) g) r
@@ -55,7 +55,7 @@ module _ (R : CommRing) (D : Domain R) (every : (c : R .Car) → D .P c) where
     -- while the remainder is a multiple of the divisor, the division does not stop
     no-means : {r : Poly} {ts : List (Term R)} {whole : Bool} → Goes R f g s r ts whole → whole ≡ false → D4 R D .P g
         → (q : Poly) → D4 R D .P q → Small q → S4 R .mul q g ≡ r → ⊥
-    no-means (done z) e pg q pq sm eq = let z : _≡_ {A = ℕ} 0 1 = cc in omega arith
+    no-means (done z) e pg q pq sm eq = true≢false e
     no-means (stop {r = r} m l n) e pg q pq sm eq =
         let nz : ¬ (q ≡ S4 R .𝟘) = λ z. lead-nonzero R D m r l (sym eq ∙ ap (λ (u : Poly). S4 R .mul u g) z ∙ zero-mul (S4 R) g) in
         let k = lead-exists R D q pq nz in
@@ -89,6 +89,10 @@ module _ (R : CommRing) (D : Domain R) (every : (c : R .Car) → D .P c) where
             (upto-of-product R (t .exponents) (s .lead) (term R t) g up (s .leads .above) e (subst (_≺ e) (o .exact) k))
             ∙ R .add-neg (R .𝟘)
 
+    under-next : (m : Exponents) (t : Term R) (r : Poly) → Lead R m r → Over R f g s m (t .exponents)
+        → R .mul (t .coefficient) (coef R g (s .lead)) ≡ coef R r m → Under (t .exponents ⊞ s .lead) (less r (S4 R .mul (term R t) g))
+    under-next m t r l o c = subst (λ (i : Exponents). Under i (less r (S4 R .mul (term R t) g))) (o .exact) (under-step m t r l o c)
+
     factor-nonzero : (m : Exponents) (t : Term R) (r : Poly) → Lead R m r → R .mul (t .coefficient) (coef R g (s .lead)) ≡ coef R r m → ¬ (t .coefficient ≡ R .𝟘)
     factor-nonzero m t r l c z = l .stands (sym c ∙ ap (λ u. R .mul u (coef R g (s .lead))) z ∙ zero-mul R _)
 
@@ -98,7 +102,7 @@ module _ (R : CommRing) (D : Domain R) (every : (c : R .Car) → D .P c) where
     falls-below (step {r = r} m t l o c k) n u = (
       first (compare m (n ⊞ s .lead)),
       factor-nonzero m t r l c,
-      falls-below k (t .exponents) (subst (λ (i : Exponents). Under i (less r (S4 R .mul (term R t) g))) (o .exact) (under-step m t r l o c)),
+      falls-below k (t .exponents) (under-next m t r l o c),
     )
       where
         first : (m ≺ n ⊞ s .lead) ⊎ ((m ≡ n ⊞ s .lead) ⊎ (n ⊞ s .lead ≺ m)) → t .exponents ≺ n
@@ -111,7 +115,7 @@ module _ (R : CommRing) (D : Domain R) (every : (c : R .Car) → D .P c) where
     falls (stop m l k) = tt
     falls (step {r = r} m t l o c k) = (
       factor-nonzero m t r l c,
-      falls-below k (t .exponents) (subst (λ (i : Exponents). Under i (less r (S4 R .mul (term R t) g))) (o .exact) (under-step m t r l o c)),
+      falls-below k (t .exponents) (under-next m t r l o c),
     )
 
   -- the sizes are determined, so two divisions of f by g are divisions over the same
@@ -166,17 +170,13 @@ module _ (R : CommRing) (D : Domain R) (every : (c : R .Car) → D .P c) where
     pub division-falls : (whole : Bool) → Division R f g ts whole → Falls R ts
     division-falls whole d = falls f g (d .sizes) (d .goes)
 
-    pub division-yes : D4 R D .P g → Division R f g ts true → Div (S4 R) (D4 R D) g f
-    division-yes pg d = record {
-      quo = polynomial R ts;
-      fin = polynomial-fin R D every ts;
-      eq = S4 R .mul-comm g (polynomial R ts) ∙ yes-means f g (d .sizes) (d .goes) refl;
-    }
-
     pub division-quotient : Division R f g ts true → S4 R .mul g (polynomial R ts) ≡ f
     division-quotient d = S4 R .mul-comm g (polynomial R ts) ∙ yes-means f g (d .sizes) (d .goes) refl
 
-    pub division-no : D4 R D .P g → Division R f g ts false → ¬ Div (S4 R) (D4 R D) g f
+    division-yes : Division R f g ts true → Div (S4 R) (D4 R D) g f
+    division-yes d = record { quo = polynomial R ts; fin = polynomial-fin R D every ts; eq = division-quotient d }
+
+    division-no : D4 R D .P g → Division R f g ts false → ¬ Div (S4 R) (D4 R D) g f
     division-no pg d q = no-means f g (d .sizes) (d .goes) refl pg (q .quo) (q .fin)
         (λ v e l. factor-within R D v (exponent v (d .sizes .most-f)) (exponent v (d .sizes .most-g)) f g (q .quo) pg (q .fin) (d .sizes .is-most-f v) (d .sizes .is-most-g v) (q .eq) e l)
         (S4 R .mul-comm (q .quo) g ∙ q .eq)
@@ -188,5 +188,5 @@ module _ (R : CommRing) (D : Domain R) (every : (c : R .Car) → D .P c) where
 
     -- it says yes exactly if the divisor divides
     pub division-says : (whole : Bool) → D4 R D .P g → Division R f g ts whole → (whole ≡ true) ↔ Div (S4 R) (D4 R D) g f
-    division-says true pg d = (λ e. division-yes pg d, λ q. refl)
-    division-says false pg d = (λ e. absurd (let z : _≡_ {A = ℕ} 0 1 = cc in omega arith), λ q. absurd (division-no pg d q))
+    division-says true pg d = (λ e. division-yes d, λ q. refl)
+    division-says false pg d = (λ e. absurd (false≢true e), λ q. absurd (division-no pg d q))

@@ -12,7 +12,7 @@ unfoldable pub sum : ℕ → (ℕ → ℕ) → ℕ
 sum zero h = 0
 sum (suc N) h = h N +ₙ sum N h
 
-pub le-sum : (N : ℕ) (h : ℕ → ℕ) (n : ℕ) → n < N → h n ≤ sum N h
+le-sum : (N : ℕ) (h : ℕ → ℕ) (n : ℕ) → n < N → h n ≤ sum N h
 unfolding sum
 le-sum zero h n l = absurd (omega arith)
 le-sum (suc N) h n l = elim (ℕ-discrete n N) [

@@ -67,7 +67,7 @@ module _ (R : CommRing) (D : Domain R) (v : Variable) where
       (subst (Top (S3 R) (m +ₙ n)) (sym (moved-mul f g))
       (top-mul (S3 R) (D3 R D) m n (moved f) (moved g) (moved-fin f pf .coef m) (moved-fin g pg .coef n) (top-of m f s) (top-of n g t)))
 
-  pub greatest-exists : (f : S4 R .Car) → D4 R D .P f → ¬ (f ≡ S4 R .𝟘) → (n : ℕ) × GreatestExponent R v n f
+  greatest-exists : (f : S4 R .Car) → D4 R D .P f → ¬ (f ≡ S4 R .𝟘) → (n : ℕ) × GreatestExponent R v n f
   greatest-exists f pf nf = go (series-dec0 (S3 R) (D3 R D) (moved f) (moved-fin f pf))
     where
       go : Dec (moved f ≡ S4 R .𝟘) → (n : ℕ) × GreatestExponent R v n f

@@ -22,6 +22,8 @@ pub mod GreatestExponentLaws
 pub mod Monomial
 pub mod Division
 pub mod DivisionLaws
+pub mod Evaluation
+pub mod Substitution
 pub mod Evaluate
 pub mod GoodValue
 pub mod Linear

@@ -20,7 +20,7 @@ module _ (F : Field) where
   infixl 60 _+_
   infixl 70 _*_
   -- division with remainder by g, whose highest coefficient stands at n
-  pub record WithRemainder (n : ℕ) (f g : Seq (F .ring)) : Type 0 where
+  record WithRemainder (n : ℕ) (f g : Seq (F .ring)) : Type 0 where
     pub quo : Seq (F .ring)
     pub rest : Seq (F .ring)
     pub quo-fin : Fin F quo
@@ -51,7 +51,7 @@ module _ (F : Field) where
   over : (a b : Car) → ¬ (b ≡ 𝟘) → a ≡ a * F .inv b * b
   over a b n = sym (F .ring .mul-assoc _ _ _ ∙ ap (a *_) (F .ring .mul-comm _ _ ∙ F .mul-inv b n) ∙ F .ring .mul-one a)
 
-  pub divide : (N n : ℕ) (f g : Seq (F .ring)) → Ends (F .ring) N f → Top (F .ring) n g → WithRemainder n f g
+  divide : (N n : ℕ) (f g : Seq (F .ring)) → Ends (F .ring) N f → Top (F .ring) n g → WithRemainder n f g
   divide zero n f g hf tg = whole n f g (Ends-weaken (F .ring) zero n f (omega arith) hf)
   divide (suc N) n f g hf tg = go (decLe n N) λ f′ h. divide N n f′ g h tg
     where
@@ -65,7 +65,7 @@ module _ (F : Field) where
       go (no q) rec = whole n f g (Ends-weaken (F .ring) (suc N) n f (omega arith) hf)
 
   -- the common divisors of f and g are those of g and the remainder
-  pub greatest-divided : (n : ℕ) (f g h : Seq (F .ring)) (d : WithRemainder n f g) → GreatestCommon (Poly F) (PolyD F) g (d .rest) h → GreatestCommon (Poly F) (PolyD F) f g h
+  greatest-divided : (n : ℕ) (f g h : Seq (F .ring)) (d : WithRemainder n f g) → GreatestCommon (Poly F) (PolyD F) g (d .rest) h → GreatestCommon (Poly F) (PolyD F) f g h
   greatest-divided n f g h d s = greatest-subtract (Poly F) (PolyD F) f g (d .quo) h (d .quo-fin)
       (subst (λ (u : Seq (F .ring)). GreatestCommon (Poly F) (PolyD F) u g h)
       (ring2 (Poly F) (λ t r. r ≗ (t ⊕ r) ⊖ t) tt (conv (F .ring) (d .quo) g) (d .rest)

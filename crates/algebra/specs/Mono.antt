@@ -19,7 +19,7 @@ module _ (R : CommRing) where
   mono (suc n) c zero = 𝟘
   mono (suc n) c (suc k) = mono n c k
 
-  pub mono-zero-left : (c : Car) (g : Seq R) (k : ℕ) → conv R (mono zero c) g k ≡ c * g k
+  mono-zero-left : (c : Car) (g : Seq R) (k : ℕ) → conv R (mono zero c) g k ≡ c * g k
   unfolding mono conv
   mono-zero-left c g zero = refl
   mono-zero-left c g (suc k) = ap (c * g (suc k) +_) (conv-null R (λ n. 𝟘) g (λ n. refl) k) ∙ R .add-zero _
@@ -43,13 +43,13 @@ module _ (R : CommRing) where
   mono-scale (suc n) a b zero = sym (mul-zero R a)
   mono-scale (suc n) a b (suc k) = mono-scale n a b k
 
-  pub mono-conv : (m n : ℕ) (a b : Car) (k : ℕ) → conv R (mono m a) (mono n b) k ≡ mono (m +ₙ n) (a * b) k
+  mono-conv : (m n : ℕ) (a b : Car) (k : ℕ) → conv R (mono m a) (mono n b) k ≡ mono (m +ₙ n) (a * b) k
   unfolding mono conv
   mono-conv zero n a b k = rw zero-addₙ (mono-zero-left a (mono n b) k ∙ sym (mono-scale n a b k))
   mono-conv (suc m) n a b zero = rw suc-add (zero-mul R _)
   mono-conv (suc m) n a b (suc k) = rw suc-add (ap₂ _+_ (zero-mul R _) (mono-conv m n a b k) ∙ zero-add R _)
 
-  pub mono-mul : (m n : ℕ) (a b : Car) → conv R (mono m a) (mono n b) ≡ mono (m +ₙ n) (a * b)
+  mono-mul : (m n : ℕ) (a b : Car) → conv R (mono m a) (mono n b) ≡ mono (m +ₙ n) (a * b)
   mono-mul m n a b = fun-ext (mono-conv m n a b)
 
   pub mono-at : (n : ℕ) (c : Car) → mono n c n ≡ c
@@ -68,11 +68,7 @@ module _ (R : CommRing) where
   mono-ends n c k l = mono-off n c k (omega arith)
 
   pub mono-times : (n : ℕ) (a c : Car) (k : ℕ) → mono n (a * c) k ≡ mono n a k * c
-  unfolding mono
-  mono-times zero a c zero = refl
-  mono-times zero a c (suc k) = sym (zero-mul R c)
-  mono-times (suc n) a c zero = sym (zero-mul R c)
-  mono-times (suc n) a c (suc k) = mono-times n a c k
+  mono-times n a c k = ap (λ u. mono n u k) (R .mul-comm a c) ∙ mono-scale n c a k ∙ R .mul-comm _ _
 
   pub mono-null : (n : ℕ) (k : ℕ) → mono n 𝟘 k ≡ 𝟘
   unfolding mono
@@ -81,6 +77,7 @@ module _ (R : CommRing) where
   mono-null (suc n) zero = refl
   mono-null (suc n) (suc k) = mono-null n k
 
+-- u x^a y^b z^c w^d
 abbrev pub mono4 : (R : CommRing) (a b c d : ℕ) → R .Car → S4 R .Car
 mono4 R a b c d u = mono (S3 R) a (mono (S2 R) b (mono (SeriesR R) c (mono R d u)))
 

@@ -37,7 +37,7 @@ module _ (R : CommRing) where
   conv f g zero = f zero * g zero
   conv f g (suc n) = f zero * g (suc n) + conv (tail f) g n
 
-  pub conv-right : (f g : Seq R) (n : ℕ) → conv f g (suc n) ≡ f (suc n) * g zero + conv f (tail g) n
+  conv-right : (f g : Seq R) (n : ℕ) → conv f g (suc n) ≡ f (suc n) * g zero + conv f (tail g) n
   unfolding conv
   conv-right f g zero = R .add-comm _ _
   conv-right f g (suc n) = ap (f zero * g (suc (suc n)) +_) (conv-right (tail f) g n) ∙ add-left-comm R _ _ _
@@ -47,7 +47,7 @@ module _ (R : CommRing) where
   conv-comm f g zero = R .mul-comm _ _
   conv-comm f g (suc n) = ap₂ _+_ (R .mul-comm _ _) (conv-comm (tail f) g n) ∙ sym (conv-right g f n)
 
-  pub conv-scale : (c : Car) (f g : Seq R) (n : ℕ) → conv (scale c f) g n ≡ c * conv f g n
+  conv-scale : (c : Car) (f g : Seq R) (n : ℕ) → conv (scale c f) g n ≡ c * conv f g n
   unfolding conv
   conv-scale c f g zero = R .mul-assoc _ _ _
   conv-scale c f g (suc n) = ap₂ _+_ (R .mul-assoc _ _ _) (conv-scale c (tail f) g n) ∙ sym (distrib-l R _ _ _)

@@ -38,7 +38,7 @@ module _ (F : Field) where
   pub monic-top : (n : ℕ) (f : Seq (F .ring)) → Monic (F .ring) n f → Top (F .ring) n f
   monic-top n f m = record { nonzero = λ e. F .one≢0 (sym (m .leads) ∙ e); ends = m .ends }
 
-  pub monic-fin : (n : ℕ) (f : Seq (F .ring)) → Monic (F .ring) n f → Fin f
+  monic-fin : (n : ℕ) (f : Seq (F .ring)) → Monic (F .ring) n f → Fin f
   monic-fin n f m = ends-fin (suc n) f (m .ends)
 
   -- f less c X^j g; with g's highest coefficient at n and c the quotient of the highest ones, the end of f comes down
@@ -73,7 +73,7 @@ module _ (F : Field) where
   by-const c f = fun-ext λ i. F .ring .mul-comm _ _ ∙ sym (conv-const (F .ring) c f i)
 
   -- a multiple by a number but 0 has the same divisors
-  pub scale-associate : (c b : Car) (f : Seq (F .ring)) → c * b ≡ 𝟙 → Associate Poly PolyD f (λ i. b * f i)
+  scale-associate : (c b : Car) (f : Seq (F .ring)) → c * b ≡ 𝟙 → Associate Poly PolyD f (λ i. b * f i)
   scale-associate c b f e = record {
     to = record { quo = constS (F .ring) b; fin = const-fin (F .ring) (domain F) b tt; eq = sym (by-const b f) };
     from = record {
