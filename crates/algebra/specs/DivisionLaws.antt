@@ -42,7 +42,8 @@ module _ (R : CommRing) (D : Domain R) (every : (c : R .Car) → D .P c) where
     small-over : (q : Poly) (n : Exponents) → Small q → ¬ (coef R q n ≡ R .𝟘) → n ⊞ s .most-g ≼ s .most-f
     small-over q n h nz = record { x = each in-x (decLe _ _); y = each in-y (decLe _ _); z = each in-z (decLe _ _); w = each in-w (decLe _ _) }
       where
-        each : (v : Variable) → Dec (exponent v n +ₙ exponent v (s .most-g) ≤ exponent v (s .most-f)) → exponent v n +ₙ exponent v (s .most-g) ≤ exponent v (s .most-f)
+        each : (v : Variable) → Dec (exponent v n +ₙ exponent v (s .most-g) ≤ exponent v (s .most-f))
+            → exponent v n +ₙ exponent v (s .most-g) ≤ exponent v (s .most-f)
         each v (yes l) = l
         each v (no q) = absurd (nz (h v n (omega arith)))
 
@@ -72,7 +73,8 @@ module _ (R : CommRing) (D : Domain R) (every : (c : R .Car) → D .P c) where
     abbrev pub Under : Exponents → S4 R .Car → Type 0
     Under m r = (e : Exponents) → (e ≡ m) ⊎ (m ≺ e) → coef R r e ≡ R .𝟘
 
-    pub under-step : (m : Exponents) (t : Term R) (r : S4 R .Car) → Lead R m r → Over R f g s m (t .exponents) → R .mul (t .coefficient) (coef R g (s .lead)) ≡ coef R r m
+    pub under-step : (m : Exponents) (t : Term R) (r : S4 R .Car) → Lead R m r → Over R f g s m (t .exponents)
+        → R .mul (t .coefficient) (coef R g (s .lead)) ≡ coef R r m
         → Under m (S4 R .add r (S4 R .neg (S4 R .mul (term R t) g)))
     under-step m t r l o c = go
       where
@@ -93,7 +95,8 @@ module _ (R : CommRing) (D : Domain R) (every : (c : R .Car) → D .P c) where
         → R .mul (t .coefficient) (coef R g (s .lead)) ≡ coef R r m → Under (t .exponents ⊞ s .lead) (less r (S4 R .mul (term R t) g))
     under-next m t r l o c = subst (λ (i : Exponents). Under i (less r (S4 R .mul (term R t) g))) (o .exact) (under-step m t r l o c)
 
-    factor-nonzero : (m : Exponents) (t : Term R) (r : Poly) → Lead R m r → R .mul (t .coefficient) (coef R g (s .lead)) ≡ coef R r m → ¬ (t .coefficient ≡ R .𝟘)
+    factor-nonzero : (m : Exponents) (t : Term R) (r : Poly) → Lead R m r → R .mul (t .coefficient) (coef R g (s .lead)) ≡ coef R r m
+        → ¬ (t .coefficient ≡ R .𝟘)
     factor-nonzero m t r l c z = l .stands (sym c ∙ ap (λ u. R .mul u (coef R g (s .lead))) z ∙ zero-mul R _)
 
     falls-below : {r : Poly} {ts : List (Term R)} {whole : Bool} → Goes R f g s r ts whole → (n : Exponents) → Under (n ⊞ s .lead) r → FallsBelow R n ts
@@ -146,7 +149,8 @@ module _ (R : CommRing) (D : Domain R) (every : (c : R .Car) → D .P c) where
       terms : ts ≡ us
       answer : a ≡ b
 
-    goes-determined : (s : Sizes R f g) (r r′ : Poly) {ts us : List (Term R)} {a b : Bool} → r ≡ r′ → Goes R f g s r ts a → Goes R f g s r′ us b → Same ts us a b
+    goes-determined : (s : Sizes R f g) (r r′ : Poly) {ts us : List (Term R)} {a b : Bool} → r ≡ r′ → Goes R f g s r ts a → Goes R f g s r′ us b
+        → Same ts us a b
     goes-determined s r r′ p (done z) (done y) = record { terms = refl; answer = refl }
     goes-determined s r r′ p (done z) (stop m l n) = absurd (lead-nonzero R D m r′ l (sym p ∙ z))
     goes-determined s r r′ p (done z) (step m t l o c k) = absurd (lead-nonzero R D m r′ l (sym p ∙ z))
@@ -160,7 +164,8 @@ module _ (R : CommRing) (D : Domain R) (every : (c : R .Car) → D .P c) where
     goes-determined s r r′ p (step m t l o c k) (step m′ t′ l′ o′ c′ k′) =
         let em : m ≡ m′ = lead-unique R m m′ r′ (subst (Lead R m) p l) l′ in
         let ee : t .exponents ≡ t′ .exponents = exponents-cancel (t .exponents) (t′ .exponents) (s .lead) (sym (o .exact) ∙ em ∙ o′ .exact) in
-        let ec : t .coefficient ≡ t′ .coefficient = cancel R D (t .coefficient) (t′ .coefficient) (coef R g (s .lead)) (every _) (every _) (every _) (s .leads .stands)
+        let ec : t .coefficient ≡ t′ .coefficient =
+        cancel R D (t .coefficient) (t′ .coefficient) (coef R g (s .lead)) (every _) (every _) (every _) (s .leads .stands)
         (R .mul-comm _ _ ∙ c ∙ ap₂ (coef R) p em ∙ sym c′ ∙ R .mul-comm _ _) in
         let et : t ≡ t′ = term-path t t′ ee ec in
         let rest = goes-determined s _ _ (ap₂ (λ (u : Poly) (v : Term R). less u (S4 R .mul (term R v) g)) p et) k k′ in
@@ -178,7 +183,8 @@ module _ (R : CommRing) (D : Domain R) (every : (c : R .Car) → D .P c) where
 
     division-no : D4 R D .P g → Division R f g ts false → ¬ Div (S4 R) (D4 R D) g f
     division-no pg d q = no-means f g (d .sizes) (d .goes) refl pg (q .quo) (q .fin)
-        (λ v e l. factor-within R D v (exponent v (d .sizes .most-f)) (exponent v (d .sizes .most-g)) f g (q .quo) pg (q .fin) (d .sizes .is-most-f v) (d .sizes .is-most-g v) (q .eq) e l)
+        (λ v e l. factor-within R D v (exponent v (d .sizes .most-f)) (exponent v (d .sizes .most-g)) f g (q .quo) pg (q .fin)
+        (d .sizes .is-most-f v) (d .sizes .is-most-g v) (q .eq) e l)
         (S4 R .mul-comm (q .quo) g ∙ q .eq)
 
     pub division-determined : (us : List (Term R)) (a b : Bool) → Division R f g ts a → Division R f g us b → (ts ≡ us) × (a ≡ b)

@@ -37,13 +37,15 @@ module _ (R : CommRing) (D : Domain R) (y z w : R .Car) (py : D .P y) (pz : D .P
   value-of-z h = evaluate-const R D w pw z h
 
   value-of-y : (h : D2 R D .P (constS (SeriesR R) (constS R y))) → (after in-w in-z) .fn (constS (SeriesR R) (constS R y)) h ≡ y
-  value-of-y h = at-equal in-w (in-z .keeps _ h) (const-fin R D y py) (evaluate-const (SeriesR R) (SeriesD R D) (constS R z) (const-fin R D z pz) (constS R y) h)
+  value-of-y h = at-equal in-w (in-z .keeps _ h) (const-fin R D y py)
+      (evaluate-const (SeriesR R) (SeriesD R D) (constS R z) (const-fin R D z pz) (constS R y) h)
       ∙ evaluate-const R D w pw y (const-fin R D y py)
 
   at-zw-mono : (c d : ℕ) (u : Car) (pu : D .P u) (h : D2 R D .P (mono (SeriesR R) c (mono R d u)))
       → (after in-w in-z) .fn (mono (SeriesR R) c (mono R d u)) h ≡ u * pow R w d * pow R z c
   at-zw-mono c d u pu h =
-      at-equal in-w (in-z .keeps _ h) ((SeriesD R D) .P-mul _ _ fu fz) (evaluate-mono (SeriesR R) (SeriesD R D) (constS R z) (const-fin R D z pz) c (mono R d u) h)
+      at-equal in-w (in-z .keeps _ h) ((SeriesD R D) .P-mul _ _ fu fz)
+      (evaluate-mono (SeriesR R) (SeriesD R D) (constS R z) (const-fin R D z pz) c (mono R d u) h)
       ∙ in-w .mul (mono R d u) (pow (SeriesR R) (constS R z) c) fu fz ((SeriesD R D) .P-mul _ _ fu fz)
       ∙ ap₂ _*_ (evaluate-mono R D w pw d u fu)
       (value-pow in-w (constS R z) (const-fin R D z pz) c fz ∙ ap (λ (v : Car). pow R v c) (value-of-z (const-fin R D z pz)))

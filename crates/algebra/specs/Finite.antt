@@ -24,7 +24,8 @@ le-sum (suc N) h n l = elim (ℕ-discrete n N) [
 unfoldable pub Keeps : (R S : CommRing) (D : Domain R) (E : Domain S) → Hom R S → Type 0
 Keeps R S D E φ = (a : R .Car) → D .P a → E .P (φ .fn a)
 
-pub keeps-map : (R S : CommRing) (D : Domain R) (E : Domain S) (φ : Hom R S) → Keeps R S D E φ → Keeps (SeriesR R) (SeriesR S) (SeriesD R D) (SeriesD S E) (SeriesH R S φ)
+pub keeps-map : (R S : CommRing) (D : Domain R) (E : Domain S) (φ : Hom R S) → Keeps R S D E φ
+    → Keeps (SeriesR R) (SeriesR S) (SeriesD R D) (SeriesD S E) (SeriesH R S φ)
 unfolding Keeps
 keeps-map R S D E φ k f h = record {
   bound = h .bound;

@@ -62,7 +62,8 @@ module _ (R : CommRing) (D : Domain R) (v : Variable) where
       }
 
   -- the greatest exponents of two factors add
-  pub greatest-of-product : (m n : ℕ) (f g : S4 R .Car) → D4 R D .P f → D4 R D .P g → GreatestExponent R v m f → GreatestExponent R v n g → GreatestExponent R v (m +ₙ n) (S4 R .mul f g)
+  pub greatest-of-product : (m n : ℕ) (f g : S4 R .Car) → D4 R D .P f → D4 R D .P g → GreatestExponent R v m f → GreatestExponent R v n g
+      → GreatestExponent R v (m +ₙ n) (S4 R .mul f g)
   greatest-of-product m n f g pf pg s t = greatest-of (m +ₙ n) (S4 R .mul f g) (D4 R D .P-mul f g pf pg)
       (subst (Top (S3 R) (m +ₙ n)) (sym (moved-mul f g))
       (top-mul (S3 R) (D3 R D) m n (moved f) (moved g) (moved-fin f pf .coef m) (moved-fin g pg .coef n) (top-of m f s) (top-of n g t)))
@@ -71,7 +72,9 @@ module _ (R : CommRing) (D : Domain R) (v : Variable) where
   greatest-exists f pf nf = go (series-dec0 (S3 R) (D3 R D) (moved f) (moved-fin f pf))
     where
       go : Dec (moved f ≡ S4 R .𝟘) → (n : ℕ) × GreatestExponent R v n f
-      go (yes z) = let l = lead-exists R D f pf nf in absurd (l .1 .stands (sym (F .there-coef f (l .0)) ∙ (unfold moved in ap (λ (u : S4 R .Car). coef R u (F .there (l .0))) z)))
+      go (yes z) =
+          let l = lead-exists R D f pf nf in
+          absurd (l .1 .stands (sym (F .there-coef f (l .0)) ∙ (unfold moved in ap (λ (u : S4 R .Car). coef R u (F .there (l .0))) z)))
       go (no q) = let t = series-top (S3 R) (D3 R D) (moved f) (moved-fin f pf) q in (t .0, greatest-of (t .0) f pf (t .1))
 
   -- a factor's exponents are at most the product's greatest less the other factor's
@@ -83,5 +86,6 @@ module _ (R : CommRing) (D : Domain R) (v : Variable) where
       go (yes z) = ap (λ (u : S4 R .Car). coef R u e) z
       go (no nz) =
           let t = greatest-exists q pq nz in
-          let s : b +ₙ t .0 ≡ a = greatest-unique R v (b +ₙ t .0) a f (subst (GreatestExponent R v (b +ₙ t .0)) eq (greatest-of-product b (t .0) g q pg pq gb (t .1))) ga in
+          let s : b +ₙ t .0 ≡ a = greatest-unique R v (b +ₙ t .0) a f
+          (subst (GreatestExponent R v (b +ₙ t .0)) eq (greatest-of-product b (t .0) g q pg pq gb (t .1))) ga in
           t .1 .within e (omega arith)

@@ -65,8 +65,10 @@ module _ (R : CommRing) where
     layers-mul = record {
       in-x = λ k l. conv-ends (S3 R) (suc (m .x)) (suc (n .x)) f g (hf .in-x) (hg .in-x) k (omega arith);
       in-y = λ k l. ap (λ (u : S3 R .Car). u k) at-x ∙ conv-ends (S2 R) (suc (m .y)) (suc (n .y)) (f (m .x)) (g (n .x)) (hf .in-y) (hg .in-y) k (omega arith);
-      in-z = λ k l. ap (λ (u : S2 R .Car). u k) at-y ∙ conv-ends (SeriesR R) (suc (m .z)) (suc (n .z)) (f (m .x) (m .y)) (g (n .x) (n .y)) (hf .in-z) (hg .in-z) k (omega arith);
-      in-w = λ k l. ap (λ (u : Seq R). u k) at-z ∙ conv-ends R (suc (m .w)) (suc (n .w)) (f (m .x) (m .y) (m .z)) (g (n .x) (n .y) (n .z)) (hf .in-w) (hg .in-w) k (omega arith);
+      in-z = λ k l. ap (λ (u : S2 R .Car). u k) at-y
+          ∙ conv-ends (SeriesR R) (suc (m .z)) (suc (n .z)) (f (m .x) (m .y)) (g (n .x) (n .y)) (hf .in-z) (hg .in-z) k (omega arith);
+      in-w = λ k l. ap (λ (u : Seq R). u k) at-z
+          ∙ conv-ends R (suc (m .w)) (suc (n .w)) (f (m .x) (m .y) (m .z)) (g (n .x) (n .y) (n .z)) (hf .in-w) (hg .in-w) k (omega arith);
     }
 
   module _ (m n : Exponents) (f g : S4 R .Car) (hf : Upto m f) (hg : Upto n g) where

@@ -9,7 +9,8 @@ use lib.ListN.{length}
 use Rattle.algebra.specs.Ring.{CommRing, zero-add, mul-zero, one-mul, neg-unique, neg-add}
 use Rattle.algebra.specs.Solver.{_⊕_, _⊗_, ⊝, _≗_, k0, k1, ring2, ring4, ring6}
 use Rattle.algebra.specs.Field.{Field}
-use Rattle.algebra.specs.Linear.{Table, solvable, failed, free, pivot, none, one, several, fresh, has-failed, has-free, eval, Solves, SolvesAll, Solution, Meets, times, plus-times, step, steps, solution, solve}
+use Rattle.algebra.specs.Linear.{Table, solvable, failed, free, pivot, fresh, has-failed, has-free, none, one, several, solution, solve}
+use Rattle.algebra.specs.Linear.{eval, Solves, SolvesAll, Solution, Meets, times, plus-times, step, steps}
 
 module _ (K : Field) where
   open CommRing (K .ring) using (Car, 𝟘, 𝟙, add as _+_, mul as _*_, neg)
@@ -102,7 +103,8 @@ module _ (K : Field) where
   step-keeps-solutions failed (a ∷ r) v = (absurd, λ h. h .0)
   step-keeps-solutions (free t) (a ∷ r) v = step-free t (step K t r) a r v (K .decide a) (step-keeps-solutions t r)
   step-keeps-solutions (pivot q t) (a ∷ r) [] = (absurd, λ h. h .0)
-  step-keeps-solutions (pivot q t) (a ∷ r) (x ∷ v) = step-pivot q t (step K t (plus-times K r (neg a) q)) a r x v (step-keeps-solutions t (plus-times K r (neg a) q) v)
+  step-keeps-solutions (pivot q t) (a ∷ r) (x ∷ v) = step-pivot q t (step K t (plus-times K r (neg a) q)) a r x v
+      (step-keeps-solutions t (plus-times K r (neg a) q) v)
 
   steps-keep-solutions : (t : Table Car) (rows : List (List Car)) (v : List Car) → Common (steps K t rows) v ↔ (Common t v × SolvesAll K v rows)
   steps-keep-solutions t [] v = (λ s. (s, tt), λ h. h .0)
@@ -140,7 +142,8 @@ module _ (K : Field) where
   solution-unique x (pivot q t) [] f s = absurd s
   solution-unique x (pivot q t) (y ∷ v) f s =
       let rest = solution-unique x t v f (s .1) in
-      ap₂ _∷_ (neg-unique (K .ring) (eval K q v) y (K .ring .add-comm _ _ ∙ ap (_+ eval K q v) (sym (one-mul (K .ring) y)) ∙ s .0) ∙ ap (λ w. neg (eval K q w)) rest) rest
+      ap₂ _∷_ (neg-unique (K .ring) (eval K q v) y (K .ring .add-comm _ _ ∙ ap (_+ eval K q v) (sym (one-mul (K .ring) y)) ∙ s .0)
+      ∙ ap (λ w. neg (eval K q w)) rest) rest
 
   solutions-differ : (t : Table Car) → has-free t ≡ true → ¬ (solution K 𝟘 t ≡ solution K 𝟙 t)
   solutions-differ solvable f e = false≢true f

@@ -65,7 +65,8 @@ module _ (F : Field) where
       go (no q) rec = whole n f g (Ends-weaken (F .ring) (suc N) n f (omega arith) hf)
 
   -- the common divisors of f and g are those of g and the remainder
-  greatest-divided : (n : ℕ) (f g h : Seq (F .ring)) (d : WithRemainder n f g) → GreatestCommon (Poly F) (PolyD F) g (d .rest) h → GreatestCommon (Poly F) (PolyD F) f g h
+  greatest-divided : (n : ℕ) (f g h : Seq (F .ring)) (d : WithRemainder n f g) → GreatestCommon (Poly F) (PolyD F) g (d .rest) h
+      → GreatestCommon (Poly F) (PolyD F) f g h
   greatest-divided n f g h d s = greatest-subtract (Poly F) (PolyD F) f g (d .quo) h (d .quo-fin)
       (subst (λ (u : Seq (F .ring)). GreatestCommon (Poly F) (PolyD F) u g h)
       (ring2 (Poly F) (λ t r. r ≗ (t ⊕ r) ⊖ t) tt (conv (F .ring) (d .quo) g) (d .rest)

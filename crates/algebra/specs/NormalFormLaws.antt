@@ -101,7 +101,8 @@ module _ (R : CommRing) where
   unfolding total
   total-put k m none ρ = refl
   total-put k m (more j n s) ρ = chosen (λ t. total t ρ ≡ nat k * product m ρ + (nat j * product n ρ + total s ρ)) (order m n) _ _ _ refl
-      (λ e. ap (_+ total s ρ) (ap (_* product n ρ) (nat-add k j) ∙ R .distrib _ _ _ ∙ ap (λ u. nat k * product u ρ + nat j * product n ρ) (sym (order-eq m n e)))
+      (λ e. ap (_+ total s ρ) (ap (_* product n ρ) (nat-add k j) ∙ R .distrib _ _ _
+      ∙ ap (λ u. nat k * product u ρ + nat j * product n ρ) (sym (order-eq m n e)))
       ∙ R .add-assoc _ _ _)
       (ap (nat j * product n ρ +_) (total-put k m s ρ) ∙ add-left-comm R _ _ _)
 
@@ -169,5 +170,6 @@ module _ (R : CommRing) where
   pub agreeing : (ρ : List Car) (e f : Expr) → Agree (normal e) (normal f) → meaning e ρ ≡ meaning f ρ
   unfolding value
   agreeing ρ e f p = normal-sound e ρ
-      ∙ differences-equal _ _ _ _ (sym (total-both ((normal e) .pos) ((normal f) .neg) ρ) ∙ total-same _ _ ρ p ∙ total-both ((normal f) .pos) ((normal e) .neg) ρ)
+      ∙ differences-equal _ _ _ _ (sym (total-both ((normal e) .pos) ((normal f) .neg) ρ) ∙ total-same _ _ ρ p
+      ∙ total-both ((normal f) .pos) ((normal e) .neg) ρ)
       ∙ sym (normal-sound f ρ)
