@@ -8,14 +8,16 @@ use native.Mathlib.Omega.{arith}
 use Rattle.algebra.specs.Ring.{CommRing, zero-add, zero-mul, mul-zero, neg-zero}
 use Rattle.algebra.specs.Series.{Seq, tail, zeroS, constS, conv, SeriesR}
 
+-- f is 0 from N on
 abbrev pub Ends : (R : CommRing) → ℕ → Seq R → Type 0
 Ends R N f = (n : ℕ) → N ≤ n → f n ≡ R .𝟘
 
+-- m is the degree of f: the highest coefficient stands there
 pub record Top (R : CommRing) (m : ℕ) (f : Seq R) : Type 0 where
   pub nonzero : ¬ (f m ≡ R .𝟘)
   pub ends : Ends R (suc m) f
 
--- a subring with a decidable zero and no zero divisors
+-- a subring, of the elements with P, with a decidable zero and no zero divisors
 pub record Domain (R : CommRing) : Type 1 where
   pub P : R .Car → Type 0
   pub P-zero : P (R .𝟘)

@@ -6,10 +6,11 @@ use native.Mathlib.Decide.{decLe}
 use native.Mathlib.Omega.{arith}
 use Rattle.algebra.specs.Ring.{CommRing, mul-left-comm, zero-add, mul-zero, distrib-l}
 use Rattle.algebra.specs.Solver.{_⊕_, _⊗_, _⊖_, _≗_, ring2, ring3}
-use Rattle.algebra.specs.Series.{Seq, constS, conv, conv-const, conv-comm, SeriesR}
+use Rattle.algebra.specs.Series.{Seq, constS, conv, conv-comm, SeriesR}
 use Rattle.algebra.specs.Degree.{Top, Domain, Finite, SeriesD, conv-null, top-mul, finite-top, const-ends, const-P}
 use Rattle.algebra.specs.Mono.{mono, mono-ends}
 
+-- e divides f
 pub record Div (R : CommRing) (D : Domain R) (e f : R .Car) : Type 0 where
   pub quo : R .Car
   pub fin : D .P quo
@@ -95,12 +96,10 @@ module _ (R : CommRing) where
         go (inl z) = absurd (t .nonzero (product-at ∙ conv-null R e (d .quo) z m))
         go (inr s) = let q = quotient-top (s .0) (s .1) in (s .0, omega (arith, q .1), s .1)
 
+  -- a^k
   unfoldable pub pow : Car → ℕ → Car
   pow a zero = 𝟙
   pow a (suc k) = pow a k * a
-
-  pub scaled : (c : Car) (f : Seq R) (i : ℕ) → conv R (constS R c) f i ≡ f i * c
-  scaled c f i = conv-comm R (constS R c) f i ∙ conv-const R c f i
 
 module _ (R : CommRing) (D : Domain R) where
   open CommRing R using (Car, 𝟘, 𝟙, add as _+_, mul as _*_, neg)

@@ -8,6 +8,7 @@ use Rattle.algebra.specs.Series.{Seq, SeriesR}
 use Rattle.algebra.specs.Degree.{Domain, SeriesD}
 use Rattle.algebra.specs.Maps.{Hom, SeriesH, flipH}
 
+-- h 0 + .. + h (N - 1), a bound of each
 unfoldable pub sum : ℕ → (ℕ → ℕ) → ℕ
 sum zero h = 0
 sum (suc N) h = h N +ₙ sum N h

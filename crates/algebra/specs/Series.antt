@@ -8,6 +8,7 @@ use Rattle.algebra.specs.Ring.{CommRing, add-left-comm, zero-add, mul-ze
 abbrev pub Seq : CommRing → Type 0
 Seq R = ℕ → R .Car
 
+-- without the first coefficient
 abbrev pub tail : {A : Type 0} → (ℕ → A) → ℕ → A
 tail f = λ n. f (suc n)
 
@@ -33,6 +34,7 @@ module _ (R : CommRing) where
   constS c zero = c
   constS c (suc n) = 𝟘
 
+  -- the product
   unfoldable pub conv : Seq R → Seq R → Seq R
   conv f g zero = f zero * g zero
   conv f g (suc n) = f zero * g (suc n) + conv (tail f) g n
