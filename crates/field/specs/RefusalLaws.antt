@@ -78,12 +78,12 @@ pub tested-end : {f : Fault} → f ≡ none → Tested [] f
 tested-end e = passed tt e
 
 -- a table in two parts
-pub refuses-front : (front back : List Line) (f : Fault) → Refuses front f → Refuses (front ++ back) f
+refuses-front : (front back : List Line) (f : Fault) → Refuses front f → Refuses (front ++ back) f
 refuses-front [] back f h = absurd h
 refuses-front (l ∷ front) back f (inl h) = inl h
 refuses-front (l ∷ front) back f (inr h) = inr (h .0, refuses-front front back f (h .1))
 
-pub refuses-back : (front back : List Line) (f : Fault) → Passes front → Refuses back f → Refuses (front ++ back) f
+refuses-back : (front back : List Line) (f : Fault) → Passes front → Refuses back f → Refuses (front ++ back) f
 refuses-back [] back f h k = k
 refuses-back (l ∷ front) back f h k = inr (h .0, refuses-back front back f (h .1) k)
 
@@ -104,7 +104,7 @@ abbrev pub numbered : List Line → Bool
 numbered [] = true
 numbered (l ∷ lines) = ltb 0 (l .number) && numbered lines
 
-pub refuses-numbered : (lines : List Line) → T (numbered lines) → (f : Fault) → Refuses lines f → ¬ (f .number ≡ 0)
+refuses-numbered : (lines : List Line) → T (numbered lines) → (f : Fault) → Refuses lines f → ¬ (f .number ≡ 0)
 refuses-numbered [] t f h e = h
 refuses-numbered (l ∷ lines) t f (inl h) e =
     omega (arith, h .0, e, ltb→lt 0 (l .number) (and-yes (ltb 0 (l .number)) (numbered lines) t .0))

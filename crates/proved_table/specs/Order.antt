@@ -46,7 +46,8 @@ not-both-below e f (by-w p q r l) (by-w s u v m) = omega arith
 -- each exponent at most the other's
 unfoldable pub each-at-most : (e f : Exponents) → Dec (e ≼ f)
 each-at-most e f =
-    elim (both-decided (at-most-decided (e .x) (f .x)) (both-decided (at-most-decided (e .y) (f .y)) (both-decided (at-most-decided (e .z) (f .z)) (at-most-decided (e .w) (f .w))))) [
+    elim (both-decided (at-most-decided (e .x) (f .x)) (both-decided (at-most-decided (e .y) (f .y))
+    (both-decided (at-most-decided (e .z) (f .z)) (at-most-decided (e .w) (f .w))))) [
       | yes h ↦ yes (record { x = h .0; y = h .1 .0; z = h .1 .1 .0; w = h .1 .1 .1 })
       | no n ↦ no (λ l. n (l .x, (l .y, (l .z, l .w))))
     ]

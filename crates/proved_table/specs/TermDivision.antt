@@ -24,6 +24,10 @@ module _ (K : Field) where
 
   infixl 60 _+_
   infixl 70 _*_
+  -- two terms of one monomial as one
+  abbrev pub together : Term R → Term R → Term R
+  together t u = record { exponents = u .exponents; coefficient = t .coefficient + u .coefficient }
+
   -- a term and a list added; two terms of one monomial become one, or none
   unfoldable pub plus : Term R → Polynomial K → Polynomial K
   plus t [] = t ∷ []
@@ -32,10 +36,14 @@ module _ (K : Field) where
         | before l ↦ t ∷ u ∷ us
         | same e ↦ elim (K .decide (t .coefficient + u .coefficient)) [
           | yes z ↦ us
-          | no n ↦ record { exponents = u .exponents; coefficient = t .coefficient + u .coefficient } ∷ us
+          | no n ↦ together t u ∷ us
         ]
         | after ↦ u ∷ plus t us
       ]
+
+  -- t over u, where u's exponents are at most t's
+  abbrev pub term-over : Term R → Term R → Term R
+  term-over t u = record { exponents = over (t .exponents) (u .exponents); coefficient = t .coefficient * K .inv (u .coefficient) }
 
   -- - t u
   abbrev pub less-product : Term R → Term R → Term R
@@ -67,7 +75,7 @@ module _ (K : Field) where
   divided l g (suc k) [] = divides
   divided l g (suc k) (t ∷ f) =
       elim (each-at-most (l .exponents) (t .exponents)) [
-        | yes h ↦ divided l g k (less (t ∷ f) (record { exponents = over (t .exponents) (l .exponents); coefficient = t .coefficient * K .inv (l .coefficient) }) g)
+        | yes h ↦ divided l g k (less (t ∷ f) (term-over t l) g)
         | no n ↦ elim (leads t f) [ true ↦ does-not | false ↦ open-still ]
       ]
 

@@ -11,12 +11,14 @@ use Rattle.algebra.specs.Series.{S4}
 use Rattle.algebra.specs.Divides.{div-refl, div-add, div-mul, div-zero, div-to}
 use Rattle.algebra.specs.Four.{Exponents, _⊞_, _≼_, _≺_, below-irreflexive, coef, D4}
 use Rattle.algebra.specs.Lead.{Lead, lead-unique, lead-of-product, lead-exists, lead-nonzero}
-use Rattle.algebra.specs.Monomial.{Term, term, polynomial, monomial, monomial-at, monomial-off, monomial-above, monomial-mul, monomial-add, monomial-zero, monomial-neg, monomial-fin, polynomial-fin}
+use Rattle.algebra.specs.Monomial.{Term, term, polynomial, monomial, monomial-at, monomial-off}
+use Rattle.algebra.specs.Monomial.{monomial-above, monomial-mul, monomial-add, monomial-zero, monomial-neg, monomial-fin, polynomial-fin}
 use Rattle.algebra.specs.Field.{Field, domain}
 use Rattle.poly.specs.Terms.{Polynomial}
 use Rattle.poly.specs.Image.{Divides}
 use Rattle.proved_table.specs.Order.{Order, before, same, after, order, not-both-below, each-at-most}
-use Rattle.proved_table.specs.TermDivision.{Outcome, divides, does-not, open-still, over, plus, less-product, less, less-all, before-all, leads, divided, division}
+use Rattle.proved_table.specs.TermDivision.{Outcome, divides, does-not, open-still, together, term-over, plus}
+use Rattle.proved_table.specs.TermDivision.{less-product, less, less-all, before-all, leads, divided, division}
 
 module _ (K : Field) where
   open Field K using (ring as R)
@@ -35,20 +37,22 @@ module _ (K : Field) where
     where
       -- two terms of one monomial
       merged : t .exponents ≡ u .exponents → S4 R .add (term R t) (term R u) ≡ monomial R (u .exponents) (t .coefficient + u .coefficient)
-      merged e = ap (λ (m : Exponents). S4 R .add (monomial R m (t .coefficient)) (term R u)) e ∙ sym (monomial-add R (u .exponents) (t .coefficient) (u .coefficient))
+      merged e = ap (λ (m : Exponents). S4 R .add (monomial R m (t .coefficient)) (term R u)) e
+          ∙ sym (monomial-add R (u .exponents) (t .coefficient) (u .coefficient))
 
       both : t .exponents ≡ u .exponents → (d : Dec (t .coefficient + u .coefficient ≡ 𝟘))
-          → polynomial R (elim d [ yes z ↦ us | no n ↦ record { exponents = u .exponents; coefficient = t .coefficient + u .coefficient } ∷ us ])
+          → polynomial R (elim d [ yes z ↦ us | no n ↦ together K t u ∷ us ])
           ≡ S4 R .add (term R t) (S4 R .add (term R u) (polynomial R us))
       both e (yes z) =
-          sym (zero-add (S4 R) (polynomial R us)) ∙ ap (λ (f : Poly). S4 R .add f (polynomial R us)) (sym (merged e ∙ ap (monomial R (u .exponents)) z ∙ monomial-zero R (u .exponents)))
+          sym (zero-add (S4 R) (polynomial R us)) ∙ ap (λ (f : Poly). S4 R .add f (polynomial R us))
+          (sym (merged e ∙ ap (monomial R (u .exponents)) z ∙ monomial-zero R (u .exponents)))
           ∙ S4 R .add-assoc (term R t) (term R u) (polynomial R us)
       both e (no n) = ap (λ (f : Poly). S4 R .add f (polynomial R us)) (sym (merged e)) ∙ S4 R .add-assoc (term R t) (term R u) (polynomial R us)
 
       go : (o : Order (t .exponents) (u .exponents)) → polynomial R (plus K t us) ≡ S4 R .add (term R t) (polynomial R us)
           → polynomial R (elim o [
             | before l ↦ t ∷ u ∷ us
-            | same e ↦ elim (K .decide (t .coefficient + u .coefficient)) [ yes z ↦ us | no n ↦ record { exponents = u .exponents; coefficient = t .coefficient + u .coefficient } ∷ us ]
+            | same e ↦ elim (K .decide (t .coefficient + u .coefficient)) [ yes z ↦ us | no n ↦ together K t u ∷ us ]
             | after ↦ u ∷ plus K t us
           ]) ≡ S4 R .add (term R t) (S4 R .add (term R u) (polynomial R us))
       go (before l) again = refl
@@ -66,7 +70,8 @@ module _ (K : Field) where
   less-means f t [] = ring2 (S4 R) (λ f t. f ≗ f ⊖ t ⊗ k0) tt (polynomial R f) (term R t)
   less-means f t (u ∷ us) =
       less-means (plus K (less-product K t u) f) t us
-      ∙ ap (λ (h : Poly). S4 R .add h (S4 R .neg (S4 R .mul (term R t) (polynomial R us)))) (plus-means (less-product K t u) f ∙ ap (λ (h : Poly). S4 R .add h (polynomial R f)) (less-product-means t u))
+      ∙ ap (λ (h : Poly). S4 R .add h (S4 R .neg (S4 R .mul (term R t) (polynomial R us))))
+      (plus-means (less-product K t u) f ∙ ap (λ (h : Poly). S4 R .add h (polynomial R f)) (less-product-means t u))
       ∙ ring4 (S4 R) (λ t u f g. (⊝ (t ⊗ u) ⊕ f) ⊖ t ⊗ g ≗ f ⊖ t ⊗ (u ⊕ g)) tt (term R t) (term R u) (polynomial R f) (polynomial R us)
 
   pub less-all-means : (f q g : Polynomial K) → polynomial R (less-all K f q g) ≡ S4 R .add (polynomial R f) (S4 R .neg (S4 R .mul (polynomial R q) (polynomial R g)))
@@ -109,7 +114,8 @@ module _ (K : Field) where
           → Lead R (t .exponents) (S4 R .add (term R t) (polynomial R f))
       go (yes e) h = absurd (false≢true h)
       go (no n) h = record {
-        stands = λ z. n (sym (R .add-zero _) ∙ sym (ap₂ _+_ (monomial-at R (t .exponents) (t .coefficient)) (none-from (t .exponents) (t .exponents) f h (inl refl))) ∙ z);
+        stands = λ z. n (sym (R .add-zero _) ∙ sym (ap₂ _+_ (monomial-at R (t .exponents) (t .coefficient))
+            (none-from (t .exponents) (t .exponents) f h (inl refl))) ∙ z);
         above = λ e l. ap₂ _+_ (monomial-above R (t .exponents) e (t .coefficient) l) (none-from (t .exponents) e f h (inr l)) ∙ R .add-zero 𝟘;
       }
 
@@ -117,7 +123,8 @@ module _ (K : Field) where
   lead-divides : (m n : Exponents) (f g : Poly) → D4 R (domain K) .P g → Lead R m g → Lead R n f → Divides K g f → m ≼ n
   lead-divides m n f g pg lg lf d =
       let q = lead-exists R (domain K) (d .quo) (d .fin) (λ z. lead-nonzero R (domain K) n f lf (sym (d .eq) ∙ ap (S4 R .mul g) z ∙ mul-zero (S4 R) g)) in
-      part m (q .0) n (lead-unique R (m ⊞ q .0) n f (subst (Lead R (m ⊞ q .0)) (d .eq) (lead-of-product R (domain K) m (q .0) g (d .quo) pg (d .fin) lg (q .1))) lf)
+      part m (q .0) n (lead-unique R (m ⊞ q .0) n f (subst (Lead R (m ⊞ q .0)) (d .eq)
+      (lead-of-product R (domain K) m (q .0) g (d .quo) pg (d .fin) lg (q .1))) lf)
     where
       part : (a b c : Exponents) → a ⊞ b ≡ c → a ≼ c
       part a b c e =
@@ -138,7 +145,8 @@ module _ (K : Field) where
   means-less f g u pu divides d = div-to (S4 R) (D4 R (domain K)) g _ f (ring3 (S4 R) (λ f g u. (f ⊖ u ⊗ g) ⊕ u ⊗ g ≗ f) tt f g u)
       (div-add (S4 R) (D4 R (domain K)) g _ _ d (div-mul (S4 R) (D4 R (domain K)) g g u pu (div-refl (S4 R) (D4 R (domain K)) g)))
   means-less f g u pu does-not n = λ d. n (div-to (S4 R) (D4 R (domain K)) g _ _ (ring3 (S4 R) (λ f g u. f ⊕ ⊝ u ⊗ g ≗ f ⊖ u ⊗ g) tt f g u)
-      (div-add (S4 R) (D4 R (domain K)) g _ _ d (div-mul (S4 R) (D4 R (domain K)) g g (S4 R .neg u) (D4 R (domain K) .P-neg _ pu) (div-refl (S4 R) (D4 R (domain K)) g))))
+      (div-add (S4 R) (D4 R (domain K)) g _ _ d (div-mul (S4 R) (D4 R (domain K)) g g (S4 R .neg u) (D4 R (domain K) .P-neg _ pu)
+      (div-refl (S4 R) (D4 R (domain K)) g))))
   means-less f g u pu open-still h = tt
 
   module _ (l : Term R) (g : Polynomial K) (lead : Lead R (l .exponents) (polynomial R g)) where
@@ -154,15 +162,19 @@ module _ (K : Field) where
     divided-means (suc n) (t ∷ f) = go (each-at-most (l .exponents) (t .exponents)) (divided-means n (less K (t ∷ f) q g))
       where
         q : Term R
-        q = record { exponents = over (t .exponents) (l .exponents); coefficient = t .coefficient * K .inv (l .coefficient) }
+        q = term-over K t l
 
-        stuck : ¬ (l .exponents ≼ t .exponents) → (b : Bool) → leads K t f ≡ b → Means (polynomial R (t ∷ f)) (polynomial R g) (elim b [ true ↦ does-not | false ↦ open-still ])
-        stuck n true e = λ d. n (lead-divides (l .exponents) (t .exponents) (polynomial R (t ∷ f)) (polynomial R g) (polynomial-fin R (domain K) (λ c. tt) g) lead (leads-means t f e) d)
+        stuck : ¬ (l .exponents ≼ t .exponents) → (b : Bool) → leads K t f ≡ b
+            → Means (polynomial R (t ∷ f)) (polynomial R g) (elim b [ true ↦ does-not | false ↦ open-still ])
+        stuck n true e = λ d. n (lead-divides (l .exponents) (t .exponents) (polynomial R (t ∷ f)) (polynomial R g)
+            (polynomial-fin R (domain K) (λ c. tt) g) lead (leads-means t f e) d)
         stuck n false e = tt
 
         go : (d : Dec (l .exponents ≼ t .exponents)) → Means (polynomial R (less K (t ∷ f) q g)) (polynomial R g) (divided K l g n (less K (t ∷ f) q g))
-            → Means (polynomial R (t ∷ f)) (polynomial R g) (elim d [ yes h ↦ divided K l g n (less K (t ∷ f) q g) | no n ↦ elim (leads K t f) [ true ↦ does-not | false ↦ open-still ] ])
-        go (yes h) again = means-less (polynomial R (t ∷ f)) (polynomial R g) (term R q) (monomial-fin R (domain K) (q .exponents) (q .coefficient) tt) (divided K l g n (less K (t ∷ f) q g))
+            → Means (polynomial R (t ∷ f)) (polynomial R g)
+            (elim d [ yes h ↦ divided K l g n (less K (t ∷ f) q g) | no n ↦ elim (leads K t f) [ true ↦ does-not | false ↦ open-still ] ])
+        go (yes h) again = means-less (polynomial R (t ∷ f)) (polynomial R g) (term R q)
+            (monomial-fin R (domain K) (q .exponents) (q .coefficient) tt) (divided K l g n (less K (t ∷ f) q g))
             (subst (λ (r : Poly). Means r (polynomial R g) (divided K l g n (less K (t ∷ f) q g))) (less-means (t ∷ f) q g) again)
         go (no n) again = stuck n (leads K t f) refl
 
