@@ -66,6 +66,11 @@ module _ (R : CommRing) where
       (ap₂ _+_ (ap (f zero *_) (hg (suc (m +ₙ n)) (omega arith)) ∙ mul-zero R _) (conv-top m n (tail f) g (Ends-tail (suc m) f hf) hg)
       ∙ zero-add R _)
 
+  pub const-ends : (c : Car) → Ends R 1 (constS R c)
+  unfolding constS
+  const-ends c zero l = absurd (omega arith)
+  const-ends c (suc n) l = refl
+
   Ends-pred : (N : ℕ) (f : Seq R) → Ends R (suc N) f → f N ≡ 𝟘 → Ends R N f
   Ends-pred N f h e n l = elim (ℕ-discrete n N) [ yes p ↦ ap f p ∙ e | no q ↦ h n (omega arith) ]
 
@@ -108,11 +113,6 @@ module _ (R : CommRing) (D : Domain R) where
   const-P c p zero = p
   const-P c p (suc n) = D .P-zero
 
-  pub const-ends : (c : Car) → Ends R 1 (constS R c)
-  unfolding constS
-  const-ends c zero l = absurd (omega arith)
-  const-ends c (suc n) l = refl
-
   pub series-dec0 : (f : Seq R) → Finite f → Dec (f ≡ zeroS R)
   series-dec0 f h = elim (finite-top f h) [ inl z ↦ yes (fun-ext z) | inr t ↦ no λ e. t .1 .nonzero (ap (λ (u : Seq R). u (t .0)) e) ]
 
@@ -133,7 +133,7 @@ module _ (R : CommRing) (D : Domain R) where
   SeriesD = record {
     P = Finite;
     P-zero = record { bound = 0; ends = λ n l. refl; coef = λ n. D .P-zero };
-    P-one = record { bound = 1; ends = const-ends 𝟙; coef = const-P 𝟙 (D .P-one) };
+    P-one = record { bound = 1; ends = const-ends R 𝟙; coef = const-P 𝟙 (D .P-one) };
     P-add = λ f g hf hg. record {
       bound = hf .bound +ₙ hg .bound;
       ends = λ n l. ap₂ _+_ (hf .ends n (omega arith)) (hg .ends n (omega arith)) ∙ R .add-zero _;

@@ -4,11 +4,11 @@ use mathlib.Core.Logic.{_⊎_, inl, inr}
 use Prim.Native.Nat.{ℕ, zero, suc, _+_ as _+ₙ_, _≤_}
 use native.Mathlib.Decide.{decLe}
 use native.Mathlib.Omega.{arith}
-use Rattle.algebra.specs.Ring.{CommRing, mul-left-comm, zero-add, mul-zero, distrib-l}
+use Rattle.algebra.specs.Ring.{CommRing, mul-left-comm, zero-add, mul-zero, mul-neg, distrib-l}
 use Rattle.algebra.specs.Solver.{_⊕_, _⊗_, _⊖_, _≗_, ring2, ring3}
 use Rattle.algebra.specs.Series.{Seq, constS, conv, conv-comm, SeriesR}
 use Rattle.algebra.specs.Degree.{Top, Domain, Finite, SeriesD, conv-null, top-mul, finite-top, const-ends, const-P}
-use Rattle.algebra.specs.Mono.{mono, mono-ends}
+use Rattle.algebra.specs.Mono.{mono, mono-either, mono-ends}
 
 -- e divides f
 pub record Div (R : CommRing) (D : Domain R) (e f : R .Car) : Type 0 where
@@ -44,6 +44,9 @@ module _ (R : CommRing) (D : Domain R) where
     fin = D .P-mul _ _ pc (p .fin);
     eq = mul-left-comm R _ _ _ ∙ ap (c *_) (p .eq);
   }
+
+  pub div-neg : (e f : Car) → Div R D e f → Div R D e (neg f)
+  div-neg e f p = record { quo = neg (p .quo); fin = D .P-neg _ (p .fin); eq = mul-neg R _ _ ∙ ap neg (p .eq) }
 
   pub div-zero : (e : Car) → Div R D e 𝟘
   div-zero e = record { quo = 𝟘; fin = D .P-zero; eq = mul-zero R e }
@@ -108,17 +111,10 @@ module _ (R : CommRing) (D : Domain R) where
   infixl 60 _+_
   infixl 70 _*_
   pub const-fin : (c : Car) → P c → Finite R D (constS R c)
-  const-fin c pc = record { bound = 1; ends = const-ends R D c; coef = const-P R D c pc }
-
-  mono-P : (n : ℕ) (c : Car) → P c → (k : ℕ) → P (mono R n c k)
-  unfolding mono
-  mono-P zero c pc zero = pc
-  mono-P zero c pc (suc k) = D .P-zero
-  mono-P (suc n) c pc zero = D .P-zero
-  mono-P (suc n) c pc (suc k) = mono-P n c pc k
+  const-fin c pc = record { bound = 1; ends = const-ends R c; coef = const-P R D c pc }
 
   pub mono-fin : (n : ℕ) (c : Car) → P c → Finite R D (mono R n c)
-  mono-fin n c pc = record { bound = suc n; ends = mono-ends R n c; coef = mono-P n c pc }
+  mono-fin n c pc = record { bound = suc n; ends = mono-ends R n c; coef = λ k. mono-either R P n c k (λ e. pc) (D .P-zero) }
 
   pub pow-P : (c : Car) → P c → (k : ℕ) → P (pow R c k)
   unfolding pow

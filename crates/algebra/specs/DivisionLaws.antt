@@ -58,7 +58,7 @@ module _ (R : CommRing) (D : Domain R) (every : (c : R .Car) → D .P c) where
         → (q : Poly) → D4 R D .P q → Small q → S4 R .mul q g ≡ r → ⊥
     no-means (done z) e pg q pq sm eq = true≢false e
     no-means (stop {r = r} m l n) e pg q pq sm eq =
-        let nz : ¬ (q ≡ S4 R .𝟘) = λ z. lead-nonzero R D m r l (sym eq ∙ ap (λ (u : Poly). S4 R .mul u g) z ∙ zero-mul (S4 R) g) in
+        let nz : ¬ (q ≡ S4 R .𝟘) = λ z. lead-nonzero R m r l (sym eq ∙ ap (λ (u : Poly). S4 R .mul u g) z ∙ zero-mul (S4 R) g) in
         let k = lead-exists R D q pq nz in
         let h : Lead R (k .0 ⊞ s .lead) r = subst (Lead R (k .0 ⊞ s .lead)) eq (lead-of-product R D (k .0) (s .lead) q g pq pg (k .1) (s .leads)) in
         n (k .0) (record { exact = lead-unique R m (k .0 ⊞ s .lead) r l h; bounded = small-over q (k .0) sm (k .1 .stands) })
@@ -152,13 +152,13 @@ module _ (R : CommRing) (D : Domain R) (every : (c : R .Car) → D .P c) where
     goes-determined : (s : Sizes R f g) (r r′ : Poly) {ts us : List (Term R)} {a b : Bool} → r ≡ r′ → Goes R f g s r ts a → Goes R f g s r′ us b
         → Same ts us a b
     goes-determined s r r′ p (done z) (done y) = record { terms = refl; answer = refl }
-    goes-determined s r r′ p (done z) (stop m l n) = absurd (lead-nonzero R D m r′ l (sym p ∙ z))
-    goes-determined s r r′ p (done z) (step m t l o c k) = absurd (lead-nonzero R D m r′ l (sym p ∙ z))
-    goes-determined s r r′ p (stop m l n) (done y) = absurd (lead-nonzero R D m r l (p ∙ y))
+    goes-determined s r r′ p (done z) (stop m l n) = absurd (lead-nonzero R m r′ l (sym p ∙ z))
+    goes-determined s r r′ p (done z) (step m t l o c k) = absurd (lead-nonzero R m r′ l (sym p ∙ z))
+    goes-determined s r r′ p (stop m l n) (done y) = absurd (lead-nonzero R m r l (p ∙ y))
     goes-determined s r r′ p (stop m l n) (stop m′ l′ n′) = record { terms = refl; answer = refl }
     goes-determined s r r′ p (stop m l n) (step m′ t l′ o c k) =
         absurd (n (t .exponents) (subst (λ (i : Exponents). Over R f g s i (t .exponents)) (lead-unique R m′ m r′ l′ (subst (Lead R m) p l)) o))
-    goes-determined s r r′ p (step m t l o c k) (done y) = absurd (lead-nonzero R D m r l (p ∙ y))
+    goes-determined s r r′ p (step m t l o c k) (done y) = absurd (lead-nonzero R m r l (p ∙ y))
     goes-determined s r r′ p (step m t l o c k) (stop m′ l′ n) =
         absurd (n (t .exponents) (subst (λ (i : Exponents). Over R f g s i (t .exponents)) (lead-unique R m m′ r′ (subst (Lead R m) p l) l′) o))
     goes-determined s r r′ p (step m t l o c k) (step m′ t′ l′ o′ c′ k′) =

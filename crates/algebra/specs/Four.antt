@@ -2,7 +2,7 @@
 use mathlib.Core.Path.{_≡_, sym, ap}
 use mathlib.Core.Logic.{_⊎_, inl, inr}
 use Prim.Native.Nat.{ℕ, _+_, _≤_, _<_}
-use native.Mathlib.Decide.{decLt}
+use native.Mathlib.Decide.{ℕ-discrete, decLt}
 use native.Mathlib.Omega.{arith}
 use Rattle.algebra.specs.Ring.{CommRing}
 use Rattle.algebra.specs.Series.{SeriesR, S2, S3, S4}
@@ -38,6 +38,16 @@ infix 40 _≺_
 pub exponents-path : {e f : Exponents} → e .x ≡ f .x → e .y ≡ f .y → e .z ≡ f .z → e .w ≡ f .w → e ≡ f
 exponents-path p q r s = λ i. record { x = p i; y = q i; z = r i; w = s i }
 
+pub same-exponents : (e f : Exponents) → Dec (e ≡ f)
+same-exponents e f = go (ℕ-discrete (e .x) (f .x)) (ℕ-discrete (e .y) (f .y)) (ℕ-discrete (e .z) (f .z)) (ℕ-discrete (e .w) (f .w))
+  where
+    go : Dec (e .x ≡ f .x) → Dec (e .y ≡ f .y) → Dec (e .z ≡ f .z) → Dec (e .w ≡ f .w) → Dec (e ≡ f)
+    go (no q) b c d = no (λ p. q (ap (λ (u : Exponents). u .x) p))
+    go (yes a) (no q) c d = no (λ p. q (ap (λ (u : Exponents). u .y) p))
+    go (yes a) (yes b) (no q) d = no (λ p. q (ap (λ (u : Exponents). u .z) p))
+    go (yes a) (yes b) (yes c) (no q) = no (λ p. q (ap (λ (u : Exponents). u .w) p))
+    go (yes a) (yes b) (yes c) (yes d) = yes (exponents-path a b c d)
+
 pub compare : (e f : Exponents) → (e ≺ f) ⊎ ((e ≡ f) ⊎ (f ≺ e))
 compare e f = at-x (decLt (e .x) (f .x)) (decLt (f .x) (e .x))
   where
@@ -61,11 +71,27 @@ compare e f = at-x (decLt (e .x) (f .x)) (decLt (f .x) (e .x))
     at-x (no n) (yes m) = inr (inr (by-x m))
     at-x (no n) (no m) = at-y (omega arith) (decLt (e .y) (f .y)) (decLt (f .y) (e .y))
 
+-- of two different monomials one alone is below the other
+pub not-both-below : (e f : Exponents) → e ≺ f → f ≺ e → ⊥
+not-both-below e f (by-x l) (by-x m) = omega arith
+not-both-below e f (by-x l) (by-y p m) = omega arith
+not-both-below e f (by-x l) (by-z p q m) = omega arith
+not-both-below e f (by-x l) (by-w p q r m) = omega arith
+not-both-below e f (by-y p l) (by-x m) = omega arith
+not-both-below e f (by-y p l) (by-y q m) = omega arith
+not-both-below e f (by-y p l) (by-z q r m) = omega arith
+not-both-below e f (by-y p l) (by-w q r s m) = omega arith
+not-both-below e f (by-z p q l) (by-x m) = omega arith
+not-both-below e f (by-z p q l) (by-y r m) = omega arith
+not-both-below e f (by-z p q l) (by-z r s m) = omega arith
+not-both-below e f (by-z p q l) (by-w r s u m) = omega arith
+not-both-below e f (by-w p q r l) (by-x m) = omega arith
+not-both-below e f (by-w p q r l) (by-y s m) = omega arith
+not-both-below e f (by-w p q r l) (by-z s u m) = omega arith
+not-both-below e f (by-w p q r l) (by-w s u v m) = omega arith
+
 pub below-irreflexive : (e : Exponents) → ¬ (e ≺ e)
-below-irreflexive e (by-x l) = omega arith
-below-irreflexive e (by-y p l) = omega arith
-below-irreflexive e (by-z p q l) = omega arith
-below-irreflexive e (by-w p q r l) = omega arith
+below-irreflexive e l = not-both-below e e l l
 
 -- a common factor changes no order
 pub below-cancel : (e f g : Exponents) → e ⊞ g ≺ f ⊞ g → e ≺ f

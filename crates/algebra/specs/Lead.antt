@@ -20,6 +20,9 @@ module _ (R : CommRing) where
     pub stands : ¬ (coef R f m ≡ 𝟘)
     pub above : Upto m f
 
+  pub lead-nonzero : (m : Exponents) (f : S4 R .Car) → Lead m f → ¬ (f ≡ S4 R .𝟘)
+  lead-nonzero m f s e = s .stands (ap (λ (u : S4 R .Car). coef R u m) e)
+
   pub lead-unique : (m n : Exponents) (f : S4 R .Car) → Lead m f → Lead n f → m ≡ n
   lead-unique m n f s t = elim (compare m n) [
     | inl l ↦ absurd (t .stands (s .above n l))
@@ -95,6 +98,3 @@ module _ (R : CommRing) (D : Domain R) where
       let d = series-top R D (f (a .0) (b .0) (c .0)) (pf .coef _ .coef _ .coef _) (c .1 .nonzero) in
       let m : Exponents = record { x = a .0; y = b .0; z = c .0; w = d .0 } in
       (m, record { stands = d .1 .nonzero; above = upto R m f (record { in-x = a .1 .ends; in-y = b .1 .ends; in-z = c .1 .ends; in-w = d .1 .ends }) })
-
-  pub lead-nonzero : (m : Exponents) (f : S4 R .Car) → Lead R m f → ¬ (f ≡ S4 R .𝟘)
-  lead-nonzero m f s e = s .stands (ap (λ (u : S4 R .Car). coef R u m) e)

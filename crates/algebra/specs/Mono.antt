@@ -57,12 +57,16 @@ module _ (R : CommRing) where
   mono-at zero c = refl
   mono-at (suc n) c = mono-at n c
 
-  pub mono-off : (n : ℕ) (c : Car) (k : ℕ) → ¬ (n ≡ k) → mono n c k ≡ 𝟘
+  -- what holds of c where the places are equal, and of 0, holds of the coefficient
+  pub mono-either : (P : Car → Type 0) (n : ℕ) (c : Car) (k : ℕ) → (n ≡ k → P c) → P 𝟘 → P (mono n c k)
   unfolding mono
-  mono-off zero c zero q = absurd (q refl)
-  mono-off zero c (suc k) q = refl
-  mono-off (suc n) c zero q = refl
-  mono-off (suc n) c (suc k) q = mono-off n c k (λ e. q (ap suc e))
+  mono-either P zero c zero here off = here refl
+  mono-either P zero c (suc k) here off = off
+  mono-either P (suc n) c zero here off = off
+  mono-either P (suc n) c (suc k) here off = mono-either P n c k (λ e. here (ap suc e)) off
+
+  pub mono-off : (n : ℕ) (c : Car) (k : ℕ) → ¬ (n ≡ k) → mono n c k ≡ 𝟘
+  mono-off n c k q = mono-either (λ u. u ≡ 𝟘) n c k (λ e. absurd (q e)) refl
 
   pub mono-ends : (n : ℕ) (c : Car) → Ends R (suc n) (mono n c)
   mono-ends n c k l = mono-off n c k (omega arith)
@@ -71,11 +75,7 @@ module _ (R : CommRing) where
   mono-times n a c k = ap (λ u. mono n u k) (R .mul-comm a c) ∙ mono-scale n c a k ∙ R .mul-comm _ _
 
   pub mono-null : (n : ℕ) (k : ℕ) → mono n 𝟘 k ≡ 𝟘
-  unfolding mono
-  mono-null zero zero = refl
-  mono-null zero (suc k) = refl
-  mono-null (suc n) zero = refl
-  mono-null (suc n) (suc k) = mono-null n k
+  mono-null n k = mono-either (λ u. u ≡ 𝟘) n 𝟘 k (λ e. refl) refl
 
 -- u x^a y^b z^c w^d
 abbrev pub mono4 : (R : CommRing) (a b c d : ℕ) → R .Car → S4 R .Car

@@ -79,7 +79,7 @@ module _ (R : CommRing) (D : Domain R) (a : R .Car) (pa : D .P a) where
   cut-P (suc N) f h = D .P-add _ _ (h zero) (D .P-mul _ _ pa (cut-P N (tail f) (λ n. h (suc n))))
 
   pub evaluate-const : (c : Car) (h : Finite R D (constS R c)) → cut-value R (h .bound) a (constS R c) ≡ c
-  evaluate-const c h = any-cut (h .bound) 1 (constS R c) (h .ends) (const-ends R D c) ∙ (unfold cut-value constS in ap (c +_) (mul-zero R a) ∙ R .add-zero c)
+  evaluate-const c h = any-cut (h .bound) 1 (constS R c) (h .ends) (const-ends R c) ∙ (unfold cut-value constS in ap (c +_) (mul-zero R a) ∙ R .add-zero c)
 
   abbrev pub evaluate : Evaluation (SeriesR R) R (SeriesD R D) D
   evaluate = record {

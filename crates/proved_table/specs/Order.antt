@@ -24,25 +24,6 @@ order e f =
     order-by (e .z) (f .z) (by-z p q) λ r.
     order-by (e .w) (f .w) (by-w p q r) λ s. same (exponents-path (omega arith) (omega arith) (omega arith) (omega arith))
 
--- of two different monomials one alone is below the other
-pub not-both-below : (e f : Exponents) → e ≺ f → f ≺ e → ⊥
-not-both-below e f (by-x l) (by-x m) = omega arith
-not-both-below e f (by-x l) (by-y p m) = omega arith
-not-both-below e f (by-x l) (by-z p q m) = omega arith
-not-both-below e f (by-x l) (by-w p q r m) = omega arith
-not-both-below e f (by-y p l) (by-x m) = omega arith
-not-both-below e f (by-y p l) (by-y q m) = omega arith
-not-both-below e f (by-y p l) (by-z q r m) = omega arith
-not-both-below e f (by-y p l) (by-w q r s m) = omega arith
-not-both-below e f (by-z p q l) (by-x m) = omega arith
-not-both-below e f (by-z p q l) (by-y r m) = omega arith
-not-both-below e f (by-z p q l) (by-z r s m) = omega arith
-not-both-below e f (by-z p q l) (by-w r s u m) = omega arith
-not-both-below e f (by-w p q r l) (by-x m) = omega arith
-not-both-below e f (by-w p q r l) (by-y s m) = omega arith
-not-both-below e f (by-w p q r l) (by-z s u m) = omega arith
-not-both-below e f (by-w p q r l) (by-w s u v m) = omega arith
-
 -- each exponent at most the other's
 unfoldable pub each-at-most : (e f : Exponents) → Dec (e ≼ f)
 each-at-most e f =

@@ -8,15 +8,15 @@ use native.Mathlib.Omega.{arith}
 use Rattle.algebra.specs.Ring.{CommRing, mul-zero, zero-add}
 use Rattle.algebra.specs.Solver.{_⊕_, _⊗_, ⊝, _⊖_, _≗_, k0, ring2, ring3, ring4}
 use Rattle.algebra.specs.Series.{S4}
-use Rattle.algebra.specs.Divides.{div-refl, div-add, div-mul, div-zero, div-to}
-use Rattle.algebra.specs.Four.{Exponents, _⊞_, _≼_, _≺_, below-irreflexive, coef, D4}
+use Rattle.algebra.specs.Divides.{div-refl, div-add, div-mul, div-neg, div-zero, div-to}
+use Rattle.algebra.specs.Four.{Exponents, _⊞_, _≼_, _≺_, not-both-below, below-irreflexive, coef, D4}
 use Rattle.algebra.specs.Lead.{Lead, lead-unique, lead-of-product, lead-exists, lead-nonzero}
 use Rattle.algebra.specs.Monomial.{Term, term, polynomial, monomial, monomial-at, monomial-off}
 use Rattle.algebra.specs.Monomial.{monomial-above, monomial-mul, monomial-add, monomial-zero, monomial-neg, monomial-fin, polynomial-fin}
 use Rattle.algebra.specs.Field.{Field, domain}
 use Rattle.poly.specs.Terms.{Polynomial}
 use Rattle.poly.specs.Image.{Divides}
-use Rattle.proved_table.specs.Order.{Order, before, same, after, order, not-both-below, each-at-most}
+use Rattle.proved_table.specs.Order.{Order, before, same, after, order, each-at-most}
 use Rattle.proved_table.specs.TermDivision.{Outcome, divides, does-not, open-still, together, term-over, plus}
 use Rattle.proved_table.specs.TermDivision.{less-product, less, less-all, before-all, leads, divided, division}
 
@@ -74,7 +74,8 @@ module _ (K : Field) where
       (plus-means (less-product K t u) f ∙ ap (λ (h : Poly). S4 R .add h (polynomial R f)) (less-product-means t u))
       ∙ ring4 (S4 R) (λ t u f g. (⊝ (t ⊗ u) ⊕ f) ⊖ t ⊗ g ≗ f ⊖ t ⊗ (u ⊕ g)) tt (term R t) (term R u) (polynomial R f) (polynomial R us)
 
-  pub less-all-means : (f q g : Polynomial K) → polynomial R (less-all K f q g) ≡ S4 R .add (polynomial R f) (S4 R .neg (S4 R .mul (polynomial R q) (polynomial R g)))
+  less-all-means : (f q g : Polynomial K)
+      → polynomial R (less-all K f q g) ≡ S4 R .add (polynomial R f) (S4 R .neg (S4 R .mul (polynomial R q) (polynomial R g)))
   unfolding polynomial less-all
   less-all-means f [] g = ring2 (S4 R) (λ f g. f ≗ f ⊖ k0 ⊗ g) tt (polynomial R f) (polynomial R g)
   less-all-means f (t ∷ ts) g =
@@ -122,7 +123,7 @@ module _ (K : Field) where
   -- what is divided has a leading monomial that the divisor's divides
   lead-divides : (m n : Exponents) (f g : Poly) → D4 R (domain K) .P g → Lead R m g → Lead R n f → Divides K g f → m ≼ n
   lead-divides m n f g pg lg lf d =
-      let q = lead-exists R (domain K) (d .quo) (d .fin) (λ z. lead-nonzero R (domain K) n f lf (sym (d .eq) ∙ ap (S4 R .mul g) z ∙ mul-zero (S4 R) g)) in
+      let q = lead-exists R (domain K) (d .quo) (d .fin) (λ z. lead-nonzero R n f lf (sym (d .eq) ∙ ap (S4 R .mul g) z ∙ mul-zero (S4 R) g)) in
       part m (q .0) n (lead-unique R (m ⊞ q .0) n f (subst (Lead R (m ⊞ q .0)) (d .eq)
       (lead-of-product R (domain K) m (q .0) g (d .quo) pg (d .fin) lg (q .1))) lf)
     where
@@ -140,13 +141,14 @@ module _ (K : Field) where
   Means f g does-not = ¬ Divides K g f
   Means f g open-still = Unit {0}
 
+  multiple : (g u : Poly) → D4 R (domain K) .P u → Divides K g (S4 R .mul u g)
+  multiple g u pu = div-mul (S4 R) (D4 R (domain K)) g g u pu (div-refl (S4 R) (D4 R (domain K)) g)
+
   -- f and f less a multiple of g have the same outcome
   means-less : (f g u : Poly) → D4 R (domain K) .P u → (o : Outcome) → Means (S4 R .add f (S4 R .neg (S4 R .mul u g))) g o → Means f g o
   means-less f g u pu divides d = div-to (S4 R) (D4 R (domain K)) g _ f (ring3 (S4 R) (λ f g u. (f ⊖ u ⊗ g) ⊕ u ⊗ g ≗ f) tt f g u)
-      (div-add (S4 R) (D4 R (domain K)) g _ _ d (div-mul (S4 R) (D4 R (domain K)) g g u pu (div-refl (S4 R) (D4 R (domain K)) g)))
-  means-less f g u pu does-not n = λ d. n (div-to (S4 R) (D4 R (domain K)) g _ _ (ring3 (S4 R) (λ f g u. f ⊕ ⊝ u ⊗ g ≗ f ⊖ u ⊗ g) tt f g u)
-      (div-add (S4 R) (D4 R (domain K)) g _ _ d (div-mul (S4 R) (D4 R (domain K)) g g (S4 R .neg u) (D4 R (domain K) .P-neg _ pu)
-      (div-refl (S4 R) (D4 R (domain K)) g))))
+      (div-add (S4 R) (D4 R (domain K)) g _ _ d (multiple g u pu))
+  means-less f g u pu does-not n = λ d. n (div-add (S4 R) (D4 R (domain K)) g f _ d (div-neg (S4 R) (D4 R (domain K)) g _ (multiple g u pu)))
   means-less f g u pu open-still h = tt
 
   module _ (l : Term R) (g : Polynomial K) (lead : Lead R (l .exponents) (polynomial R g)) where
