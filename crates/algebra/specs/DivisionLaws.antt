@@ -11,7 +11,7 @@ use Rattle.algebra.specs.Solver.{_⊕_, _⊗_, _⊖_, _≗_, ring2, ring
 use Rattle.algebra.specs.Series.{S4}
 use Rattle.algebra.specs.Degree.{Domain}
 use Rattle.algebra.specs.Divides.{Div, cancel}
-use Rattle.algebra.specs.Four.{Exponents, _⊞_, _≼_, _≺_, compare, below-cancel, exponents-cancel, exponents-path, coef, D4}
+use Rattle.algebra.specs.Four.{Exponents, _⊞_, _≼_, _≺_, Order, lower, equal, higher, compare, below-cancel, exponents-cancel, exponents-path, coef, D4}
 use Rattle.algebra.specs.Lead.{Lead, Upto, lead-unique, lead-of-product, lead-exists, lead-nonzero, coef-of-product, upto-of-product}
 use Rattle.algebra.specs.GreatestExponent.{Variable, in-x, in-y, in-z, in-w, exponent, greatest-unique}
 use Rattle.algebra.specs.GreatestExponentLaws.{factor-within}
@@ -108,10 +108,10 @@ module _ (R : CommRing) (D : Domain R) (every : (c : R .Car) → D .P c) where
       falls-below k (t .exponents) (under-next m t r l o c),
     )
       where
-        first : (m ≺ n ⊞ s .lead) ⊎ ((m ≡ n ⊞ s .lead) ⊎ (n ⊞ s .lead ≺ m)) → t .exponents ≺ n
-        first (inl b) = below-cancel (t .exponents) n (s .lead) (subst (_≺ n ⊞ s .lead) (o .exact) b)
-        first (inr (inl p)) = absurd (l .stands (u m (inl p)))
-        first (inr (inr b)) = absurd (l .stands (u m (inr b)))
+        first : Order m (n ⊞ s .lead) → t .exponents ≺ n
+        first (lower b) = below-cancel (t .exponents) n (s .lead) (subst (_≺ n ⊞ s .lead) (o .exact) b)
+        first (equal p) = absurd (l .stands (u m (inl p)))
+        first (higher b) = absurd (l .stands (u m (inr b)))
 
     falls : {r : Poly} {ts : List (Term R)} {whole : Bool} → Goes R f g s r ts whole → Falls R ts
     falls (done z) = tt

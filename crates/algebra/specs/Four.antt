@@ -1,6 +1,5 @@
 -- Polynomials in x, y, z, w: the exponents of a monomial, their lexicographic order, and the coefficient beside one.
 use mathlib.Core.Path.{_≡_, sym, ap}
-use mathlib.Core.Logic.{_⊎_, inl, inr}
 use Prim.Native.Nat.{ℕ, _+_, _≤_, _<_}
 use native.Mathlib.Decide.{ℕ-discrete, decLt}
 use native.Mathlib.Omega.{arith}
@@ -48,28 +47,24 @@ same-exponents e f = go (ℕ-discrete (e .x) (f .x)) (ℕ-discrete (e .y) (f .y)
     go (yes a) (yes b) (yes c) (no q) = no (λ p. q (ap (λ (u : Exponents). u .w) p))
     go (yes a) (yes b) (yes c) (yes d) = yes (exponents-path a b c d)
 
-pub compare : (e f : Exponents) → (e ≺ f) ⊎ ((e ≡ f) ⊎ (f ≺ e))
-compare e f = at-x (decLt (e .x) (f .x)) (decLt (f .x) (e .x))
-  where
-    at-w : e .x ≡ f .x → e .y ≡ f .y → e .z ≡ f .z → Dec (e .w < f .w) → Dec (f .w < e .w) → (e ≺ f) ⊎ ((e ≡ f) ⊎ (f ≺ e))
-    at-w p q r (yes l) m = inl (by-w p q r l)
-    at-w p q r (no n) (yes m) = inr (inr (by-w (sym p) (sym q) (sym r) m))
-    at-w p q r (no n) (no m) = inr (inl (exponents-path p q r (omega arith)))
+-- e is below f, is f, or is above it
+pub data Order (e f : Exponents) : Type 0 where
+  lower : e ≺ f → Order e f
+  equal : e ≡ f → Order e f
+  higher : f ≺ e → Order e f
 
-    at-z : e .x ≡ f .x → e .y ≡ f .y → Dec (e .z < f .z) → Dec (f .z < e .z) → (e ≺ f) ⊎ ((e ≡ f) ⊎ (f ≺ e))
-    at-z p q (yes l) m = inl (by-z p q l)
-    at-z p q (no n) (yes m) = inr (inr (by-z (sym p) (sym q) m))
-    at-z p q (no n) (no m) = at-w p q (omega arith) (decLt (e .w) (f .w)) (decLt (f .w) (e .w))
+-- by an exponent of each, and where they are equal by what comes behind
+unfoldable pub compare-by : {e f : Exponents} (a b : ℕ) → (a < b → e ≺ f) → (b < a → f ≺ e) → (a ≡ b → Order e f) → Order e f
+compare-by a b less more behind =
+    elim (decLt a b) [ yes l ↦ lower (less l) | no n ↦ elim (decLt b a) [ yes l ↦ higher (more l) | no m ↦ behind (omega arith) ] ]
 
-    at-y : e .x ≡ f .x → Dec (e .y < f .y) → Dec (f .y < e .y) → (e ≺ f) ⊎ ((e ≡ f) ⊎ (f ≺ e))
-    at-y p (yes l) m = inl (by-y p l)
-    at-y p (no n) (yes m) = inr (inr (by-y (sym p) m))
-    at-y p (no n) (no m) = at-z p (omega arith) (decLt (e .z) (f .z)) (decLt (f .z) (e .z))
-
-    at-x : Dec (e .x < f .x) → Dec (f .x < e .x) → (e ≺ f) ⊎ ((e ≡ f) ⊎ (f ≺ e))
-    at-x (yes l) m = inl (by-x l)
-    at-x (no n) (yes m) = inr (inr (by-x m))
-    at-x (no n) (no m) = at-y (omega arith) (decLt (e .y) (f .y)) (decLt (f .y) (e .y))
+unfoldable pub compare : (e f : Exponents) → Order e f
+unfolding compare-by
+compare e f =
+    compare-by (e .x) (f .x) by-x by-x λ p.
+    compare-by (e .y) (f .y) (by-y p) (by-y (sym p)) λ q.
+    compare-by (e .z) (f .z) (by-z p q) (by-z (sym p) (sym q)) λ r.
+    compare-by (e .w) (f .w) (by-w p q r) (by-w (sym p) (sym q) (sym r)) λ s. equal (exponents-path p q r s)
 
 -- of two different monomials one alone is below the other
 pub not-both-below : (e f : Exponents) → e ≺ f → f ≺ e → ⊥

@@ -1,12 +1,11 @@
 -- The leading monomial in the order x, y, z, w: unique, there for each polynomial that is not 0, and multiplicative.
 use mathlib.Core.Path.{_≡_, refl, sym, _∙_, ap, ap₂, fun-ext}
-use mathlib.Core.Logic.{inl, inr}
 use Prim.Native.Nat.{suc, _+_ as _+ₙ_}
 use native.Mathlib.Omega.{arith}
 use Rattle.algebra.specs.Ring.{CommRing}
 use Rattle.algebra.specs.Series.{Seq, SeriesR, S2, S3, S4}
 use Rattle.algebra.specs.Degree.{Ends, Domain, SeriesD, conv-ends, conv-top, series-top}
-use Rattle.algebra.specs.Four.{Exponents, _⊞_, _≺_, by-x, by-y, by-z, by-w, compare, coef, D2, D3, D4}
+use Rattle.algebra.specs.Four.{Exponents, _⊞_, _≺_, by-x, by-y, by-z, by-w, lower, equal, higher, compare, coef, D2, D3, D4}
 
 module _ (R : CommRing) where
   open CommRing R using (Car, 𝟘, mul as _*_)
@@ -25,8 +24,9 @@ module _ (R : CommRing) where
 
   pub lead-unique : (m n : Exponents) (f : S4 R .Car) → Lead m f → Lead n f → m ≡ n
   lead-unique m n f s t = elim (compare m n) [
-    | inl l ↦ absurd (t .stands (s .above n l))
-    | inr r ↦ elim r [ inl e ↦ e | inr l ↦ absurd (s .stands (t .above m l)) ]
+    | lower l ↦ absurd (t .stands (s .above n l))
+    | equal e ↦ e
+    | higher l ↦ absurd (s .stands (t .above m l))
   ]
 
   -- the same, variable after variable

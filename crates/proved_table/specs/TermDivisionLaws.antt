@@ -9,15 +9,14 @@ use Rattle.algebra.specs.Ring.{CommRing, mul-zero, zero-add}
 use Rattle.algebra.specs.Solver.{_⊕_, _⊗_, ⊝, _⊖_, _≗_, k0, ring2, ring3, ring4}
 use Rattle.algebra.specs.Series.{S4}
 use Rattle.algebra.specs.Divides.{div-refl, div-add, div-mul, div-neg, div-zero, div-to}
-use Rattle.algebra.specs.Four.{Exponents, _⊞_, _≼_, _≺_, not-both-below, below-irreflexive, coef, D4}
+use Rattle.algebra.specs.Four.{Exponents, _⊞_, _≼_, _≺_, Order, lower, equal, higher, compare, not-both-below, below-irreflexive, coef, D4}
 use Rattle.algebra.specs.Lead.{Lead, lead-unique, lead-of-product, lead-exists, lead-nonzero}
 use Rattle.algebra.specs.Monomial.{Term, term, polynomial, monomial, monomial-at, monomial-off}
 use Rattle.algebra.specs.Monomial.{monomial-above, monomial-mul, monomial-add, monomial-zero, monomial-neg, monomial-fin, polynomial-fin}
 use Rattle.algebra.specs.Field.{Field, domain}
 use Rattle.poly.specs.Terms.{Polynomial}
 use Rattle.poly.specs.Image.{Divides}
-use Rattle.proved_table.specs.Order.{Order, before, same, after, order, each-at-most}
-use Rattle.proved_table.specs.TermDivision.{Outcome, divides, does-not, open-still, together, term-over, plus}
+use Rattle.proved_table.specs.TermDivision.{Outcome, divides, does-not, open-still, each-at-most, together, term-over, plus}
 use Rattle.proved_table.specs.TermDivision.{less-product, less, less-all, before-all, leads, divided, division}
 
 module _ (K : Field) where
@@ -33,7 +32,7 @@ module _ (K : Field) where
   plus-means : (t : Term R) (f : Polynomial K) → polynomial R (plus K t f) ≡ S4 R .add (term R t) (polynomial R f)
   unfolding polynomial plus
   plus-means t [] = refl
-  plus-means t (u ∷ us) = go (order (t .exponents) (u .exponents)) (plus-means t us)
+  plus-means t (u ∷ us) = go (compare (t .exponents) (u .exponents)) (plus-means t us)
     where
       -- two terms of one monomial
       merged : t .exponents ≡ u .exponents → S4 R .add (term R t) (term R u) ≡ monomial R (u .exponents) (t .coefficient + u .coefficient)
@@ -51,13 +50,13 @@ module _ (K : Field) where
 
       go : (o : Order (t .exponents) (u .exponents)) → polynomial R (plus K t us) ≡ S4 R .add (term R t) (polynomial R us)
           → polynomial R (elim o [
-            | before l ↦ t ∷ u ∷ us
-            | same e ↦ elim (K .decide (t .coefficient + u .coefficient)) [ yes z ↦ us | no n ↦ together K t u ∷ us ]
-            | after ↦ u ∷ plus K t us
+            | lower l ↦ u ∷ plus K t us
+            | equal e ↦ elim (K .decide (t .coefficient + u .coefficient)) [ yes z ↦ us | no n ↦ together K t u ∷ us ]
+            | higher l ↦ t ∷ u ∷ us
           ]) ≡ S4 R .add (term R t) (S4 R .add (term R u) (polynomial R us))
-      go (before l) again = refl
-      go (same e) again = both e (K .decide (t .coefficient + u .coefficient))
-      go after again = ap (S4 R .add (term R u)) again
+      go (higher l) again = refl
+      go (equal e) again = both e (K .decide (t .coefficient + u .coefficient))
+      go (lower l) again = ap (S4 R .add (term R u)) again
           ∙ ring3 (S4 R) (λ t u f. u ⊕ (t ⊕ f) ≗ t ⊕ (u ⊕ f)) tt (term R t) (term R u) (polynomial R us)
 
   less-product-means : (t u : Term R) → term R (less-product K t u) ≡ S4 R .neg (S4 R .mul (term R t) (term R u))
@@ -95,17 +94,17 @@ module _ (K : Field) where
   none-from : (m e : Exponents) (f : Polynomial K) → before-all K m f ≡ true → (m ≡ e) ⊎ (m ≺ e) → coef R (polynomial R f) e ≡ 𝟘
   unfolding polynomial before-all
   none-from m e [] h a = refl
-  none-from m e (u ∷ us) h a = go (order m (u .exponents)) h (λ k. none-from m e us k a)
+  none-from m e (u ∷ us) h a = go (compare m (u .exponents)) h (λ k. none-from m e us k a)
     where
       other : u .exponents ≺ m → (m ≡ e) ⊎ (m ≺ e) → ¬ (u .exponents ≡ e)
       other l (inl q) r = below-irreflexive m (subst (_≺ m) (r ∙ sym q) l)
       other l (inr k) r = not-both-below (u .exponents) m l (subst (m ≺_) (sym r) k)
 
-      go : (o : Order m (u .exponents)) → elim o as (λ _. Bool) [ before l ↦ before-all K m us | same q ↦ false | after ↦ false ] ≡ true
+      go : (o : Order m (u .exponents)) → elim o as (λ _. Bool) [ lower l ↦ false | equal q ↦ false | higher l ↦ before-all K m us ] ≡ true
           → (before-all K m us ≡ true → coef R (polynomial R us) e ≡ 𝟘) → coef R (S4 R .add (term R u) (polynomial R us)) e ≡ 𝟘
-      go (before l) h again = ap₂ _+_ (monomial-off R (u .exponents) e (u .coefficient) (other l a)) (again h) ∙ R .add-zero 𝟘
-      go (same q) h again = absurd (false≢true h)
-      go after h again = absurd (false≢true h)
+      go (higher l) h again = ap₂ _+_ (monomial-off R (u .exponents) e (u .coefficient) (other l a)) (again h) ∙ R .add-zero 𝟘
+      go (equal q) h again = absurd (false≢true h)
+      go (lower l) h again = absurd (false≢true h)
 
   leads-means : (t : Term R) (f : Polynomial K) → leads K t f ≡ true → Lead R (t .exponents) (polynomial R (t ∷ f))
   unfolding polynomial leads
