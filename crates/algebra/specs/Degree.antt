@@ -8,14 +8,16 @@ use native.Mathlib.Omega.{arith}
 use Rattle.algebra.specs.Ring.{CommRing, zero-add, zero-mul, mul-zero, neg-zero}
 use Rattle.algebra.specs.Series.{Seq, tail, zeroS, constS, conv, SeriesR}
 
+-- f is 0 from N on
 abbrev pub Ends : (R : CommRing) → ℕ → Seq R → Type 0
 Ends R N f = (n : ℕ) → N ≤ n → f n ≡ R .𝟘
 
+-- m is the degree of f: the highest coefficient stands there
 pub record Top (R : CommRing) (m : ℕ) (f : Seq R) : Type 0 where
   pub nonzero : ¬ (f m ≡ R .𝟘)
   pub ends : Ends R (suc m) f
 
--- a subring with a decidable zero and no zero divisors
+-- a subring, of the elements with P, with a decidable zero and no zero divisors
 pub record Domain (R : CommRing) : Type 1 where
   pub P : R .Car → Type 0
   pub P-zero : P (R .𝟘)
@@ -64,11 +66,16 @@ module _ (R : CommRing) where
       (ap₂ _+_ (ap (f zero *_) (hg (suc (m +ₙ n)) (omega arith)) ∙ mul-zero R _) (conv-top m n (tail f) g (Ends-tail (suc m) f hf) hg)
       ∙ zero-add R _)
 
-  pub Ends-pred : (N : ℕ) (f : Seq R) → Ends R (suc N) f → f N ≡ 𝟘 → Ends R N f
+  pub const-ends : (c : Car) → Ends R 1 (constS R c)
+  unfolding constS
+  const-ends c zero l = absurd (omega arith)
+  const-ends c (suc n) l = refl
+
+  Ends-pred : (N : ℕ) (f : Seq R) → Ends R (suc N) f → f N ≡ 𝟘 → Ends R N f
   Ends-pred N f h e n l = elim (ℕ-discrete n N) [ yes p ↦ ap f p ∙ e | no q ↦ h n (omega arith) ]
 
   -- a series that ends and whose coefficients can be tested is zero or has a top
-  pub find-top : (N : ℕ) (f : Seq R) → Ends R N f → ((n : ℕ) → Dec (f n ≡ 𝟘)) → ((n : ℕ) → f n ≡ 𝟘) ⊎ ((m : ℕ) × Top R m f)
+  find-top : (N : ℕ) (f : Seq R) → Ends R N f → ((n : ℕ) → Dec (f n ≡ 𝟘)) → ((n : ℕ) → f n ≡ 𝟘) ⊎ ((m : ℕ) × Top R m f)
   find-top zero f h d = inl λ n. h n (omega arith)
   find-top (suc N) f h d = go (d N) λ e. find-top N f (Ends-pred N f h e) d
     where
@@ -106,11 +113,6 @@ module _ (R : CommRing) (D : Domain R) where
   const-P c p zero = p
   const-P c p (suc n) = D .P-zero
 
-  pub const-ends : (c : Car) → Ends R 1 (constS R c)
-  unfolding constS
-  const-ends c zero l = absurd (omega arith)
-  const-ends c (suc n) l = refl
-
   pub series-dec0 : (f : Seq R) → Finite f → Dec (f ≡ zeroS R)
   series-dec0 f h = elim (finite-top f h) [ inl z ↦ yes (fun-ext z) | inr t ↦ no λ e. t .1 .nonzero (ap (λ (u : Seq R). u (t .0)) e) ]
 
@@ -131,7 +133,7 @@ module _ (R : CommRing) (D : Domain R) where
   SeriesD = record {
     P = Finite;
     P-zero = record { bound = 0; ends = λ n l. refl; coef = λ n. D .P-zero };
-    P-one = record { bound = 1; ends = const-ends 𝟙; coef = const-P 𝟙 (D .P-one) };
+    P-one = record { bound = 1; ends = const-ends R 𝟙; coef = const-P 𝟙 (D .P-one) };
     P-add = λ f g hf hg. record {
       bound = hf .bound +ₙ hg .bound;
       ends = λ n l. ap₂ _+_ (hf .ends n (omega arith)) (hg .ends n (omega arith)) ∙ R .add-zero _;

@@ -4,12 +4,13 @@ use mathlib.Core.Logic.{_⊎_, inl, inr}
 use Prim.Native.Nat.{ℕ, zero, suc, _+_ as _+ₙ_, _≤_}
 use native.Mathlib.Decide.{decLe}
 use native.Mathlib.Omega.{arith}
-use Rattle.algebra.specs.Ring.{CommRing, mul-left-comm, zero-add, mul-zero, distrib-l}
+use Rattle.algebra.specs.Ring.{CommRing, mul-left-comm, zero-add, mul-zero, mul-neg, distrib-l}
 use Rattle.algebra.specs.Solver.{_⊕_, _⊗_, _⊖_, _≗_, ring2, ring3}
-use Rattle.algebra.specs.Series.{Seq, constS, conv, conv-const, conv-comm, SeriesR}
+use Rattle.algebra.specs.Series.{Seq, constS, conv, conv-comm, SeriesR}
 use Rattle.algebra.specs.Degree.{Top, Domain, Finite, SeriesD, conv-null, top-mul, finite-top, const-ends, const-P}
-use Rattle.algebra.specs.Mono.{mono, mono-ends}
+use Rattle.algebra.specs.Mono.{mono, mono-either, mono-ends}
 
+-- e divides f
 pub record Div (R : CommRing) (D : Domain R) (e f : R .Car) : Type 0 where
   pub quo : R .Car
   pub fin : D .P quo
@@ -44,6 +45,9 @@ module _ (R : CommRing) (D : Domain R) where
     eq = mul-left-comm R _ _ _ ∙ ap (c *_) (p .eq);
   }
 
+  pub div-neg : (e f : Car) → Div R D e f → Div R D e (neg f)
+  div-neg e f p = record { quo = neg (p .quo); fin = D .P-neg _ (p .fin); eq = mul-neg R _ _ ∙ ap neg (p .eq) }
+
   pub div-zero : (e : Car) → Div R D e 𝟘
   div-zero e = record { quo = 𝟘; fin = D .P-zero; eq = mul-zero R e }
 
@@ -69,25 +73,36 @@ module _ (R : CommRing) where
   pub top-le : (m n : ℕ) (f : Seq R) → Top R m f → Top R n f → m ≤ n
   top-le m n f s t = elim (decLe m n) [ yes l ↦ l | no q ↦ absurd (s .nonzero (t .ends m (omega arith))) ]
 
-  -- a divisor's degree is at most the degree
-  pub div-top : (D : Domain R) (m : ℕ) (e f : Seq R) → Finite R D e → Div (SeriesR R) (SeriesD R D) e f → Top R m f → (n : ℕ) × (n ≤ m) × Top R n e
-  div-top D m e f he d t = go (finite-top R D e he) (finite-top R D (d .quo) (d .fin))
-    where
-      go : ((n : ℕ) → e n ≡ 𝟘) ⊎ ((n : ℕ) × Top R n e) → ((n : ℕ) → d .quo n ≡ 𝟘) ⊎ ((n : ℕ) × Top R n (d .quo)) → (n : ℕ) × (n ≤ m) × Top R n e
-      go (inl z) b = absurd (t .nonzero (sym (ap (λ (u : Seq R). u m) (d .eq)) ∙ conv-null R e (d .quo) z m))
-      go (inr s) (inl z) = absurd (t .nonzero (sym (ap (λ (u : Seq R). u m) (d .eq)) ∙ conv-comm R e (d .quo) m ∙ conv-null R (d .quo) e z m))
-      go (inr s) (inr u) =
-          let w : Top R (s .0 +ₙ u .0) f = subst (Top R (s .0 +ₙ u .0)) (d .eq)
-          (top-mul R D (s .0) (u .0) e (d .quo) (he .coef (s .0)) (d .fin .coef (u .0)) (s .1) (u .1)) in
-          let l : s .0 +ₙ u .0 ≤ m = top-le (s .0 +ₙ u .0) m f w t in
-          (s .0, omega arith, s .1)
+  top-unique : (m n : ℕ) (f : Seq R) → Top R m f → Top R n f → m ≡ n
+  top-unique m n f s t = let l = top-le m n f s t in let k = top-le n m f t s in omega arith
 
+  module _ (D : Domain R) (m : ℕ) (e f : Seq R) (he : Finite R D e) (d : Div (SeriesR R) (SeriesD R D) e f) (t : Top R m f) where
+    product-at : f m ≡ conv R e (d .quo) m
+    product-at = sym (ap (λ (u : Seq R). u m) (d .eq))
+
+    -- the degrees of a divisor and of the quotient add up to the degree
+    pub quotient-top : (n : ℕ) → Top R n e → (k : ℕ) × (n +ₙ k ≡ m) × Top R k (d .quo)
+    quotient-top n s = go (finite-top R D (d .quo) (d .fin))
+      where
+        go : ((k : ℕ) → d .quo k ≡ 𝟘) ⊎ ((k : ℕ) × Top R k (d .quo)) → (k : ℕ) × (n +ₙ k ≡ m) × Top R k (d .quo)
+        go (inl z) = absurd (t .nonzero (product-at ∙ conv-comm R e (d .quo) m ∙ conv-null R (d .quo) e z m))
+        go (inr u) =
+            let both : Top R (n +ₙ u .0) f = subst (Top R (n +ₙ u .0)) (d .eq)
+            (top-mul R D n (u .0) e (d .quo) (he .coef n) (d .fin .coef (u .0)) s (u .1)) in
+            (u .0, top-unique (n +ₙ u .0) m f both t, u .1)
+
+    -- a divisor's degree is at most the degree
+    pub div-top : (n : ℕ) × (n ≤ m) × Top R n e
+    div-top = go (finite-top R D e he)
+      where
+        go : ((n : ℕ) → e n ≡ 𝟘) ⊎ ((n : ℕ) × Top R n e) → (n : ℕ) × (n ≤ m) × Top R n e
+        go (inl z) = absurd (t .nonzero (product-at ∙ conv-null R e (d .quo) z m))
+        go (inr s) = let q = quotient-top (s .0) (s .1) in (s .0, omega (arith, q .1), s .1)
+
+  -- a^k
   unfoldable pub pow : Car → ℕ → Car
   pow a zero = 𝟙
   pow a (suc k) = pow a k * a
-
-  pub scaled : (c : Car) (f : Seq R) (i : ℕ) → conv R (constS R c) f i ≡ f i * c
-  scaled c f i = conv-comm R (constS R c) f i ∙ conv-const R c f i
 
 module _ (R : CommRing) (D : Domain R) where
   open CommRing R using (Car, 𝟘, 𝟙, add as _+_, mul as _*_, neg)
@@ -96,17 +111,10 @@ module _ (R : CommRing) (D : Domain R) where
   infixl 60 _+_
   infixl 70 _*_
   pub const-fin : (c : Car) → P c → Finite R D (constS R c)
-  const-fin c pc = record { bound = 1; ends = const-ends R D c; coef = const-P R D c pc }
-
-  pub mono-P : (n : ℕ) (c : Car) → P c → (k : ℕ) → P (mono R n c k)
-  unfolding mono
-  mono-P zero c pc zero = pc
-  mono-P zero c pc (suc k) = D .P-zero
-  mono-P (suc n) c pc zero = D .P-zero
-  mono-P (suc n) c pc (suc k) = mono-P n c pc k
+  const-fin c pc = record { bound = 1; ends = const-ends R c; coef = const-P R D c pc }
 
   pub mono-fin : (n : ℕ) (c : Car) → P c → Finite R D (mono R n c)
-  mono-fin n c pc = record { bound = suc n; ends = mono-ends R n c; coef = mono-P n c pc }
+  mono-fin n c pc = record { bound = suc n; ends = mono-ends R n c; coef = λ k. mono-either R P n c k (λ e. pc) (D .P-zero) }
 
   pub pow-P : (c : Car) → P c → (k : ℕ) → P (pow R c k)
   unfolding pow

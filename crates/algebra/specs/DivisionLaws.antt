@@ -1,9 +1,9 @@
--- The rule says yes exactly if the divisor divides; its answer is determined; the terms fall and mean the quotient. Assumes nothing.
+-- The rule says yes exactly if the divisor divides; its answer is determined; the terms fall and mean the quotient.
 use mathlib.Core.Path.{_≡_, refl, sym, _∙_, ap, ap₂, subst}
 use mathlib.Core.Logic.{_⊎_, inl, inr, _↔_}
-use mathlib.Core.Bool.{Bool, true, false}
+use mathlib.Core.Bool.{Bool, true, false, true≢false, false≢true}
 use mathlib.Core.List.{List, _∷_}
-use Prim.Native.Nat.{ℕ, _+_ as _+ₙ_, _≤_, _<_}
+use Prim.Native.Nat.{_+_ as _+ₙ_, _≤_, _<_}
 use native.Mathlib.Decide.{decLe}
 use native.Mathlib.Omega.{arith}
 use Rattle.algebra.specs.Ring.{CommRing, zero-mul}
@@ -11,9 +11,10 @@ use Rattle.algebra.specs.Solver.{_⊕_, _⊗_, _⊖_, _≗_, ring2, ring
 use Rattle.algebra.specs.Series.{S4}
 use Rattle.algebra.specs.Degree.{Domain}
 use Rattle.algebra.specs.Divides.{Div, cancel}
-use Rattle.algebra.specs.Four.{Exponents, _⊞_, _≼_, _≺_, compare, below-cancel, exponents-cancel, exponents-path, coef, D4}
+use Rattle.algebra.specs.Four.{Exponents, _⊞_, _≼_, _≺_, Order, lower, equal, higher, compare, below-cancel, exponents-cancel, exponents-path, coef, D4}
 use Rattle.algebra.specs.Lead.{Lead, Upto, lead-unique, lead-of-product, lead-exists, lead-nonzero, coef-of-product, upto-of-product}
-use Rattle.algebra.specs.GreatestExponent.{Variable, in-x, in-y, in-z, in-w, exponent, greatest-unique, factor-within}
+use Rattle.algebra.specs.GreatestExponent.{Variable, in-x, in-y, in-z, in-w, exponent, greatest-unique}
+use Rattle.algebra.specs.GreatestExponentLaws.{factor-within}
 use Rattle.algebra.specs.Monomial.{Term, term, polynomial, monomial-at, monomial-off, monomial-above, monomial-fin, polynomial-fin, FallsBelow, Falls}
 use Rattle.algebra.specs.Division.{Most, Sizes, Over, Goes, done, stop, step, Division}
 
@@ -29,7 +30,7 @@ module _ (R : CommRing) (D : Domain R) (every : (c : R .Car) → D .P c) where
     yes-means : {r : Poly} {ts : List (Term R)} {whole : Bool} → Goes R f g s r ts whole → whole ≡ true → S4 R .mul (polynomial R ts) g ≡ r
     unfolding polynomial
     yes-means (done z) e = zero-mul (S4 R) g ∙ sym z
-    yes-means (stop m l n) e = absurd (let z : _≡_ {A = ℕ} 0 1 = cc in omega arith)
+    yes-means (stop m l n) e = absurd (false≢true e)
     yes-means (step {r = r} {ts = ts} m t l o c k) e =
         S4 R .distrib (term R t) (polynomial R ts) g ∙ ap (S4 R .add (S4 R .mul (term R t) g)) (yes-means k e)
         ∙ ring2 (S4 R) (λ a r. a ⊕ (r ⊖ a) ≗ r) tt (S4 R .mul (term R t) g) r
@@ -41,7 +42,8 @@ module _ (R : CommRing) (D : Domain R) (every : (c : R .Car) → D .P c) where
     small-over : (q : Poly) (n : Exponents) → Small q → ¬ (coef R q n ≡ R .𝟘) → n ⊞ s .most-g ≼ s .most-f
     small-over q n h nz = record { x = each in-x (decLe _ _); y = each in-y (decLe _ _); z = each in-z (decLe _ _); w = each in-w (decLe _ _) }
       where
-        each : (v : Variable) → Dec (exponent v n +ₙ exponent v (s .most-g) ≤ exponent v (s .most-f)) → exponent v n +ₙ exponent v (s .most-g) ≤ exponent v (s .most-f)
+        each : (v : Variable) → Dec (exponent v n +ₙ exponent v (s .most-g) ≤ exponent v (s .most-f))
+            → exponent v n +ₙ exponent v (s .most-g) ≤ exponent v (s .most-f)
         each v (yes l) = l
         each v (no q) = absurd (nz (h v n (omega arith)))
 
@@ -54,9 +56,9 @@ module _ (R : CommRing) (D : Domain R) (every : (c : R .Car) → D .P c) where
     -- while the remainder is a multiple of the divisor, the division does not stop
     no-means : {r : Poly} {ts : List (Term R)} {whole : Bool} → Goes R f g s r ts whole → whole ≡ false → D4 R D .P g
         → (q : Poly) → D4 R D .P q → Small q → S4 R .mul q g ≡ r → ⊥
-    no-means (done z) e pg q pq sm eq = let z : _≡_ {A = ℕ} 0 1 = cc in omega arith
+    no-means (done z) e pg q pq sm eq = true≢false e
     no-means (stop {r = r} m l n) e pg q pq sm eq =
-        let nz : ¬ (q ≡ S4 R .𝟘) = λ z. lead-nonzero R D m r l (sym eq ∙ ap (λ (u : Poly). S4 R .mul u g) z ∙ zero-mul (S4 R) g) in
+        let nz : ¬ (q ≡ S4 R .𝟘) = λ z. lead-nonzero R m r l (sym eq ∙ ap (λ (u : Poly). S4 R .mul u g) z ∙ zero-mul (S4 R) g) in
         let k = lead-exists R D q pq nz in
         let h : Lead R (k .0 ⊞ s .lead) r = subst (Lead R (k .0 ⊞ s .lead)) eq (lead-of-product R D (k .0) (s .lead) q g pq pg (k .1) (s .leads)) in
         n (k .0) (record { exact = lead-unique R m (k .0 ⊞ s .lead) r l h; bounded = small-over q (k .0) sm (k .1 .stands) })
@@ -71,7 +73,8 @@ module _ (R : CommRing) (D : Domain R) (every : (c : R .Car) → D .P c) where
     abbrev pub Under : Exponents → S4 R .Car → Type 0
     Under m r = (e : Exponents) → (e ≡ m) ⊎ (m ≺ e) → coef R r e ≡ R .𝟘
 
-    pub under-step : (m : Exponents) (t : Term R) (r : S4 R .Car) → Lead R m r → Over R f g s m (t .exponents) → R .mul (t .coefficient) (coef R g (s .lead)) ≡ coef R r m
+    pub under-step : (m : Exponents) (t : Term R) (r : S4 R .Car) → Lead R m r → Over R f g s m (t .exponents)
+        → R .mul (t .coefficient) (coef R g (s .lead)) ≡ coef R r m
         → Under m (S4 R .add r (S4 R .neg (S4 R .mul (term R t) g)))
     under-step m t r l o c = go
       where
@@ -88,7 +91,12 @@ module _ (R : CommRing) (D : Domain R) (every : (c : R .Car) → D .P c) where
             (upto-of-product R (t .exponents) (s .lead) (term R t) g up (s .leads .above) e (subst (_≺ e) (o .exact) k))
             ∙ R .add-neg (R .𝟘)
 
-    factor-nonzero : (m : Exponents) (t : Term R) (r : Poly) → Lead R m r → R .mul (t .coefficient) (coef R g (s .lead)) ≡ coef R r m → ¬ (t .coefficient ≡ R .𝟘)
+    under-next : (m : Exponents) (t : Term R) (r : Poly) → Lead R m r → Over R f g s m (t .exponents)
+        → R .mul (t .coefficient) (coef R g (s .lead)) ≡ coef R r m → Under (t .exponents ⊞ s .lead) (less r (S4 R .mul (term R t) g))
+    under-next m t r l o c = subst (λ (i : Exponents). Under i (less r (S4 R .mul (term R t) g))) (o .exact) (under-step m t r l o c)
+
+    factor-nonzero : (m : Exponents) (t : Term R) (r : Poly) → Lead R m r → R .mul (t .coefficient) (coef R g (s .lead)) ≡ coef R r m
+        → ¬ (t .coefficient ≡ R .𝟘)
     factor-nonzero m t r l c z = l .stands (sym c ∙ ap (λ u. R .mul u (coef R g (s .lead))) z ∙ zero-mul R _)
 
     falls-below : {r : Poly} {ts : List (Term R)} {whole : Bool} → Goes R f g s r ts whole → (n : Exponents) → Under (n ⊞ s .lead) r → FallsBelow R n ts
@@ -97,20 +105,20 @@ module _ (R : CommRing) (D : Domain R) (every : (c : R .Car) → D .P c) where
     falls-below (step {r = r} m t l o c k) n u = (
       first (compare m (n ⊞ s .lead)),
       factor-nonzero m t r l c,
-      falls-below k (t .exponents) (subst (λ (i : Exponents). Under i (less r (S4 R .mul (term R t) g))) (o .exact) (under-step m t r l o c)),
+      falls-below k (t .exponents) (under-next m t r l o c),
     )
       where
-        first : (m ≺ n ⊞ s .lead) ⊎ ((m ≡ n ⊞ s .lead) ⊎ (n ⊞ s .lead ≺ m)) → t .exponents ≺ n
-        first (inl b) = below-cancel (t .exponents) n (s .lead) (subst (_≺ n ⊞ s .lead) (o .exact) b)
-        first (inr (inl p)) = absurd (l .stands (u m (inl p)))
-        first (inr (inr b)) = absurd (l .stands (u m (inr b)))
+        first : Order m (n ⊞ s .lead) → t .exponents ≺ n
+        first (lower b) = below-cancel (t .exponents) n (s .lead) (subst (_≺ n ⊞ s .lead) (o .exact) b)
+        first (equal p) = absurd (l .stands (u m (inl p)))
+        first (higher b) = absurd (l .stands (u m (inr b)))
 
     falls : {r : Poly} {ts : List (Term R)} {whole : Bool} → Goes R f g s r ts whole → Falls R ts
     falls (done z) = tt
     falls (stop m l k) = tt
     falls (step {r = r} m t l o c k) = (
       factor-nonzero m t r l c,
-      falls-below k (t .exponents) (subst (λ (i : Exponents). Under i (less r (S4 R .mul (term R t) g))) (o .exact) (under-step m t r l o c)),
+      falls-below k (t .exponents) (under-next m t r l o c),
     )
 
   -- the sizes are determined, so two divisions of f by g are divisions over the same
@@ -141,21 +149,23 @@ module _ (R : CommRing) (D : Domain R) (every : (c : R .Car) → D .P c) where
       terms : ts ≡ us
       answer : a ≡ b
 
-    goes-determined : (s : Sizes R f g) (r r′ : Poly) {ts us : List (Term R)} {a b : Bool} → r ≡ r′ → Goes R f g s r ts a → Goes R f g s r′ us b → Same ts us a b
+    goes-determined : (s : Sizes R f g) (r r′ : Poly) {ts us : List (Term R)} {a b : Bool} → r ≡ r′ → Goes R f g s r ts a → Goes R f g s r′ us b
+        → Same ts us a b
     goes-determined s r r′ p (done z) (done y) = record { terms = refl; answer = refl }
-    goes-determined s r r′ p (done z) (stop m l n) = absurd (lead-nonzero R D m r′ l (sym p ∙ z))
-    goes-determined s r r′ p (done z) (step m t l o c k) = absurd (lead-nonzero R D m r′ l (sym p ∙ z))
-    goes-determined s r r′ p (stop m l n) (done y) = absurd (lead-nonzero R D m r l (p ∙ y))
+    goes-determined s r r′ p (done z) (stop m l n) = absurd (lead-nonzero R m r′ l (sym p ∙ z))
+    goes-determined s r r′ p (done z) (step m t l o c k) = absurd (lead-nonzero R m r′ l (sym p ∙ z))
+    goes-determined s r r′ p (stop m l n) (done y) = absurd (lead-nonzero R m r l (p ∙ y))
     goes-determined s r r′ p (stop m l n) (stop m′ l′ n′) = record { terms = refl; answer = refl }
     goes-determined s r r′ p (stop m l n) (step m′ t l′ o c k) =
         absurd (n (t .exponents) (subst (λ (i : Exponents). Over R f g s i (t .exponents)) (lead-unique R m′ m r′ l′ (subst (Lead R m) p l)) o))
-    goes-determined s r r′ p (step m t l o c k) (done y) = absurd (lead-nonzero R D m r l (p ∙ y))
+    goes-determined s r r′ p (step m t l o c k) (done y) = absurd (lead-nonzero R m r l (p ∙ y))
     goes-determined s r r′ p (step m t l o c k) (stop m′ l′ n) =
         absurd (n (t .exponents) (subst (λ (i : Exponents). Over R f g s i (t .exponents)) (lead-unique R m m′ r′ (subst (Lead R m) p l) l′) o))
     goes-determined s r r′ p (step m t l o c k) (step m′ t′ l′ o′ c′ k′) =
         let em : m ≡ m′ = lead-unique R m m′ r′ (subst (Lead R m) p l) l′ in
         let ee : t .exponents ≡ t′ .exponents = exponents-cancel (t .exponents) (t′ .exponents) (s .lead) (sym (o .exact) ∙ em ∙ o′ .exact) in
-        let ec : t .coefficient ≡ t′ .coefficient = cancel R D (t .coefficient) (t′ .coefficient) (coef R g (s .lead)) (every _) (every _) (every _) (s .leads .stands)
+        let ec : t .coefficient ≡ t′ .coefficient =
+        cancel R D (t .coefficient) (t′ .coefficient) (coef R g (s .lead)) (every _) (every _) (every _) (s .leads .stands)
         (R .mul-comm _ _ ∙ c ∙ ap₂ (coef R) p em ∙ sym c′ ∙ R .mul-comm _ _) in
         let et : t ≡ t′ = term-path t t′ ee ec in
         let rest = goes-determined s _ _ (ap₂ (λ (u : Poly) (v : Term R). less u (S4 R .mul (term R v) g)) p et) k k′ in
@@ -165,19 +175,16 @@ module _ (R : CommRing) (D : Domain R) (every : (c : R .Car) → D .P c) where
     pub division-falls : (whole : Bool) → Division R f g ts whole → Falls R ts
     division-falls whole d = falls f g (d .sizes) (d .goes)
 
-    pub division-yes : D4 R D .P g → Division R f g ts true → Div (S4 R) (D4 R D) g f
-    division-yes pg d = record {
-      quo = polynomial R ts;
-      fin = polynomial-fin R D every ts;
-      eq = S4 R .mul-comm g (polynomial R ts) ∙ yes-means f g (d .sizes) (d .goes) refl;
-    }
-
     pub division-quotient : Division R f g ts true → S4 R .mul g (polynomial R ts) ≡ f
     division-quotient d = S4 R .mul-comm g (polynomial R ts) ∙ yes-means f g (d .sizes) (d .goes) refl
 
-    pub division-no : D4 R D .P g → Division R f g ts false → ¬ Div (S4 R) (D4 R D) g f
+    division-yes : Division R f g ts true → Div (S4 R) (D4 R D) g f
+    division-yes d = record { quo = polynomial R ts; fin = polynomial-fin R D every ts; eq = division-quotient d }
+
+    division-no : D4 R D .P g → Division R f g ts false → ¬ Div (S4 R) (D4 R D) g f
     division-no pg d q = no-means f g (d .sizes) (d .goes) refl pg (q .quo) (q .fin)
-        (λ v e l. factor-within R D v (exponent v (d .sizes .most-f)) (exponent v (d .sizes .most-g)) f g (q .quo) pg (q .fin) (d .sizes .is-most-f v) (d .sizes .is-most-g v) (q .eq) e l)
+        (λ v e l. factor-within R D v (exponent v (d .sizes .most-f)) (exponent v (d .sizes .most-g)) f g (q .quo) pg (q .fin)
+        (d .sizes .is-most-f v) (d .sizes .is-most-g v) (q .eq) e l)
         (S4 R .mul-comm (q .quo) g ∙ q .eq)
 
     pub division-determined : (us : List (Term R)) (a b : Bool) → Division R f g ts a → Division R f g us b → (ts ≡ us) × (a ≡ b)
@@ -187,5 +194,5 @@ module _ (R : CommRing) (D : Domain R) (every : (c : R .Car) → D .P c) where
 
     -- it says yes exactly if the divisor divides
     pub division-says : (whole : Bool) → D4 R D .P g → Division R f g ts whole → (whole ≡ true) ↔ Div (S4 R) (D4 R D) g f
-    division-says true pg d = (λ e. division-yes pg d, λ q. refl)
-    division-says false pg d = (λ e. absurd (let z : _≡_ {A = ℕ} 0 1 = cc in omega arith), λ q. absurd (division-no pg d q))
+    division-says true pg d = (λ e. division-yes d, λ q. refl)
+    division-says false pg d = (λ e. absurd (false≢true e), λ q. absurd (division-no pg d q))

@@ -8,11 +8,12 @@ use Rattle.algebra.specs.Series.{Seq, SeriesR}
 use Rattle.algebra.specs.Degree.{Domain, SeriesD}
 use Rattle.algebra.specs.Maps.{Hom, SeriesH, flipH}
 
+-- h 0 + .. + h (N - 1), a bound of each
 unfoldable pub sum : ℕ → (ℕ → ℕ) → ℕ
 sum zero h = 0
 sum (suc N) h = h N +ₙ sum N h
 
-pub le-sum : (N : ℕ) (h : ℕ → ℕ) (n : ℕ) → n < N → h n ≤ sum N h
+le-sum : (N : ℕ) (h : ℕ → ℕ) (n : ℕ) → n < N → h n ≤ sum N h
 unfolding sum
 le-sum zero h n l = absurd (omega arith)
 le-sum (suc N) h n l = elim (ℕ-discrete n N) [
@@ -24,7 +25,8 @@ le-sum (suc N) h n l = elim (ℕ-discrete n N) [
 unfoldable pub Keeps : (R S : CommRing) (D : Domain R) (E : Domain S) → Hom R S → Type 0
 Keeps R S D E φ = (a : R .Car) → D .P a → E .P (φ .fn a)
 
-pub keeps-map : (R S : CommRing) (D : Domain R) (E : Domain S) (φ : Hom R S) → Keeps R S D E φ → Keeps (SeriesR R) (SeriesR S) (SeriesD R D) (SeriesD S E) (SeriesH R S φ)
+pub keeps-map : (R S : CommRing) (D : Domain R) (E : Domain S) (φ : Hom R S) → Keeps R S D E φ
+    → Keeps (SeriesR R) (SeriesR S) (SeriesD R D) (SeriesD S E) (SeriesH R S φ)
 unfolding Keeps
 keeps-map R S D E φ k f h = record {
   bound = h .bound;

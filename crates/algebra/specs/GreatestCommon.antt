@@ -1,9 +1,8 @@
--- GreatestCommon common divisors of two elements, and what leaves the common divisors of a pair as they are.
-use mathlib.Core.Path.{_∙_, ap₂}
+-- Greatest common divisors of two elements, and what leaves the common divisors of a pair as they are.
 use Rattle.algebra.specs.Ring.{CommRing}
 use Rattle.algebra.specs.Solver.{_⊕_, _⊗_, _⊖_, _≗_, ring3}
 use Rattle.algebra.specs.Degree.{Domain}
-use Rattle.algebra.specs.Divides.{Div, div-refl, div-trans, div-add, div-mul, div-zero, div-to}
+use Rattle.algebra.specs.Divides.{Div, div-refl, div-trans, div-add, div-mul, div-neg, div-zero, div-to}
 
 -- g divides a and b, and each common divisor of a and b divides g
 pub record GreatestCommon (R : CommRing) (D : Domain R) (a b g : R .Car) : Type 0 where
@@ -30,15 +29,8 @@ module _ (R : CommRing) (D : Domain R) where
     left = div-to R D g _ a (ring3 R (λ a m b. (a ⊖ m ⊗ b) ⊕ m ⊗ b ≗ a) tt a m b)
         (div-add R D g (a + neg (m * b)) (m * b) (h .left) (div-mul R D g b m pm (h .right)));
     right = h .right;
-    most = λ e pe da db. h .most e pe (less e da (div-mul R D e b m pm db)) db;
+    most = λ e pe da db. h .most e pe (div-add R D e a _ da (div-neg R D e _ (div-mul R D e b m pm db))) db;
   }
-    where
-      less : (e : Car) → Div R D e a → Div R D e (m * b) → Div R D e (a + neg (m * b))
-      less e da dm = record {
-        quo = da .quo + neg (dm .quo);
-        fin = D .P-add _ _ (da .fin) (D .P-neg _ (dm .fin));
-        eq = ring3 R (λ e x y. e ⊗ (x ⊖ y) ≗ e ⊗ x ⊖ e ⊗ y) tt e (da .quo) (dm .quo) ∙ ap₂ (λ x y. x + neg y) (da .eq) (dm .eq);
-      }
 
   -- elements that divide each other have the same multiples and the same divisors
   pub record Associate (a b : Car) : Type 0 where

@@ -8,7 +8,8 @@ use lib.ListN.{length}
 use Rattle.algebra.specs.Ring.{CommRing}
 use Rattle.algebra.specs.Field.{Field}
 
--- The columns from left to right. In a `pivot` column a row is kept whose first entry, 1, stands there; the entries behind it are held. In a `free` column none is.
+-- The columns from left to right. In a `pivot` column a row is kept whose first entry, 1, stands there; the entries behind it are held.
+-- In a `free` column none is.
 -- The last column, of the unknown fixed at 1, is `solvable` while no row is kept in it, and `failed` with one: such a row says 1 = 0.
 pub data Table (A : Type 0) : Type 0 where
   solvable : Table A

@@ -9,7 +9,8 @@ use lib.ListN.{length}
 use Rattle.algebra.specs.Ring.{CommRing, zero-add, mul-zero, one-mul, neg-unique, neg-add}
 use Rattle.algebra.specs.Solver.{_⊕_, _⊗_, ⊝, _≗_, k0, k1, ring2, ring4, ring6}
 use Rattle.algebra.specs.Field.{Field}
-use Rattle.algebra.specs.Linear.{Table, solvable, failed, free, pivot, none, one, several, fresh, has-failed, has-free, eval, Solves, SolvesAll, Solution, Meets, times, plus-times, step, steps, solution, solve}
+use Rattle.algebra.specs.Linear.{Table, solvable, failed, free, pivot, fresh, has-failed, has-free, none, one, several, solution, solve}
+use Rattle.algebra.specs.Linear.{eval, Solves, SolvesAll, Solution, Meets, times, plus-times, step, steps}
 
 module _ (K : Field) where
   open CommRing (K .ring) using (Car, 𝟘, 𝟙, add as _+_, mul as _*_, neg)
@@ -17,13 +18,13 @@ module _ (K : Field) where
   infixl 60 _+_
   infixl 70 _*_
   -- a row's value is linear in the row
-  pub eval-times : (c : Car) (s v : List Car) → eval K (times K c s) v ≡ c * eval K s v
+  eval-times : (c : Car) (s v : List Car) → eval K (times K c s) v ≡ c * eval K s v
   eval-times c [] v = sym (mul-zero (K .ring) c)
   eval-times c (b ∷ s) [] = refl
   eval-times c (b ∷ s) (x ∷ v) = ap (c * b * x +_) (eval-times c s v)
       ∙ ring4 (K .ring) (λ c b x u. c ⊗ b ⊗ x ⊕ c ⊗ u ≗ c ⊗ (b ⊗ x ⊕ u)) tt c b x (eval K s v)
 
-  pub eval-plus-times : (r : List Car) (c : Car) (s v : List Car) → eval K (plus-times K r c s) v ≡ eval K r v + c * eval K s v
+  eval-plus-times : (r : List Car) (c : Car) (s v : List Car) → eval K (plus-times K r c s) v ≡ eval K r v + c * eval K s v
   eval-plus-times [] c s v = eval-times c s v ∙ sym (zero-add (K .ring) _)
   eval-plus-times (a ∷ r) c [] v = sym (ap (eval K (a ∷ r) v +_) (mul-zero (K .ring) c) ∙ K .ring .add-zero _)
   eval-plus-times (a ∷ r) c (b ∷ s) [] = refl
@@ -102,9 +103,10 @@ module _ (K : Field) where
   step-keeps-solutions failed (a ∷ r) v = (absurd, λ h. h .0)
   step-keeps-solutions (free t) (a ∷ r) v = step-free t (step K t r) a r v (K .decide a) (step-keeps-solutions t r)
   step-keeps-solutions (pivot q t) (a ∷ r) [] = (absurd, λ h. h .0)
-  step-keeps-solutions (pivot q t) (a ∷ r) (x ∷ v) = step-pivot q t (step K t (plus-times K r (neg a) q)) a r x v (step-keeps-solutions t (plus-times K r (neg a) q) v)
+  step-keeps-solutions (pivot q t) (a ∷ r) (x ∷ v) = step-pivot q t (step K t (plus-times K r (neg a) q)) a r x v
+      (step-keeps-solutions t (plus-times K r (neg a) q) v)
 
-  pub steps-keep-solutions : (t : Table Car) (rows : List (List Car)) (v : List Car) → Common (steps K t rows) v ↔ (Common t v × SolvesAll K v rows)
+  steps-keep-solutions : (t : Table Car) (rows : List (List Car)) (v : List Car) → Common (steps K t rows) v ↔ (Common t v × SolvesAll K v rows)
   steps-keep-solutions t [] v = (λ s. (s, tt), λ h. h .0)
   steps-keep-solutions t (r ∷ rows) v = (
     λ s. let rest = steps-keep-solutions (step K t r) rows v .0 s in let first = step-keeps-solutions t r v .0 (rest .0) in (first .0, (first .1, rest .1)),
@@ -117,7 +119,7 @@ module _ (K : Field) where
   fresh-common (suc n) [] = (absurd, λ h. omega arith)
   fresh-common (suc n) (x ∷ v) = (λ s. ap suc (fresh-common n v .0 s), λ h. fresh-common n v .1 (omega arith))
 
-  pub failed-has-none : (t : Table Car) (v : List Car) → has-failed t ≡ true → ¬ Common t v
+  failed-has-none : (t : Table Car) (v : List Car) → has-failed t ≡ true → ¬ Common t v
   failed-has-none solvable v h s = false≢true h
   failed-has-none failed v h s = s
   failed-has-none (free t) [] h s = s
@@ -125,14 +127,14 @@ module _ (K : Field) where
   failed-has-none (pivot q t) [] h s = s
   failed-has-none (pivot q t) (x ∷ v) h s = failed-has-none t v h (s .1)
 
-  pub solution-common : (x : Car) (t : Table Car) → has-failed t ≡ false → Common t (solution K x t)
+  solution-common : (x : Car) (t : Table Car) → has-failed t ≡ false → Common t (solution K x t)
   solution-common x solvable h = tt
   solution-common x failed h = true≢false h
   solution-common x (free t) h = solution-common x t h
   solution-common x (pivot q t) h =
       (ap (_+ eval K q (solution K x t)) (one-mul (K .ring) _) ∙ neg-add (K .ring) _, solution-common x t h)
 
-  pub solution-unique : (x : Car) (t : Table Car) (v : List Car) → has-free t ≡ false → Common t v → v ≡ solution K x t
+  solution-unique : (x : Car) (t : Table Car) (v : List Car) → has-free t ≡ false → Common t v → v ≡ solution K x t
   solution-unique x solvable [] f s = refl
   solution-unique x solvable (y ∷ v) f s = absurd s
   solution-unique x failed v f s = absurd s
@@ -140,9 +142,10 @@ module _ (K : Field) where
   solution-unique x (pivot q t) [] f s = absurd s
   solution-unique x (pivot q t) (y ∷ v) f s =
       let rest = solution-unique x t v f (s .1) in
-      ap₂ _∷_ (neg-unique (K .ring) (eval K q v) y (K .ring .add-comm _ _ ∙ ap (_+ eval K q v) (sym (one-mul (K .ring) y)) ∙ s .0) ∙ ap (λ w. neg (eval K q w)) rest) rest
+      ap₂ _∷_ (neg-unique (K .ring) (eval K q v) y (K .ring .add-comm _ _ ∙ ap (_+ eval K q v) (sym (one-mul (K .ring) y)) ∙ s .0)
+      ∙ ap (λ w. neg (eval K q w)) rest) rest
 
-  pub solutions-differ : (t : Table Car) → has-free t ≡ true → ¬ (solution K 𝟘 t ≡ solution K 𝟙 t)
+  solutions-differ : (t : Table Car) → has-free t ≡ true → ¬ (solution K 𝟘 t ≡ solution K 𝟙 t)
   solutions-differ solvable f e = false≢true f
   solutions-differ failed f e = false≢true f
   solutions-differ (free t) f e = K .one≢0 (cc)

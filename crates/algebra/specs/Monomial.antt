@@ -1,14 +1,12 @@
 -- One monomial with its coefficient, as a polynomial; a list of such terms, and what it means.
-use mathlib.Core.Path.{_≡_, sym, _∙_, ap, ap₂, fun-ext, subst}
+use mathlib.Core.Path.{_≡_, refl, sym, _∙_, ap, ap₂, fun-ext, subst}
 use mathlib.Core.List.{List, [], _∷_}
-use Prim.Native.Nat.{ℕ}
-use native.Mathlib.Decide.{ℕ-discrete}
 use Rattle.algebra.specs.Ring.{CommRing, neg-unique}
-use Rattle.algebra.specs.Series.{Seq, SeriesR, S4}
+use Rattle.algebra.specs.Series.{Seq, SeriesR, S2, S3, S4}
 use Rattle.algebra.specs.Degree.{Domain}
-use Rattle.algebra.specs.Mono.{mono, mono4, mono4-mul, mono-at, mono-off}
+use Rattle.algebra.specs.Mono.{mono4, mono4-mul, mono-at, mono-either}
 use Rattle.algebra.specs.Divides.{mono-fin}
-use Rattle.algebra.specs.Four.{Exponents, _⊞_, _≺_, exponents-path, below-irreflexive, coef, D4}
+use Rattle.algebra.specs.Four.{Exponents, _⊞_, _≺_, exponents-path, same-exponents, below-irreflexive, coef, D4}
 
 module _ (R : CommRing) where
   open CommRing R using (Car, 𝟘, add as _+_, mul as _*_)
@@ -21,29 +19,17 @@ module _ (R : CommRing) where
   pub monomial-at : (e : Exponents) (u : Car) → coef R (monomial e u) e ≡ u
   unfolding monomial
   monomial-at e u =
-      ap (λ (t : SeriesR (SeriesR (SeriesR R)) .Car). t (e .y) (e .z) (e .w)) (mono-at (SeriesR (SeriesR (SeriesR R))) (e .x) _)
-      ∙ ap (λ (t : SeriesR (SeriesR R) .Car). t (e .z) (e .w)) (mono-at (SeriesR (SeriesR R)) (e .y) _)
+      ap (λ (t : S3 R .Car). t (e .y) (e .z) (e .w)) (mono-at (S3 R) (e .x) _)
+      ∙ ap (λ (t : S2 R .Car). t (e .z) (e .w)) (mono-at (S2 R) (e .y) _)
       ∙ ap (λ (t : Seq R). t (e .w)) (mono-at (SeriesR R) (e .z) _) ∙ mono-at R (e .w) u
-
-  off : (a b c d a′ b′ c′ d′ : ℕ) (u : Car) → Dec (a ≡ a′) → Dec (b ≡ b′) → Dec (c ≡ c′) → Dec (d ≡ d′)
-      → ¬ ((a ≡ a′) × (b ≡ b′) × (c ≡ c′) × (d ≡ d′)) → mono4 R a b c d u a′ b′ c′ d′ ≡ 𝟘
-  off a b c d a′ b′ c′ d′ u (no q) y z w n = ap (λ (x : SeriesR (SeriesR (SeriesR R)) .Car). x b′ c′ d′) (mono-off (SeriesR (SeriesR (SeriesR R))) a _ a′ q)
-  off a b c d a′ b′ c′ d′ u (yes p) (no q) z w n =
-      ap (λ i. mono4 R a b c d u i b′ c′ d′) (sym p) ∙ ap (λ (x : SeriesR (SeriesR (SeriesR R)) .Car). x b′ c′ d′) (mono-at (SeriesR (SeriesR (SeriesR R))) a _)
-      ∙ ap (λ (x : SeriesR (SeriesR R) .Car). x c′ d′) (mono-off (SeriesR (SeriesR R)) b _ b′ q)
-  off a b c d a′ b′ c′ d′ u (yes p) (yes p₂) (no q) w n =
-      ap₂ (λ i j. mono4 R a b c d u i j c′ d′) (sym p) (sym p₂) ∙ ap (λ (x : SeriesR (SeriesR (SeriesR R)) .Car). x b c′ d′) (mono-at (SeriesR (SeriesR (SeriesR R))) a _)
-      ∙ ap (λ (x : SeriesR (SeriesR R) .Car). x c′ d′) (mono-at (SeriesR (SeriesR R)) b _) ∙ ap (λ (x : Seq R). x d′) (mono-off (SeriesR R) c _ c′ q)
-  off a b c d a′ b′ c′ d′ u (yes p) (yes p₂) (yes p₃) (no q) n =
-      ap₂ (λ i j. mono4 R a b c d u i j c′ d′) (sym p) (sym p₂) ∙ ap (λ (x : SeriesR (SeriesR (SeriesR R)) .Car). x b c′ d′) (mono-at (SeriesR (SeriesR (SeriesR R))) a _)
-      ∙ ap (λ (x : SeriesR (SeriesR R) .Car). x c′ d′) (mono-at (SeriesR (SeriesR R)) b _)
-      ∙ ap (λ i. mono (SeriesR R) c (mono R d u) i d′) (sym p₃) ∙ ap (λ (x : Seq R). x d′) (mono-at (SeriesR R) c _) ∙ mono-off R d u d′ q
-  off a b c d a′ b′ c′ d′ u (yes p) (yes p₂) (yes p₃) (yes p₄) n = absurd (n (p, p₂, p₃, p₄))
 
   pub monomial-off : (e f : Exponents) (u : Car) → ¬ (e ≡ f) → coef R (monomial e u) f ≡ 𝟘
   unfolding monomial
-  monomial-off e f u q = off _ _ _ _ _ _ _ _ u (ℕ-discrete _ _) (ℕ-discrete _ _) (ℕ-discrete _ _) (ℕ-discrete _ _)
-      (λ p. q (exponents-path (p .0) (p .1) (p .2) (p .3)))
+  monomial-off e f u q =
+      mono-either (S3 R) (λ t. t (f .y) (f .z) (f .w) ≡ 𝟘) (e .x) _ (f .x)
+      (λ x. mono-either (S2 R) (λ t. t (f .z) (f .w) ≡ 𝟘) (e .y) _ (f .y)
+      (λ y. mono-either (SeriesR R) (λ t. t (f .w) ≡ 𝟘) (e .z) _ (f .z)
+      (λ z. mono-either R (λ t. t ≡ 𝟘) (e .w) u (f .w) (λ w. absurd (q (exponents-path x y z w))) refl) refl) refl) refl
 
   pub monomial-mul : (e f : Exponents) (u w : Car) → S4 R .mul (monomial e u) (monomial f w) ≡ monomial (e ⊞ f) (u * w)
   unfolding monomial
@@ -51,16 +37,6 @@ module _ (R : CommRing) where
 
   pub monomial-above : (e f : Exponents) (u : Car) → e ≺ f → coef R (monomial e u) f ≡ 𝟘
   monomial-above e f u l = monomial-off e f u (λ p. below-irreflexive f (subst (_≺ f) p l))
-
-  pub same-exponents : (e f : Exponents) → Dec (e ≡ f)
-  same-exponents e f = go (ℕ-discrete (e .x) (f .x)) (ℕ-discrete (e .y) (f .y)) (ℕ-discrete (e .z) (f .z)) (ℕ-discrete (e .w) (f .w))
-    where
-      go : Dec (e .x ≡ f .x) → Dec (e .y ≡ f .y) → Dec (e .z ≡ f .z) → Dec (e .w ≡ f .w) → Dec (e ≡ f)
-      go (no q) b c d = no (λ p. q (ap (λ (u : Exponents). u .x) p))
-      go (yes a) (no q) c d = no (λ p. q (ap (λ (u : Exponents). u .y) p))
-      go (yes a) (yes b) (no q) d = no (λ p. q (ap (λ (u : Exponents). u .z) p))
-      go (yes a) (yes b) (yes c) (no q) = no (λ p. q (ap (λ (u : Exponents). u .w) p))
-      go (yes a) (yes b) (yes c) (yes d) = yes (exponents-path a b c d)
 
   -- two polynomials with the same coefficients
   pub coef-ext : (f g : S4 R .Car) → ((e : Exponents) → coef R f e ≡ coef R g e) → f ≡ g

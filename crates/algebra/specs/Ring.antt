@@ -42,7 +42,7 @@ module _ (R : CommRing) where
   pub neg-add : (a : Car) → neg a + a ≡ 𝟘
   neg-add a = R .add-comm _ _ ∙ R .add-neg a
 
-  pub neg-add-cancel : (a b : Car) → neg a + (a + b) ≡ b
+  neg-add-cancel : (a b : Car) → neg a + (a + b) ≡ b
   neg-add-cancel a b = sym (R .add-assoc _ _ _) ∙ ap (_+ b) (neg-add a) ∙ zero-add b
 
   pub add-neg-cancel : (a b : Car) → a + (neg a + b) ≡ b

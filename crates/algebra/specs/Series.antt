@@ -8,6 +8,7 @@ use Rattle.algebra.specs.Ring.{CommRing, add-left-comm, zero-add, mul-ze
 abbrev pub Seq : CommRing → Type 0
 Seq R = ℕ → R .Car
 
+-- without the first coefficient
 abbrev pub tail : {A : Type 0} → (ℕ → A) → ℕ → A
 tail f = λ n. f (suc n)
 
@@ -33,11 +34,12 @@ module _ (R : CommRing) where
   constS c zero = c
   constS c (suc n) = 𝟘
 
+  -- the product
   unfoldable pub conv : Seq R → Seq R → Seq R
   conv f g zero = f zero * g zero
   conv f g (suc n) = f zero * g (suc n) + conv (tail f) g n
 
-  pub conv-right : (f g : Seq R) (n : ℕ) → conv f g (suc n) ≡ f (suc n) * g zero + conv f (tail g) n
+  conv-right : (f g : Seq R) (n : ℕ) → conv f g (suc n) ≡ f (suc n) * g zero + conv f (tail g) n
   unfolding conv
   conv-right f g zero = R .add-comm _ _
   conv-right f g (suc n) = ap (f zero * g (suc (suc n)) +_) (conv-right (tail f) g n) ∙ add-left-comm R _ _ _
@@ -47,7 +49,7 @@ module _ (R : CommRing) where
   conv-comm f g zero = R .mul-comm _ _
   conv-comm f g (suc n) = ap₂ _+_ (R .mul-comm _ _) (conv-comm (tail f) g n) ∙ sym (conv-right g f n)
 
-  pub conv-scale : (c : Car) (f g : Seq R) (n : ℕ) → conv (scale c f) g n ≡ c * conv f g n
+  conv-scale : (c : Car) (f g : Seq R) (n : ℕ) → conv (scale c f) g n ≡ c * conv f g n
   unfolding conv
   conv-scale c f g zero = R .mul-assoc _ _ _
   conv-scale c f g (suc n) = ap₂ _+_ (R .mul-assoc _ _ _) (conv-scale c (tail f) g n) ∙ sym (distrib-l R _ _ _)
@@ -56,7 +58,7 @@ module _ (R : CommRing) where
   unfolding conv
   conv-dist f g h zero = R .distrib _ _ _
   conv-dist f g h (suc n) = ap₂ _+_ (R .distrib _ _ _) (conv-dist (tail f) (tail g) h n)
-      ∙ simp (R .add-assoc, R .add-comm, add-left-comm R)
+      ∙ simp (R .add-assoc, R .add-comm)
 
   pub conv-assoc : (f g h : Seq R) (n : ℕ) → conv (conv f g) h n ≡ conv f (conv g h) n
   unfolding conv
@@ -91,5 +93,12 @@ module _ (R : CommRing) where
     distrib = λ f g h. fun-ext (conv-dist f g h);
   }
 
+-- in two, three and four variables
+abbrev pub S2 : CommRing → CommRing
+S2 R = SeriesR (SeriesR R)
+
+abbrev pub S3 : CommRing → CommRing
+S3 R = SeriesR (S2 R)
+
 abbrev pub S4 : CommRing → CommRing
-S4 R = SeriesR (SeriesR (SeriesR (SeriesR R)))
+S4 R = SeriesR (S3 R)

@@ -1,18 +1,17 @@
--- Polynomials in one variable over a field: division with remainder, and the monic greatest common divisor, which exists and is unique.
+-- Polynomials in one variable over a field: a multiple taken off, a polynomial made monic, and the monic greatest common divisor, which is unique.
+-- `MonicGreatest` has that it exists.
 use mathlib.Core.Path.{_≡_, sym, _∙_, ap, ap₂, fun-ext, subst}
-use mathlib.Core.Logic.{_⊎_, inl, inr}
-use Prim.Native.Nat.{ℕ, zero, suc, _+_ as _+ₙ_, _-_ as _-ₙ_, _≤_}
-use native.Mathlib.Decide.{ℕ-discrete, decLe}
-use native.Mathlib.Nat.{add-zero as add-zeroₙ}
+use Prim.Native.Nat.{ℕ, zero, suc, _+_ as _+ₙ_}
+use native.Mathlib.Decide.{ℕ-discrete}
 use native.Mathlib.Omega.{arith}
 use Rattle.algebra.specs.Ring.{CommRing, mul-zero, one-mul}
-use Rattle.algebra.specs.Solver.{_⊕_, _⊗_, _⊖_, _≗_, k0, ring2, ring4}
-use Rattle.algebra.specs.Series.{Seq, addS, negS, zeroS, constS, conv, conv-const, conv-comm, SeriesR}
-use Rattle.algebra.specs.Degree.{Ends, Top, Domain, Finite, SeriesD, Ends-weaken, conv-null, conv-ends, conv-top, top-mul, finite-top}
+use Rattle.algebra.specs.Series.{Seq, addS, negS, zeroS, constS, conv, conv-const, SeriesR}
+use Rattle.algebra.specs.Degree.{Ends, Top, Domain, Finite, SeriesD, conv-ends}
 use Rattle.algebra.specs.Mono.{mono, mono-high, mono-ends}
-use Rattle.algebra.specs.Divides.{top-le, div-top, mono-fin, const-fin}
+use Rattle.algebra.specs.Divides.{quotient-top, mono-fin, const-fin}
+use Rattle.algebra.specs.SameDegree.{same-degree-multiple}
 use Rattle.algebra.specs.Field.{Field, domain}
-use Rattle.algebra.specs.GreatestCommon.{GreatestCommon, Associate, greatest-swap, greatest-zero, greatest-subtract, greatest-first, greatest-associate}
+use Rattle.algebra.specs.GreatestCommon.{GreatestCommon, Associate, greatest-zero, greatest-subtract, greatest-first, greatest-associate}
 
 -- the highest coefficient is 1, and stands at n
 pub record Monic (R : CommRing) (n : ℕ) (f : Seq R) : Type 0 where
@@ -39,7 +38,7 @@ module _ (F : Field) where
   pub monic-top : (n : ℕ) (f : Seq (F .ring)) → Monic (F .ring) n f → Top (F .ring) n f
   monic-top n f m = record { nonzero = λ e. F .one≢0 (sym (m .leads) ∙ e); ends = m .ends }
 
-  pub monic-fin : (n : ℕ) (f : Seq (F .ring)) → Monic (F .ring) n f → Fin f
+  monic-fin : (n : ℕ) (f : Seq (F .ring)) → Monic (F .ring) n f → Fin f
   monic-fin n f m = ends-fin (suc n) f (m .ends)
 
   -- f less c X^j g; with g's highest coefficient at n and c the quotient of the highest ones, the end of f comes down
@@ -59,59 +58,6 @@ module _ (F : Field) where
   unfolding less
   greatest-less j c f g h s = greatest-subtract Poly PolyD f g (mono (F .ring) j c) h (mono-fin (F .ring) (domain F) j c tt) s
 
-  -- division with remainder by g, whose highest coefficient stands at n
-  pub record WithRemainder (n : ℕ) (f g : Seq (F .ring)) : Type 0 where
-    pub quo : Seq (F .ring)
-    pub rest : Seq (F .ring)
-    pub quo-fin : Fin quo
-    pub eq : addS (F .ring) (conv (F .ring) quo g) rest ≡ f
-    pub ends : Ends (F .ring) n rest
-
-  whole : (n : ℕ) (f g : Seq (F .ring)) → Ends (F .ring) n f → WithRemainder n f g
-  whole n f g h = record {
-    quo = zeroS (F .ring);
-    rest = f;
-    quo-fin = PolyD .P-zero;
-    eq = ring2 Poly (λ f g. k0 ⊗ g ⊕ f ≗ f) tt f g;
-    ends = h;
-  }
-
-  more : (n j : ℕ) (c : Car) (f g : Seq (F .ring)) → WithRemainder n (less j c f g) g → WithRemainder n f g
-  unfolding less
-  more n j c f g d = record {
-    quo = addS (F .ring) (d .quo) (mono (F .ring) j c);
-    rest = d .rest;
-    quo-fin = PolyD .P-add _ _ (d .quo-fin) (mono-fin (F .ring) (domain F) j c tt);
-    eq = ring4 Poly (λ q m g r. (q ⊕ m) ⊗ g ⊕ r ≗ (q ⊗ g ⊕ r) ⊕ m ⊗ g) tt (d .quo) (mono (F .ring) j c) g (d .rest)
-        ∙ ap (λ (u : Seq (F .ring)). addS (F .ring) u (conv (F .ring) (mono (F .ring) j c) g)) (d .eq)
-        ∙ ring2 Poly (λ f t. (f ⊖ t) ⊕ t ≗ f) tt f (conv (F .ring) (mono (F .ring) j c) g);
-    ends = d .ends;
-  }
-
-  over : (a b : Car) → ¬ (b ≡ 𝟘) → a ≡ a * F .inv b * b
-  over a b n = sym (F .ring .mul-assoc _ _ _ ∙ ap (a *_) (F .ring .mul-comm _ _ ∙ F .mul-inv b n) ∙ F .ring .mul-one a)
-
-  pub divide : (N n : ℕ) (f g : Seq (F .ring)) → Ends (F .ring) N f → Top (F .ring) n g → WithRemainder n f g
-  divide zero n f g hf tg = whole n f g (Ends-weaken (F .ring) zero n f (omega arith) hf)
-  divide (suc N) n f g hf tg = go (decLe n N) λ f′ h. divide N n f′ g h tg
-    where
-      go : Dec (n ≤ N) → ((f′ : Seq (F .ring)) → Ends (F .ring) N f′ → WithRemainder n f′ g) → WithRemainder n f g
-      go (yes l) rec =
-          let e : (N -ₙ n) +ₙ n ≡ N = omega arith in
-          let c : Car = f N * F .inv (g n) in
-          more n (N -ₙ n) c f g (rec (less (N -ₙ n) c f g)
-          (subst (λ M. Ends (F .ring) M (less (N -ₙ n) c f g)) e
-          (less-ends n (N -ₙ n) c f g (subst (λ M. Ends (F .ring) (suc M) f) (sym e) hf) (tg .ends) (ap f e ∙ over (f N) (g n) (tg .nonzero)))))
-      go (no q) rec = whole n f g (Ends-weaken (F .ring) (suc N) n f (omega arith) hf)
-
-  -- the common divisors of f and g are those of g and the remainder
-  pub greatest-divided : (n : ℕ) (f g h : Seq (F .ring)) (d : WithRemainder n f g) → GreatestCommon Poly PolyD g (d .rest) h → GreatestCommon Poly PolyD f g h
-  greatest-divided n f g h d s = greatest-subtract Poly PolyD f g (d .quo) h (d .quo-fin)
-      (subst (λ (u : Seq (F .ring)). GreatestCommon Poly PolyD u g h)
-      (ring2 Poly (λ t r. r ≗ (t ⊕ r) ⊖ t) tt (conv (F .ring) (d .quo) g) (d .rest)
-      ∙ ap (λ (u : Seq (F .ring)). addS (F .ring) u (negS (F .ring) (conv (F .ring) (d .quo) g))) (d .eq))
-      (greatest-swap Poly PolyD g (d .rest) h s))
-
   -- a nonzero polynomial over its highest coefficient
   unfoldable pub over-lead : ℕ → Seq (F .ring) → Seq (F .ring)
   over-lead n f = λ i. F .inv (f n) * f i
@@ -127,7 +73,7 @@ module _ (F : Field) where
   by-const c f = fun-ext λ i. F .ring .mul-comm _ _ ∙ sym (conv-const (F .ring) c f i)
 
   -- a multiple by a number but 0 has the same divisors
-  pub scale-associate : (c b : Car) (f : Seq (F .ring)) → c * b ≡ 𝟙 → Associate Poly PolyD f (λ i. b * f i)
+  scale-associate : (c b : Car) (f : Seq (F .ring)) → c * b ≡ 𝟙 → Associate Poly PolyD f (λ i. b * f i)
   scale-associate c b f e = record {
     to = record { quo = constS (F .ring) b; fin = const-fin (F .ring) (domain F) b tt; eq = sym (by-const b f) };
     from = record {
@@ -141,53 +87,17 @@ module _ (F : Field) where
   unfolding over-lead
   over-lead-associate n f t = scale-associate (f n) (F .inv (f n)) f (F .mul-inv (f n) (t .nonzero))
 
-  -- the monic greatest common divisor of f and g
-  pub record MonicGreatest (f g : Seq (F .ring)) : Type 0 where
-    pub degree : ℕ
-    pub gcd : Seq (F .ring)
-    pub monic : Monic (F .ring) degree gcd
-    pub greatest : GreatestCommon Poly PolyD f g gcd
-
-  -- it exists: f is not zero, and g ends at N
-  pub monic-greatest : (N m : ℕ) (f g : Seq (F .ring)) → Top (F .ring) m f → Ends (F .ring) N g → MonicGreatest f g
-  monic-greatest N m f g tf hg = step N m f g tf hg (finite-top (F .ring) (domain F) g (ends-fin N g hg))
-    where
-      alone : (m : ℕ) (f g : Seq (F .ring)) → Top (F .ring) m f → ((i : ℕ) → g i ≡ 𝟘) → MonicGreatest f g
-      alone m f g tf z = record {
-        degree = m;
-        gcd = over-lead m f;
-        monic = over-lead-monic m f tf;
-        greatest = subst (λ (u : Seq (F .ring)). GreatestCommon Poly PolyD f u (over-lead m f)) (sym (fun-ext z))
-            (greatest-first Poly PolyD (over-lead m f) f (zeroS (F .ring)) (over-lead m f)
-            (record { to = over-lead-associate m f tf .from; from = over-lead-associate m f tf .to })
-            (greatest-zero Poly PolyD (over-lead m f)));
-      }
-
-      step : (N m : ℕ) (f g : Seq (F .ring)) → Top (F .ring) m f → Ends (F .ring) N g
-          → ((i : ℕ) → g i ≡ 𝟘) ⊎ ((n : ℕ) × Top (F .ring) n g) → MonicGreatest f g
-      step zero m f g tf hg (inl z) = alone m f g tf z
-      step zero m f g tf hg (inr t) = absurd (t .1 .nonzero (hg (t .0) (omega arith)))
-      step (suc N) m f g tf hg (inl z) = alone m f g tf z
-      step (suc N) m f g tf hg (inr t) =
-          let d = divide (suc m) (t .0) f g (tf .ends) (t .1) in
-          let l : t .0 ≤ N = elim (decLe (t .0) N) [ yes l ↦ l | no q ↦ absurd (t .1 .nonzero (hg (t .0) (omega arith))) ] in
-          let r : Ends (F .ring) N (d .rest) = Ends-weaken (F .ring) (t .0) N (d .rest) l (d .ends) in
-          let w = step N (t .0) g (d .rest) (t .1) r (finite-top (F .ring) (domain F) (d .rest) (ends-fin N (d .rest) r)) in
-          record {
-            degree = w .degree;
-            gcd = w .gcd;
-            monic = w .monic;
-            greatest = greatest-divided (t .0) f g (w .gcd) d (w .greatest);
-          }
-
-  constant : (u : Seq (F .ring)) → Ends (F .ring) 1 u → u 0 ≡ 𝟙 → (i : ℕ) → u i ≡ constS (F .ring) 𝟙 i
-  unfolding constS
-  constant u h e zero = e
-  constant u h e (suc i) = h (suc i) (omega arith)
+  -- a nonzero polynomial with nothing beside it: over its highest coefficient it is the monic greatest common divisor
+  pub over-lead-greatest : (n : ℕ) (f g : Seq (F .ring)) → Top (F .ring) n f → g ≡ zeroS (F .ring) → GreatestCommon Poly PolyD f g (over-lead n f)
+  over-lead-greatest n f g t z =
+      let a = over-lead-associate n f t in
+      subst (λ (u : Seq (F .ring)). GreatestCommon Poly PolyD f u (over-lead n f)) (sym z)
+      (greatest-first Poly PolyD (over-lead n f) f (zeroS (F .ring)) (over-lead n f) (record { to = a .from; from = a .to })
+      (greatest-zero Poly PolyD (over-lead n f)))
 
   -- monic polynomials that divide each other are equal
   pub monic-associate : (m n : ℕ) (f g : Seq (F .ring)) → Monic (F .ring) m f → Monic (F .ring) n g → Associate Poly PolyD f g → (m ≡ n) × (f ≡ g)
-  monic-associate m n f g mf mg s = (same, go (finite-top (F .ring) (domain F) (s .to .quo) (s .to .fin)))
+  monic-associate m n f g mf mg s = (same, fun-ext λ i. sym (ap (_* f i) one ∙ one-mul (F .ring) (f i)) ∙ multiple .1 i)
     where
       tf : Top (F .ring) m f
       tf = monic-top m f mf
@@ -197,31 +107,17 @@ module _ (F : Field) where
 
       same : m ≡ n
       same =
-          let a = div-top (F .ring) (domain F) n f g (monic-fin m f mf) (s .to) tg in
-          let b = div-top (F .ring) (domain F) m g f (monic-fin n g mg) (s .from) tf in
-          let l : m ≤ a .0 = top-le (F .ring) m (a .0) f tf (a .2) in
-          let k : n ≤ b .0 = top-le (F .ring) n (b .0) g tg (b .2) in
-          let l′ : a .0 ≤ n = a .1 in
-          let k′ : b .0 ≤ m = b .1 in
-          omega arith
+          let a = quotient-top (F .ring) (domain F) n f g (monic-fin m f mf) (s .to) tg m tf in
+          let b = quotient-top (F .ring) (domain F) m g f (monic-fin n g mg) (s .from) tf n tg in
+          omega (arith, a .1, b .1)
 
-      go : ((i : ℕ) → s .to .quo i ≡ 𝟘) ⊎ ((k : ℕ) × Top (F .ring) k (s .to .quo)) → f ≡ g
-      go (inl z) = absurd (tg .nonzero (sym (ap (λ (u : Seq (F .ring)). u n) (s .to .eq)) ∙ conv-comm (F .ring) f (s .to .quo) n
-          ∙ conv-null (F .ring) (s .to .quo) f z n))
-      go (inr t) =
-          let w : Top (F .ring) (m +ₙ t .0) g = subst (Top (F .ring) (m +ₙ t .0)) (s .to .eq)
-          (top-mul (F .ring) (domain F) m (t .0) f (s .to .quo) tt tt tf (t .1)) in
-          let l : m +ₙ t .0 ≤ n = top-le (F .ring) (m +ₙ t .0) n g w tg in
-          let k0 : t .0 ≡ 0 = omega (arith, same) in
-          let q : Ends (F .ring) 1 (s .to .quo) = subst (λ k. Ends (F .ring) (suc k) (s .to .quo)) k0 (t .1 .ends) in
-          let one : s .to .quo 0 ≡ 𝟙 =
-          sym (one-mul (F .ring) _) ∙ ap (_* s .to .quo 0) (sym (mf .leads))
-          ∙ sym (conv-top (F .ring) m 0 f (s .to .quo) (mf .ends) q)
-          ∙ ap (conv (F .ring) f (s .to .quo)) (add-zeroₙ m ∙ same)
-          ∙ ap (λ (u : Seq (F .ring)). u n) (s .to .eq) ∙ mg .leads in
-          sym (Poly .mul-one f) ∙ ap (conv (F .ring) f) (sym (fun-ext (constant (s .to .quo) q one))) ∙ s .to .eq
+      multiple : (c : Car) × ((i : ℕ) → c * f i ≡ g i)
+      multiple = same-degree-multiple (F .ring) (domain F) m f g (monic-fin m f mf) tf (subst (λ k. Top (F .ring) k g) (sym same) tg) (s .to)
 
-  -- and it is unique
+      one : multiple .0 ≡ 𝟙
+      one = sym (ap (multiple .0 *_) (mf .leads) ∙ F .ring .mul-one _) ∙ multiple .1 m ∙ ap g same ∙ mg .leads
+
+  -- two monic greatest common divisors are equal
   pub monic-greatest-unique : (m n : ℕ) (f g u v : Seq (F .ring)) → Monic (F .ring) m u → Monic (F .ring) n v
       → GreatestCommon Poly PolyD f g u → GreatestCommon Poly PolyD f g v → (m ≡ n) × (u ≡ v)
   monic-greatest-unique m n f g u v mu mv su sv = monic-associate m n u v mu mv

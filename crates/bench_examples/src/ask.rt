@@ -1,4 +1,5 @@
 // Asking a service and printing its answer behind a label.
+use crate::lists::MODULUS;
 use console::print;
 use field::Answer;
 use field::Number;
@@ -8,9 +9,6 @@ use poly::division::WORK_ROOM;
 
 // The most keys of a skeleton.
 const SKELETON: usize = 32;
-
-// The modulus, where none is said.
-const P: Number = 17;
 
 fn print_label(label: &[u8]) {
     io::write_all(STDOUT_FILENO, label);
@@ -80,7 +78,7 @@ pub fn quotient(
     out: &mut [Term],
     work: &mut [Number],
 ) {
-    let found = poly::quotient::quotient(P, first, second, out, work);
+    let found = poly::quotient::quotient(MODULUS, first, second, out, work);
     let number = found.fault.number as usize;
     let terms = found.terms;
     let numbers = [number, found.fault.place, terms];
@@ -89,7 +87,7 @@ pub fn quotient(
 
 pub fn image(label: &[u8], first: &[Term], second: &[Term], point: &[Number]) {
     print_label(label);
-    print::image(poly::image::image(P, first, second, point));
+    print::image(poly::image::image(MODULUS, first, second, point));
 }
 
 // Number, place, modulus, value.

@@ -1,4 +1,8 @@
 // The polynomials, skeletons and points of the bench examples, modulo 17 unless said. Keys add where monomials are multiplied.
+use poly::key::Key;
+
+// The modulus, where none is said.
+pub const MODULUS: u16 = 17;
 
 // The keys of x and y.
 const X: u16 = 512;
@@ -6,9 +10,9 @@ const X: u16 = 512;
 const Y: u16 = 64;
 
 // The same in a term, where a coefficient is added.
-const TX: u32 = 512 * 65536;
+const TX: u32 = (X as u32) * Key::COEFFICIENT_LIMIT;
 
-const TY: u32 = 64 * 65536;
+const TY: u32 = (Y as u32) * Key::COEFFICIENT_LIMIT;
 
 // x^2 - 1 and x^2 + 2x + 1.
 pub const P1_FIRST: [u32; 2] = [2 * TX + 1, 16];
@@ -91,9 +95,9 @@ pub const COEFFICIENT_16: [u32; 2] = [2 * TX + 16, 1];
 
 pub const EQUAL_KEYS: [u32; 2] = [2 * TX + 1, 2 * TX + 16];
 
-pub const KEY_4096: [u32; 1] = [4096 * 65536 + 1];
+pub const KEY_4096: [u32; 1] = [4096 * Key::COEFFICIENT_LIMIT + 1];
 
-pub const KEY_4095: [u32; 1] = [4095 * 65536 + 1];
+pub const KEY_4095: [u32; 1] = [4095 * Key::COEFFICIENT_LIMIT + 1];
 
 // E and x + 1.
 pub const E: [u32; 3] = [3 * TX + TY + 1, 3 * TX + 16, TY + 15];

@@ -1,6 +1,7 @@
 // The lines that are run only, also those that no case file can bring about: P1 with one input changed.
 use crate::ask;
 use crate::lists;
+use crate::lists::MODULUS;
 use crate::lists::P1_FIRST;
 use crate::lists::P1_SECOND;
 use crate::lists::X_1;
@@ -8,20 +9,29 @@ use field::Number;
 use poly::Term;
 
 fn with_first(label: &[u8], first: &[Term]) {
-    ask::candidate(label, 17, first, &P1_SECOND, &X_1, &[0, 0, 0]);
+    ask::candidate(label, MODULUS, first, &P1_SECOND, &X_1, &[0, 0, 0]);
 }
 
 fn with_skeleton(label: &[u8], skeleton: &[Number]) {
-    ask::candidate(label, 17, &P1_FIRST, &P1_SECOND, skeleton, &[0, 0, 0]);
+    ask::candidate(label, MODULUS, &P1_FIRST, &P1_SECOND, skeleton, &[0, 0, 0]);
 }
 
 fn with_points(label: &[u8], points: &[Number]) {
-    ask::candidate(label, 17, &P1_FIRST, &P1_SECOND, &X_1, points);
+    ask::candidate(label, MODULUS, &P1_FIRST, &P1_SECOND, &X_1, points);
 }
 
 fn with_rooms(label: &[u8], out: &mut [Term], work: &mut [Number]) {
     let origin = [0, 0, 0];
-    ask::candidate_in(label, 17, &P1_FIRST, &P1_SECOND, &X_1, &origin, out, work);
+    ask::candidate_in(
+        label,
+        MODULUS,
+        &P1_FIRST,
+        &P1_SECOND,
+        &X_1,
+        &origin,
+        out,
+        work,
+    );
 }
 
 pub fn lists() {
@@ -31,7 +41,7 @@ pub fn lists() {
     with_first(b"two equal keys", &lists::EQUAL_KEYS);
     with_first(b"key 4096", &lists::KEY_4096);
     let last = lists::KEY_4095;
-    ask::candidate(b"key 4095", 17, &last, &last, &[4095], &[1, 1, 1]);
+    ask::candidate(b"key 4095", MODULUS, &last, &last, &[4095], &[1, 1, 1]);
 }
 
 pub fn skeletons_and_points() {

@@ -1,6 +1,7 @@
 // The services that no program asks: arithmetic, the leading part and the list check.
 use crate::ask;
 use crate::lists;
+use crate::lists::MODULUS;
 use field::Element;
 use field::Number;
 
@@ -9,9 +10,9 @@ fn element(modulus: Number, value: Number) -> Element {
 }
 
 pub fn arithmetic() {
-    let three = element(17, 3);
-    let five = element(17, 5);
-    let sixteen = element(17, 16);
+    let three = element(MODULUS, 3);
+    let five = element(MODULUS, 5);
+    let sixteen = element(MODULUS, 16);
     ask::arithmetic(b"5 + 16", field::ask_sum(five, sixteen));
     ask::arithmetic(b"5 - 16", field::ask_difference(five, sixteen));
     ask::arithmetic(b"16 * 16", field::ask_product(sixteen, sixteen));
@@ -19,13 +20,13 @@ pub fn arithmetic() {
 }
 
 pub fn arithmetic_refused() {
-    let five = element(17, 5);
-    let large = element(17, 17);
+    let five = element(MODULUS, 5);
+    let large = element(MODULUS, 17);
     ask::arithmetic(b"modulus 15", field::ask_sum(element(15, 5), five));
     ask::arithmetic(b"17 + 5", field::ask_sum(large, five));
     ask::arithmetic(b"5 + 17", field::ask_sum(five, large));
     ask::arithmetic(b"two moduli", field::ask_sum(five, element(13, 5)));
-    ask::arithmetic(b"1 / 0", field::ask_inverse(element(17, 0)));
+    ask::arithmetic(b"1 / 0", field::ask_inverse(element(MODULUS, 0)));
 }
 
 pub fn leading_parts() {

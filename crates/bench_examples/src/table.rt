@@ -4,6 +4,7 @@ use crate::ask::image;
 use crate::lists::F;
 use crate::lists::H;
 use crate::lists::K;
+use crate::lists::MODULUS;
 use crate::lists::ONE;
 use crate::lists::ONLY_X;
 use crate::lists::ONLY_Y;
@@ -24,14 +25,21 @@ use crate::lists::X3Y_X3_Y2_Y;
 use crate::lists::XY_1;
 
 pub fn first_six() {
-    candidate(b"P1", 17, &P1_FIRST, &P1_SECOND, &X_1, &[0, 0, 0]);
-    candidate(b"P2", 17, &P2_FIRST, &P2_SECOND, &ONE, &[0, 0, 0]);
-    candidate(b"P3", 17, &P2_FIRST, &P2_SECOND, &XY_1, &[1, 0, 0]);
-    candidate(b"P4", 17, &P4_FIRST, &P4_SECOND, &ONLY_X, &[0, 0, 0]);
-    candidate(b"P5", 17, &P4_FIRST, &P4_SECOND, &ONE, &[0, 0, 0, 1, 0, 0]);
+    candidate(b"P1", MODULUS, &P1_FIRST, &P1_SECOND, &X_1, &[0, 0, 0]);
+    candidate(b"P2", MODULUS, &P2_FIRST, &P2_SECOND, &ONE, &[0, 0, 0]);
+    candidate(b"P3", MODULUS, &P2_FIRST, &P2_SECOND, &XY_1, &[1, 0, 0]);
+    candidate(b"P4", MODULUS, &P4_FIRST, &P4_SECOND, &ONLY_X, &[0, 0, 0]);
+    candidate(
+        b"P5",
+        MODULUS,
+        &P4_FIRST,
+        &P4_SECOND,
+        &ONE,
+        &[0, 0, 0, 1, 0, 0],
+    );
     candidate(
         b"P6",
-        17,
+        MODULUS,
         &K,
         &K,
         &X3Y_X3_Y2_Y,
@@ -40,20 +48,20 @@ pub fn first_six() {
 }
 
 pub fn last_six() {
-    candidate(b"P7", 17, &K, &K, &X3_Y, &[1, 0, 0, 2, 0, 0, 3, 0, 0]);
-    candidate(b"P8", 17, &K, &K, &X3_1, &[1, 0, 0, 2, 0, 0]);
-    candidate(b"P9", 17, &F, &H, &X3Y_X3_Y, &[5, 0, 0]);
-    candidate(b"P9 twice", 17, &F, &H, &X3Y_X3_Y, &[5, 0, 0, 5, 0, 0]);
+    candidate(b"P7", MODULUS, &K, &K, &X3_Y, &[1, 0, 0, 2, 0, 0, 3, 0, 0]);
+    candidate(b"P8", MODULUS, &K, &K, &X3_1, &[1, 0, 0, 2, 0, 0]);
+    candidate(b"P9", MODULUS, &F, &H, &X3Y_X3_Y, &[5, 0, 0]);
+    candidate(b"P9 twice", MODULUS, &F, &H, &X3Y_X3_Y, &[5, 0, 0, 5, 0, 0]);
     candidate(
         b"P10",
-        17,
+        MODULUS,
         &F,
         &H,
         &X3Y_X3_Y,
         &[1, 0, 0, 0, 0, 0, 5, 0, 0, 2, 0, 0],
     );
     candidate(b"P11", 7, &P11, &P11, &X_Y7, &[1, 0, 0]);
-    candidate(b"P12", 17, &P12, &P12, &ONLY_Y, &[2, 0, 0]);
+    candidate(b"P12", MODULUS, &P12, &P12, &ONLY_Y, &[2, 0, 0]);
 }
 
 // The images that the table names.

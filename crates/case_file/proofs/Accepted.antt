@@ -3,7 +3,7 @@ use Prim.Native.Nat.{ℕ, _≤_}
 use mathlib.Core.Path.{_≡_, refl, ap, _∙_}
 use mathlib.Core.Bool.{Bool, true, false}
 use mathlib.Core.Logic.{_↔_}
-use mathlib.Core.List.{List, [], _∷_, _++_, append-nil}
+use mathlib.Core.List.{List, [], _++_, append-nil}
 use native.Mathlib.Nat.{le-refl}
 use native.Mathlib.Omega.{arith}
 use borrow.Author.Tests.{ltb-false}
@@ -17,7 +17,7 @@ use Rattle.case_file.specs.Handed.{fault}
 use Rattle.case_file.specs.Written.{written, Below, Storable}
 use Rattle.case_file.proofs.Alone.{Numbered, read-numbered, stays-whole}
 use Rattle.case_file.proofs.ReadBack.{refused-no-case, written-of-read-one}
-use Rattle.case_file.proofs.RoundTrip.{read-one-of-written}
+use Rattle.case_file.proofs.RoundTrip.{empty-by-length, read-one-of-written}
 
 -- the file is the case c, written
 pub record Holds (bs : List ℕ) (c : Case) (n : ℕ) : Type 0 where
@@ -35,10 +35,6 @@ alone-whole (whole d at) m c n e = go (ltb at m) refl e
     go true t q = absurd (refused-no-case AFTER_END at c n q)
     go false t q = let l : at ≡ n = cc in (q, omega (arith, ltb-false at m t))
 
-no-length : (l : List ℕ) → length l ≡ 0 → l ≡ []
-no-length [] e = refl
-no-length (x ∷ l) e = absurd (omega arith)
-
 read-of-written : (c : Case) → Storable c → read (written c) ≡ whole c (length (written c))
 unfolding read
 read-of-written c s =
@@ -54,7 +50,7 @@ module _ (bs : List ℕ) (c : Case) (n : ℕ) where
       let z : length (r .0) ≡ 0 = omega (arith, r .2, a .1) in
       record {
         storable = r .3;
-        same = r .1 ∙ ap (λ (l : List ℕ). written c ++ l) (no-length (r .0) z) ∙ append-nil (written c);
+        same = r .1 ∙ ap (λ (l : List ℕ). written c ++ l) (empty-by-length (r .0) z) ∙ append-nil (written c);
         all = omega (arith, r .2);
       }
 

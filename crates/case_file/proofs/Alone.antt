@@ -28,9 +28,19 @@ numbered (suc s) at before c (b ∷ bs) = numbered s (at + 1) before c bs
 numbered zero at before c (k ∷ bs) =
     by-record at before c k bs Numbered (λ e h z. z) (λ h q. tt) (λ h q. numbered (body k) (at + 1) k (added k (content k bs ∷ []) c) bs)
 
-pub read-one-numbered : (bs : List ℕ) → Numbered (read-one bs)
+read-one-numbered : (bs : List ℕ) → Numbered (read-one bs)
 unfolding read-one
 read-one-numbered bs = numbered 0 0 0 no-records bs
+
+-- what holds of a reading, and of a refusal of what stands after, holds of the file
+pub alone-each : (P : Reading → Type 0) (n : ℕ) (o : Reading) → ((at : ℕ) → P (refused AFTER_END at)) → P o → P (alone n o)
+unfolding alone
+alone-each P n (refused e i) after p = p
+alone-each P n (whole c at) after p = go (ltb at n)
+  where
+    go : (b : Bool) → P (elim b [ true ↦ refused AFTER_END at | false ↦ whole c at ])
+    go true = after at
+    go false = p
 
 module _ (n : ℕ) where
   pub stays-whole : (o : Reading) → n ≤ next o → alone n o ≡ o
@@ -48,18 +58,9 @@ module _ (n : ℕ) where
   becomes-refused (whole c at) m h z = rw (lt-ltb at n h, alone)
   becomes-refused (refused e i) m h z = absurd (m z)
 
-alone-numbered : (n : ℕ) (o : Reading) → Numbered o → Numbered (alone n o)
-unfolding alone
-alone-numbered n (refused e i) m = m
-alone-numbered n (whole c at) m = go (ltb at n)
-  where
-    go : (b : Bool) → Numbered (elim b [ true ↦ refused AFTER_END at | false ↦ whole c at ])
-    go true = λ z. omega arith
-    go false = tt
-
 pub read-numbered : (bs : List ℕ) → Numbered (read bs)
 unfolding read
-read-numbered bs = alone-numbered (length bs) (read-one bs) (read-one-numbered bs)
+read-numbered bs = alone-each Numbered (length bs) (read-one bs) (λ at z. omega arith) (read-one-numbered bs)
 
 module _ (bs : List ℕ) {r : Counts} {f s k p : List ℕ} (g : Gives (read-one bs) r f s k p) where
   pub nothing-after : length bs ≤ r .next → Gives (read bs) r f s k p

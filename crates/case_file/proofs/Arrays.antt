@@ -16,12 +16,13 @@ padded-more n xs v h =
     let e : n - length xs ≡ suc (n - (length xs + 1)) = omega arith in
     rw (e, set-at xs 0 (replicate (n - (length xs + 1)) 0) v (length xs) refl, length-append, append-assoc)
 
-pub padded-sets : (n i : ℕ) (xs vs : List ℕ) → i ≡ length xs → i + length vs ≤ n → sets (padded n xs) i vs ≡ padded n (xs ++ vs)
+padded-sets : (n i : ℕ) (xs vs : List ℕ) → i ≡ length xs → i + length vs ≤ n → sets (padded n xs) i vs ≡ padded n (xs ++ vs)
 padded-sets n i xs [] e h = rw append-nil
 padded-sets n i xs (v ∷ vs) e h =
     let l : length xs < n = omega arith in
     let s : suc i ≡ length (xs ++ v ∷ []) = rw length-append (omega arith) in
-    rw (e, padded-more n xs v l) (padded-sets n (suc (length xs)) (xs ++ v ∷ []) vs (rw (← e) s) (omega arith) ∙ ap (λ (l : List ℕ). padded n l) (append-assoc xs (v ∷ []) vs))
+    rw (e, padded-more n xs v l) (padded-sets n (suc (length xs)) (xs ++ v ∷ []) vs (rw (← e) s) (omega arith)
+    ∙ ap (λ (l : List ℕ). padded n l) (append-assoc xs (v ∷ []) vs))
 
 pub flat-more : (rs : List (List ℕ)) (ns : List ℕ) → flat (rs ++ ns ∷ []) ≡ flat rs ++ ns
 unfolding flat
@@ -34,7 +35,8 @@ length-numbers zero w bs = refl
 length-numbers (suc n) w bs = ap suc (length-numbers n w (drop w bs))
 
 -- the list of the records rs of kind k, with one more
-module _ {k : ℕ} {bytes : List ℕ} {at n r : ℕ} {before after : List ℕ} (p : Place k bytes at n) (q : Put k bytes at n r before after) (rs : List (List ℕ)) (e : n ≡ length (flat rs)) where
+module _ {k : ℕ} {bytes : List ℕ} {at n r : ℕ} {before after : List ℕ} (p : Place k bytes at n) (q : Put k bytes at n r before after)
+    (rs : List (List ℕ)) (e : n ≡ length (flat rs)) where
   pub put-counted : r ≡ length (flat (rs ++ content k (drop at bytes) ∷ []))
   put-counted = rw (flat-more, length-append, length-numbers) (q .counted ∙ ap (λ (m : ℕ). m + count k) e)
 

@@ -9,11 +9,17 @@ use Rattle.case_file.specs.declared.Contents.{Contents}
 
 -- two records with lent arrays that are given for one reading are equal
 abbrev pub Determined : Reading → Type 0
-Determined o = (r r′ : Counts) (f f′ s s′ k k′ p p′ : List ℕ) → Gives o r f s k p → Gives o r′ f′ s′ k′ p′ → (r ≡ r′) × (f ≡ f′) × (s ≡ s′) × (k ≡ k′) × (p ≡ p′)
+Determined o = (r r′ : Counts) (f f′ s s′ k k′ p p′ : List ℕ) → Gives o r f s k p → Gives o r′ f′ s′ k′ p′
+    → (r ≡ r′) × (f ≡ f′) × (s ≡ s′) × (k ≡ k′) × (p ≡ p′)
 
 gives-determined : (o : Reading) → Determined o
-gives-determined o r r′ f f′ s s′ k k′ p p′ g g′ =
-    (g .record-is ∙ sym (g′ .record-is), g .first-is ∙ sym (g′ .first-is), g .second-is ∙ sym (g′ .second-is), g .skeleton-is ∙ sym (g′ .skeleton-is), g .points-is ∙ sym (g′ .points-is))
+gives-determined o r r′ f f′ s s′ k k′ p p′ g g′ = (
+  g .record-is ∙ sym (g′ .record-is),
+  g .first-is ∙ sym (g′ .first-is),
+  g .second-is ∙ sym (g′ .second-is),
+  g .skeleton-is ∙ sym (g′ .skeleton-is),
+  g .points-is ∙ sym (g′ .points-is),
+)
 
 pub read-one-into-determined : (bs : List ℕ) → Determined (read-one bs)
 read-one-into-determined bs = gives-determined (read-one bs)

@@ -35,10 +35,15 @@ numbers-packed zero w [] rest l b = refl
 numbers-packed (suc n) w [] rest l b = absurd (omega arith)
 numbers-packed zero w (v ∷ vs) rest l b = absurd (omega arith)
 numbers-packed (suc n) w (v ∷ vs) rest l b =
-    rw (append-assoc, take-at (bytes w v) (packed w vs ++ rest) w (length-bytes w v), drop-at (bytes w v) (packed w vs ++ rest) w (length-bytes w v), little-bytes w v (b .0))
+    rw (
+      append-assoc,
+      take-at (bytes w v) (packed w vs ++ rest) w (length-bytes w v),
+      drop-at (bytes w v) (packed w vs ++ rest) w (length-bytes w v),
+      little-bytes w v (b .0),
+    )
     (ap (λ (l : List ℕ). v ∷ l) (numbers-packed n w vs rest (omega arith) (b .1)))
 
-pub below-drop : (m n : ℕ) (vs : List ℕ) → Below m vs → Below m (drop n vs)
+below-drop : (m n : ℕ) (vs : List ℕ) → Below m vs → Below m (drop n vs)
 below-drop m zero vs b = b
 below-drop m (suc n) [] b = b
 below-drop m (suc n) (v ∷ vs) b = below-drop m n vs (b .1)

@@ -30,7 +30,14 @@ unfolding read-one
 begun bs g =
     record {
       case = no-records;
-      given = record { record-is = g .record-is; first-is = g .first-is; second-is = g .second-is; skeleton-is = g .skeleton-is; points-is = g .points-is };
+      given =
+          record {
+            record-is = g .record-is;
+            first-is = g .first-is;
+            second-is = g .second-is;
+            skeleton-is = g .skeleton-is;
+            points-is = g .points-is;
+          };
       standing = standing-start;
       not-ended = omega arith;
       within = omega arith;
@@ -79,14 +86,16 @@ module _ {bs : List ℕ} {r : Counts} {f s k p : List ℕ} {before at : ℕ} (q 
                 low = well .low;
                 high = omega (arith, well .high);
                 whole = fits-in;
-                room = rw (counted before (q .case) (q .standing) (q .not-ended) r (q .given .record-is) kind (well .low) (well .high) (well .order)) (well .room);
+                room = rw (counted before (q .case) (q .standing) (q .not-ended) r (q .given .record-is) kind (well .low) (well .high) (well .order))
+                    (well .room);
                 threes = threes before (q .case) (q .standing) (q .not-ended) r (q .given .record-is);
               }
 
           pub fresh : kind ≡ modulus-kind → q .case kind ≡ []
           fresh y = q .standing .later kind (omega (arith, not-second before (rw y at (well .order))))
 
-          pub carried : {r′ : Counts} {f′ s′ k′ p′ : List ℕ} → Adds bs kind (at + 1) r r′ f s k p f′ s′ k′ p′ → Progress bs r′ f′ s′ k′ p′ kind (at + 1 + body kind)
+          pub carried : {r′ : Counts} {f′ s′ k′ p′ : List ℕ} → Adds bs kind (at + 1) r r′ f s k p f′ s′ k′ p′
+              → Progress bs r′ f′ s′ k′ p′ kind (at + 1 + body kind)
           carried g =
               record {
                 case = added kind (content kind after ∷ []) (q .case);
@@ -97,5 +106,6 @@ module _ {bs : List ℕ} {r : Counts} {f s k p : List ℕ} {before at : ℕ} (q 
                 same =
                     opened ∙ goes-on at before (q .case) kind after (tests ∙ z) ne
                     ∙ passed-over (body kind) (at + 1) kind (added kind (content kind after ∷ []) (q .case)) after (well .in-file)
-                    ∙ ap (λ (l : List ℕ). reading 0 (at + 1 + body kind) kind (added kind (content kind after ∷ []) (q .case)) l) (drop-drop (body kind) (at + 1) bs);
+                    ∙ ap (λ (l : List ℕ). reading 0 (at + 1 + body kind) kind (added kind (content kind after ∷ []) (q .case)) l)
+                    (drop-drop (body kind) (at + 1) bs);
               }

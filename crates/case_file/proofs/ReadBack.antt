@@ -69,7 +69,8 @@ stored-start : Stored 0 no-records []
 unfolding in-order
 stored-start = record { standing = standing-start; exact = refl; bodies = λ j. tt; begun = λ h. absurd (omega arith) }
 
-stored-more : (before k m : ℕ) (c : Case) (bs done : List ℕ) → Stored before c done → Passed before k (length (c k)) m → Below base bs → Stored k (added k (content k bs ∷ []) c) (done ++ k ∷ packed (width k) (content k bs))
+stored-more : (before k m : ℕ) (c : Case) (bs done : List ℕ) → Stored before c done → Passed before k (length (c k)) m → Below base bs
+    → Stored k (added k (content k bs ∷ []) c) (done ++ k ∷ packed (width k) (content k bs))
 stored-more before k m c bs done s p b =
     record {
       standing = standing-more before k m c bs (s .standing) p;
@@ -86,7 +87,8 @@ stored-more before k m c bs done s p b =
     }
 
 -- a record's bytes are its kind and its numbers
-record-bytes : (k : ℕ) (bs done : List ℕ) → body k ≤ length bs → Below base bs → done ++ k ∷ bs ≡ (done ++ k ∷ packed (width k) (content k bs)) ++ drop (body k) bs
+record-bytes : (k : ℕ) (bs done : List ℕ) → body k ≤ length bs → Below base bs
+    → done ++ k ∷ bs ≡ (done ++ k ∷ packed (width k) (content k bs)) ++ drop (body k) bs
 record-bytes k bs done h b =
     rw (packed-numbers (count k) (width k) bs h b, append-assoc, take-append-drop)
 
@@ -110,7 +112,8 @@ storable-end k c done e s h =
       one-end = omega (arith, s .standing .within end-kind);
     }
 
-module _ (m n : ℕ) (c′ : Case) (before k : ℕ) (c : Case) (bs done : List ℕ) (s : Stored before c done) (b : Below base bs) (p : Passed before k (length (c k)) (length bs)) where
+module _ (m n : ℕ) (c′ : Case) (before k : ℕ) (c : Case) (bs done : List ℕ) (s : Stored before c done) (b : Below base bs)
+    (p : Passed before k (length (c k)) (length bs)) where
   taken : Stored k (added k (content k bs ∷ []) c) (done ++ k ∷ packed (width k) (content k bs))
   taken = stored-more before k (length bs) c bs done s p b
 
@@ -128,7 +131,8 @@ module _ (m n : ℕ) (c′ : Case) (before k : ℕ) (c : Case) (bs done : List �
         storable = storable-end k c′ _ e t (rw (← w, e, added-own, length-append) (omega arith));
       })
 
-back : (c′ : Case) (n s at before : ℕ) (c : Case) (bs done : List ℕ) → Stored before c done → Below base bs → reading s at before c bs ≡ whole c′ n → Back done (drop s bs) (at + length bs) n c′
+back : (c′ : Case) (n s at before : ℕ) (c : Case) (bs done : List ℕ) → Stored before c done → Below base bs → reading s at before c bs ≡ whole c′ n
+    → Back done (drop s bs) (at + length bs) n c′
 unfolding reading
 back c′ n zero at before c [] done t b e = absurd (refused-no-case NO_END at c′ n e)
 back c′ n (suc s) at before c [] done t b e = absurd (refused-no-case NO_END at c′ n e)
@@ -143,13 +147,15 @@ back c′ n zero at before c (k ∷ bs) done t b e =
     at-end _ n c′ before k c bs done t (b .1) (passed before k _ _ h) q (cc) (omega arith))
     (λ h q w.
     let p = passed before k _ _ h in
-    let r = back c′ n (body k) (at + 1) k (added k (content k bs ∷ []) c) bs (done ++ k ∷ packed (width k) (content k bs)) (taken (at + suc (length bs)) n c′ before k c bs done t (b .1) p) (b .1) w in
+    let r = back c′ n (body k) (at + 1) k (added k (content k bs ∷ []) c) bs (done ++ k ∷ packed (width k) (content k bs))
+    (taken (at + suc (length bs)) n c′ before k c bs done t (b .1) p) (b .1) w in
     onward (at + suc (length bs)) n c′ before k c bs done t (b .1) p
     (record { rest = r .rest; same = r .same; left = omega (arith, r .left); storable = r .storable }))
     e
 
 -- what was read is the written form of a case that can be stored, with what stands after it
-pub written-of-read-one : (bs : List ℕ) (c : Case) (n : ℕ) → Below base bs → read-one bs ≡ whole c n → (rest : List ℕ) × (bs ≡ written c ++ rest) × (n + length rest ≡ length bs) × Storable c
+pub written-of-read-one : (bs : List ℕ) (c : Case) (n : ℕ) → Below base bs → read-one bs ≡ whole c n
+    → (rest : List ℕ) × (bs ≡ written c ++ rest) × (n + length rest ≡ length bs) × Storable c
 unfolding read-one
 written-of-read-one bs c n b e =
     let r = back c n 0 0 0 no-records bs [] stored-start b e in

@@ -24,14 +24,16 @@ unfolding records
 one-record k ns rest = ap (λ (l : List ℕ). k ∷ l ++ rest) (append-nil (packed (width k) ns))
 
 -- one record
-module _ (k : ℕ) (low : modulus-kind ≤ k) (high : k ≤ end-kind) (before : ℕ) (o : follows before k ≡ true) (at : ℕ) (c : Case) (ns rest : List ℕ) (room : length (c k) < limit k) (l : length ns ≡ count k) (small : Below (base ^ width k) ns) where
+module _ (k : ℕ) (low : modulus-kind ≤ k) (high : k ≤ end-kind) (before : ℕ) (o : follows before k ≡ true) (at : ℕ) (c : Case) (ns rest : List ℕ)
+    (room : length (c k) < limit k) (l : length ns ≡ count k) (small : Below (base ^ width k) ns) where
   length-body : length (packed (width k) ns) ≡ body k
   length-body = length-packed (width k) ns ∙ ap (λ (n : ℕ). n * width k) l
 
   record-whole : body k ≤ length (packed (width k) ns ++ rest)
   record-whole = rw (length-append, length-body) (omega arith)
 
-  read-record : (k ≡ end-kind → ⊥) → reading 0 at before c (k ∷ packed (width k) ns ++ rest) ≡ reading 0 (at + length (records k (ns ∷ []))) k (added k (ns ∷ []) c) rest
+  read-record : (k ≡ end-kind → ⊥) → reading 0 at before c (k ∷ packed (width k) ns ++ rest)
+      ≡ reading 0 (at + length (records k (ns ∷ []))) k (added k (ns ∷ []) c) rest
   unfolding records
   read-record ne =
       let e : at + 1 + body k ≡ at + suc (length (packed (width k) ns ++ [])) = rw (append-nil, length-body) (omega arith) in
@@ -39,7 +41,8 @@ module _ (k : ℕ) (low : modulus-kind ≤ k) (high : k ≤ end-kind) (before : 
       ∙ passed-over (body k) (at + 1) k _ (packed (width k) ns ++ rest) record-whole
       ∙ rw (numbers-packed (count k) (width k) ns rest l small, drop-at (packed (width k) ns) rest (body k) length-body, e)
 
-  read-end : k ≡ end-kind → reading 0 at before c (k ∷ packed (width k) ns ++ rest) ≡ whole (added k (ns ∷ []) c) (at + length (records k (ns ∷ [])))
+  read-end : k ≡ end-kind → reading 0 at before c (k ∷ packed (width k) ns ++ rest)
+      ≡ whole (added k (ns ∷ []) c) (at + length (records k (ns ∷ [])))
   unfolding records
   read-end y =
       let none : body k ≡ 0 = rw y in
@@ -58,7 +61,8 @@ module _ (k : ℕ) (low : modulus-kind < k) (high : k < end-kind) where
   onward : (j : ℕ) → k ≤ j → follows k j ≡ true
   onward j h = may-follow k j (omega arith) h (omega arith)
 
-  through : (rs : List (List ℕ)) (at before : ℕ) (c : Case) (rest : List ℕ) → ((j : ℕ) → k ≤ j → follows before j ≡ true) → length (c k) + length rs ≤ limit k → Bodies k rs
+  through : (rs : List (List ℕ)) (at before : ℕ) (c : Case) (rest : List ℕ) → ((j : ℕ) → k ≤ j → follows before j ≡ true)
+      → length (c k) + length rs ≤ limit k → Bodies k rs
       → Comes (suc k) (at + length (records k rs)) (added k rs c) rest (reading 0 at before c (records k rs ++ rest))
   unfolding records
   through [] at before c rest o r b =
@@ -68,7 +72,8 @@ module _ (k : ℕ) (low : modulus-kind < k) (high : k < end-kind) where
       let u : k ≤ end-kind = omega arith in
       let q : length (added k (ns ∷ []) c k) + length rs ≤ limit k = rw (added-own, length-append) (omega arith) in
       let ih = through rs (at + length (records k (ns ∷ []))) k (added k (ns ∷ []) c) rest onward q (b .2) in
-      let e : at + length (records k (ns ∷ [])) + length (records k rs) ≡ at + suc (length (packed (width k) ns ++ records k rs)) = simp (length-append, append-nil) (omega arith) in
+      let e : at + length (records k (ns ∷ [])) + length (records k rs) ≡ at + suc (length (packed (width k) ns ++ records k rs)) =
+      simp length-append (omega arith) in
       record {
         last = ih .last;
         order = ih .order;
@@ -107,18 +112,18 @@ single [] h = absurd (omega arith)
 single (ns ∷ []) h = (ns, refl)
 single (ns ∷ ms ∷ rs) h = absurd (omega arith)
 
-no-length : (rs : List (List ℕ)) → length rs ≡ 0 → rs ≡ []
-no-length [] h = refl
-no-length (ns ∷ rs) h = absurd (omega arith)
+pub empty-by-length : {A : Type 0} (l : List A) → length l ≡ 0 → l ≡ []
+empty-by-length [] h = refl
+empty-by-length (x ∷ l) h = absurd (omega arith)
 
 module _ (c : Case) (s : Storable c) where
   none-first : c 0 ≡ []
-  none-first = no-length (c 0) (omega (arith, s .within 0))
+  none-first = empty-by-length (c 0) (omega (arith, s .within 0))
 
   none-later : (j : ℕ) → end-kind < j → c j ≡ []
   none-later j h =
       let e : limit j ≡ 0 = List·getD-eq-default limits 0 h in
-      no-length (c j) (omega (arith, s .within j))
+      empty-by-length (c j) (omega (arith, s .within j))
 
   upto-all : upto end-kind c ≡ c
   upto-all = fun-ext (λ j. go j (leb j end-kind) refl)
@@ -136,7 +141,8 @@ module _ (c : Case) (s : Storable c) where
           rw e (sym none-first ∙ sym (upto-in 0 c 0 (omega arith)))
       go j false t = sym (upto-out 0 c j (leb-false j 0 t))
 
-  modulus-read : (rest : List ℕ) → Comes 2 (length (in-order modulus-kind c)) (upto modulus-kind c) rest (reading 0 0 0 no-records (in-order modulus-kind c ++ rest))
+  modulus-read : (rest : List ℕ)
+      → Comes 2 (length (in-order modulus-kind c)) (upto modulus-kind c) rest (reading 0 0 0 no-records (in-order modulus-kind c ++ rest))
   unfolding in-order follows
   modulus-read rest =
       let q = single (c modulus-kind) (s .one-modulus) in
@@ -152,7 +158,8 @@ module _ (c : Case) (s : Storable c) where
             (read-record modulus-kind (omega arith) (omega arith) 0 refl 0 no-records ns rest (omega arith) (b .0) (b .1) (λ y. omega arith) ∙ rw zero-add);
       }
 
-  comes : (n : ℕ) → suc n < end-kind → (rest : List ℕ) → Comes (suc (suc n)) (length (in-order (suc n) c)) (upto (suc n) c) rest (reading 0 0 0 no-records (in-order (suc n) c ++ rest))
+  comes : (n : ℕ) → suc n < end-kind → (rest : List ℕ)
+      → Comes (suc (suc n)) (length (in-order (suc n) c)) (upto (suc n) c) rest (reading 0 0 0 no-records (in-order (suc n) c ++ rest))
   unfolding in-order
   comes zero h rest = modulus-read rest
   comes (suc n) h rest =
@@ -170,17 +177,20 @@ module _ (c : Case) (s : Storable c) where
   unfolding written in-order
   last-kind = refl
 
-  end-read : (rest : List ℕ) → reading 0 0 0 no-records (in-order point-kind c ++ (records end-kind (c end-kind) ++ rest)) ≡ whole c (length (in-order point-kind c) + length (records end-kind (c end-kind)))
+  end-read : (rest : List ℕ) → reading 0 0 0 no-records (in-order point-kind c ++ (records end-kind (c end-kind) ++ rest))
+      ≡ whole c (length (in-order point-kind c) + length (records end-kind (c end-kind)))
   end-read rest =
       let q = single (c end-kind) (s .one-end) in
       let ns : List ℕ = q .0 in
       let b : Bodies end-kind (ns ∷ []) = rw (q .1) at (s .bodies end-kind) in
       let p = comes 4 (omega arith) (records end-kind (c end-kind) ++ rest) in
       let r : length (upto point-kind c end-kind) < 1 = rw (upto-out point-kind c end-kind (omega arith)) (omega arith) in
-      let e : added end-kind (ns ∷ []) (upto point-kind c) ≡ c = ap (λ (rs : List (List ℕ)). added end-kind rs (upto point-kind c)) (sym (q .1)) ∙ upto-more point-kind c ∙ upto-all in
+      let e : added end-kind (ns ∷ []) (upto point-kind c) ≡ c = ap (λ (rs : List (List ℕ)). added end-kind rs (upto point-kind c)) (sym (q .1))
+      ∙ upto-more point-kind c ∙ upto-all in
       let n : ℕ = length (in-order point-kind c) in
       p .to
-      ∙ ap (λ (l : List ℕ). reading 0 n (p .last) (upto point-kind c) l) (ap (λ (rs : List (List ℕ)). records end-kind rs ++ rest) (q .1) ∙ one-record end-kind ns rest)
+      ∙ ap (λ (l : List ℕ). reading 0 n (p .last) (upto point-kind c) l)
+      (ap (λ (rs : List (List ℕ)). records end-kind rs ++ rest) (q .1) ∙ one-record end-kind ns rest)
       ∙ read-end end-kind (omega arith) (omega arith) (p .last) (p .order end-kind (omega arith)) n (upto point-kind c) ns rest r (b .0) (b .1) refl
       ∙ ap₂ (λ (d : Case) (rs : List (List ℕ)). whole d (n + length (records end-kind rs))) e (sym (q .1))
 

@@ -11,7 +11,8 @@ use lib.Dec.{leb}
 use lib.ListN.{length, take, drop, length-take, length-append}
 use lib.Seq.{take-take, take-nil, take-all, length-take-le}
 use Rattle.field.specs.Numbers.{NO_END}
-use Rattle.case_file.specs.Format.{enough, end-kind, count, width, body, limit, numbers, content}
+use Rattle.case_file.specs.Format.{modulus-kind, first-kind, second-kind, skeleton-kind, point-kind, end-kind}
+use Rattle.case_file.specs.Format.{count, width, body, limit, numbers, content, enough}
 use Rattle.case_file.specs.Case.{Case, no-records, added}
 use Rattle.case_file.specs.Reading.{Reading, whole, refused, fault-number, reading, read-one, alone, read}
 use Rattle.case_file.proofs.Tests.{by-kind, Passed, passed}
@@ -24,7 +25,7 @@ room k c = (1 + body k) * (limit k - length (c k))
 
 -- the bytes that records can still take, and seven for one that is refused
 left : Case → ℕ
-left c = room 1 c + room 2 c + room 3 c + room 4 c + room 5 c + 7
+left c = room modulus-kind c + room first-kind c + room second-kind c + room skeleton-kind c + room point-kind c + 7
 
 seven-left : (c : Case) → 7 ≤ left c
 unfolding left
@@ -35,11 +36,11 @@ spent : (before k m : ℕ) (c : Case) (ns : List ℕ) → Passed before k (lengt
 unfolding left added
 spent before k m c ns p ne =
     by-kind (λ (k : ℕ). length (c k) < limit k → (k ≡ end-kind → ⊥) → left (added k (ns ∷ []) c) + (1 + body k) ≤ left c) k (p .low) (p .high)
-    (λ r ne. omega (arith, length-append (c 1) (ns ∷ [])))
-    (λ r ne. omega (arith, length-append (c 2) (ns ∷ [])))
-    (λ r ne. omega (arith, length-append (c 3) (ns ∷ [])))
-    (λ r ne. omega (arith, length-append (c 4) (ns ∷ [])))
-    (λ r ne. omega (arith, length-append (c 5) (ns ∷ [])))
+    (λ r ne. omega (arith, length-append (c modulus-kind) (ns ∷ [])))
+    (λ r ne. omega (arith, length-append (c first-kind) (ns ∷ [])))
+    (λ r ne. omega (arith, length-append (c second-kind) (ns ∷ [])))
+    (λ r ne. omega (arith, length-append (c skeleton-kind) (ns ∷ [])))
+    (λ r ne. omega (arith, length-append (c point-kind) (ns ∷ [])))
     (λ r ne. absurd (ne refl))
     (p .room) ne
 
@@ -86,7 +87,8 @@ cut (suc s) at before c (b ∷ bs) zero h = absurd (omega arith)
 cut (suc s) at before c (b ∷ bs) (suc m) h = cut s (at + 1) before c bs m (omega arith)
 cut zero at before c (k ∷ bs) (suc m) h =
     let w : body k ≤ m = omega (arith, seven-left c, body-small k) in
-    let f : fault-number before k (length (c k)) (length (take m bs)) ≡ fault-number before k (length (c k)) (length bs) = fault-take before k (length (c k)) m bs w in
+    let f : fault-number before k (length (c k)) (length (take m bs)) ≡ fault-number before k (length (c k)) (length bs) =
+    fault-take before k (length (c k)) m bs w in
     let n : content k (take m bs) ≡ content k bs = numbers-take (count k) (width k) m bs w in
     by-record at before c k bs (λ (o : Reading). reading 0 at before c (k ∷ take m bs) ≡ o)
     (λ e t z. stops at before c k (take m bs) e (f ∙ t) z)
@@ -105,7 +107,11 @@ ends-by c′ n zero at before c (k ∷ bs) e =
     by-record at before c k bs (λ (o : Reading). o ≡ whole c′ n → n + 6 ≤ at + 0 + left c)
     (λ x t z w. absurd (refused-no-case x at c′ n w))
     (λ t q w. let l : at + 1 ≡ n = cc in omega (arith, seven-left c))
-    (λ t q w. omega (arith, ends-by c′ n (body k) (at + 1) k (added k (content k bs ∷ []) c) bs w, spent before k (length bs) c (content k bs) (passed before k _ _ t) q))
+    (λ t q w. omega (
+      arith,
+      ends-by c′ n (body k) (at + 1) k (added k (content k bs ∷ []) c) bs w,
+      spent before k (length bs) c (content k bs) (passed before k _ _ t) q,
+    ))
     e
 
 -- 2,883 bytes of records before the end record, and seven
@@ -115,7 +121,7 @@ at-start = refl
 
 module _ (bs : List ℕ) (m : ℕ) (h : 2890 ≤ m) where
   -- the case at the start of the bytes
-  pub settled-one-from : read-one (take m bs) ≡ read-one bs
+  settled-one-from : read-one (take m bs) ≡ read-one bs
   unfolding read-one
   settled-one-from = cut 0 0 0 no-records bs m (omega (arith, at-start))
 
@@ -135,7 +141,7 @@ module _ (bs : List ℕ) (m : ℕ) (h : 2890 ≤ m) where
           rw (alone, lt-ltb n m a, lt-ltb n (length bs) b)
 
   -- a case file
-  pub settled-from : read (take m bs) ≡ read bs
+  settled-from : read (take m bs) ≡ read bs
   settled-from = go (leb m (length bs)) refl
     where
       go : (b : Bool) → leb m (length bs) ≡ b → read (take m bs) ≡ read bs

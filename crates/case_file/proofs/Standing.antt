@@ -7,7 +7,7 @@ use mathlib.Core.List.{List, [], _∷_}
 use native.Mathlib.Nat.{add-mul, one-mul, zero-mul, mul-le-mul-right}
 use native.Mathlib.Omega.{arith}
 use lib.ListN.{length, length-append}
-use Rattle.case_file.specs.Format.{modulus-kind, point-kind, end-kind, count, limit, content, follows}
+use Rattle.case_file.specs.Format.{modulus-kind, first-kind, second-kind, skeleton-kind, point-kind, end-kind, count, limit, content, follows}
 use Rattle.case_file.specs.Case.{Case, no-records, added, flat}
 use Rattle.case_file.specs.Reading.{whole}
 use Rattle.case_file.specs.Handed.{counts}
@@ -27,13 +27,15 @@ unfolding flat
 standing-start = record { later = λ j h. refl; within = λ j. omega arith; even = λ j. sym (zero-mul (count j)) }
 
 -- one record more, with its numbers
-pub standing-more : (before k m : ℕ) (c : Case) (bs : List ℕ) → Standing before c → Passed before k (length (c k)) m → Standing k (added k (content k bs ∷ []) c)
+pub standing-more : (before k m : ℕ) (c : Case) (bs : List ℕ) → Standing before c → Passed before k (length (c k)) m
+    → Standing k (added k (content k bs ∷ []) c)
 standing-more before k m c bs s p =
     let up : before ≤ k = not-below before k (p .low) (p .order) in
     record {
       later = λ j h. added-other k (content k bs ∷ []) c j (λ e. omega arith) ∙ s .later j (omega arith);
       within =
-          added-each k (content k bs ∷ []) c (λ (j : ℕ) (rs : List (List ℕ)). length rs ≤ limit j) (rw length-append (omega (arith, p .room))) (λ j ne. s .within j);
+          added-each k (content k bs ∷ []) c (λ (j : ℕ) (rs : List (List ℕ)). length rs ≤ limit j) (rw length-append (omega (arith, p .room)))
+          (λ j ne. s .within j);
       even =
           added-each k (content k bs ∷ []) c (λ (j : ℕ) (rs : List (List ℕ)). length (flat rs) ≡ length rs * count j)
           (rw (flat-more, length-append, length-append, length-numbers, s .even k, add-mul, one-mul))
@@ -50,10 +52,10 @@ module _ (before : ℕ) (c : Case) (s : Standing before c) where
     counted k low high =
         by-kind (λ (k : ℕ). follows before k ≡ true → held r k ≡ length (c k)) k low high
         (λ o. rw (s .later modulus-kind (not-second before o)))
-        (λ o. rw e (omega (arith, s .even 2)))
-        (λ o. rw e (omega (arith, s .even 3)))
-        (λ o. rw e (omega (arith, s .even 4)))
-        (λ o. rw e (omega (arith, s .even 5)))
+        (λ o. rw e (omega (arith, s .even first-kind)))
+        (λ o. rw e (omega (arith, s .even second-kind)))
+        (λ o. rw e (omega (arith, s .even skeleton-kind)))
+        (λ o. rw e (omega (arith, s .even point-kind)))
         (λ o. rw (s .later end-kind below))
 
     pub threes : r .points % count point-kind ≡ 0

@@ -28,16 +28,19 @@ passed-over (suc s) at before c (b ∷ bs) h =
     passed-over s (at + 1) before c bs (omega arith) ∙ ap (λ (i : ℕ). reading 0 i before c (drop s bs)) e
 
 module _ (at before : ℕ) (c : Case) (k : ℕ) (bs : List ℕ) where
-  -- the case with the record of kind k
+  -- the number that the tests of the record of kind k give, and the case with that record
+  abbrev tested : ℕ
+  tested = fault-number before k (length (c k)) (length bs)
+
   abbrev with-it : Case
   with-it = added k (content k bs ∷ []) c
 
-  pub stops : (e : ℕ) → fault-number before k (length (c k)) (length bs) ≡ e → (e ≡ 0 → ⊥) → reading 0 at before c (k ∷ bs) ≡ refused e at
+  pub stops : (e : ℕ) → tested ≡ e → (e ≡ 0 → ⊥) → reading 0 at before c (k ∷ bs) ≡ refused e at
   unfolding reading
   stops zero h z = absurd (z refl)
   stops (suc e) h z = rw (h, reading)
 
-  module _ (h : fault-number before k (length (c k)) (length bs) ≡ 0) where
+  module _ (h : tested ≡ 0) where
     pub ends : k ≡ end-kind → reading 0 at before c (k ∷ bs) ≡ whole with-it (at + 1)
     unfolding reading
     ends e = rw (h, eq-eqb k end-kind e, reading)
@@ -48,17 +51,17 @@ module _ (at before : ℕ) (c : Case) (k : ℕ) (bs : List ℕ) where
 
   -- what holds however a record is taken holds of reading from it
   pub by-record : (P : Reading → Type 0)
-      → ((e : ℕ) → fault-number before k (length (c k)) (length bs) ≡ e → (e ≡ 0 → ⊥) → P (refused e at))
-      → (fault-number before k (length (c k)) (length bs) ≡ 0 → k ≡ end-kind → P (whole with-it (at + 1)))
-      → (fault-number before k (length (c k)) (length bs) ≡ 0 → (k ≡ end-kind → ⊥) → P (reading (body k) (at + 1) k with-it bs))
+      → ((e : ℕ) → tested ≡ e → (e ≡ 0 → ⊥) → P (refused e at))
+      → (tested ≡ 0 → k ≡ end-kind → P (whole with-it (at + 1)))
+      → (tested ≡ 0 → (k ≡ end-kind → ⊥) → P (reading (body k) (at + 1) k with-it bs))
       → P (reading 0 at before c (k ∷ bs))
-  by-record P stop end on = tests (fault-number before k (length (c k)) (length bs)) refl
+  by-record P stop end on = tests tested refl
     where
-      last : fault-number before k (length (c k)) (length bs) ≡ 0 → (b : Bool) → eqb k end-kind ≡ b → P (reading 0 at before c (k ∷ bs))
+      last : tested ≡ 0 → (b : Bool) → eqb k end-kind ≡ b → P (reading 0 at before c (k ∷ bs))
       last h true s = rw (ends h (eqb-true k end-kind s)) (end h (eqb-true k end-kind s))
       last h false s = rw (goes-on h (eqb-false k end-kind s)) (on h (eqb-false k end-kind s))
 
-      tests : (x : ℕ) → fault-number before k (length (c k)) (length bs) ≡ x → P (reading 0 at before c (k ∷ bs))
+      tests : (x : ℕ) → tested ≡ x → P (reading 0 at before c (k ∷ bs))
       tests zero h = last h (eqb k end-kind) refl
       tests (suc x) h =
           let z : suc x ≡ 0 → ⊥ = λ q. omega arith in

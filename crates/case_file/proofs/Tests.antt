@@ -1,7 +1,7 @@
 -- The tests of a record: which number the first failed one gives, and what is known when all are passed. Assumes nothing.
 use Prim.Native.Nat.{ℕ, zero, suc, _≤_, _<_}
 use mathlib.Core.Path.{_≡_, refl}
-use mathlib.Core.Bool.{Bool, true, false, _&&_}
+use mathlib.Core.Bool.{Bool, true, false, _&&_, and-eq-true-iff}
 use mathlib.Core.List.{[], _∷_}
 use native.Mathlib.Omega.{arith}
 use borrow.Author.Tests.{le-leb, lt-leb, lt-ltb, le-ltb, leb-true, ltb-true, eqb-true}
@@ -11,7 +11,8 @@ use Rattle.case_file.specs.Format.{modulus-kind, first-kind, second-kind
 use Rattle.case_file.specs.Reading.{first-failed, fault-number}
 
 -- what holds for each known kind holds for every known kind
-pub by-kind : (P : ℕ → Type 0) (k : ℕ) → modulus-kind ≤ k → k ≤ end-kind → P modulus-kind → P first-kind → P second-kind → P skeleton-kind → P point-kind → P end-kind → P k
+pub by-kind : (P : ℕ → Type 0) (k : ℕ) → modulus-kind ≤ k → k ≤ end-kind
+    → P modulus-kind → P first-kind → P second-kind → P skeleton-kind → P point-kind → P end-kind → P k
 by-kind P zero low high p₁ p₂ p₃ p₄ p₅ p₆ = absurd (omega arith)
 by-kind P (suc zero) low high p₁ p₂ p₃ p₄ p₅ p₆ = p₁
 by-kind P (suc (suc zero)) low high p₁ p₂ p₃ p₄ p₅ p₆ = p₂
@@ -32,12 +33,8 @@ unfolding follows
 may-follow zero k a b d = absurd (omega arith)
 may-follow (suc before) k a b d = rw (le-leb (suc before) k b, lt-ltb modulus-kind k d)
 
-both : (a b : Bool) → a && b ≡ true → (a ≡ true) × (b ≡ true)
-both true b e = (refl, e)
-both false b e = absurd (let z : _≡_ {A = ℕ} 0 1 = cc in omega arith)
-
 -- a record that may stand here: the first is the modulus, a later one does not fall
-pub begins : (k : ℕ) → follows 0 k ≡ true → k ≡ modulus-kind
+begins : (k : ℕ) → follows 0 k ≡ true → k ≡ modulus-kind
 unfolding follows
 begins k e = eqb-true k modulus-kind e
 
@@ -45,11 +42,11 @@ pub not-first : (before k : ℕ) → follows before k ≡ true → (k ≡ modulu
 not-first zero k o ne = absurd (ne (begins k o))
 not-first (suc before) k o ne = omega arith
 
-pub rises : (before k : ℕ) → 1 ≤ before → follows before k ≡ true → (before ≤ k) × (modulus-kind < k)
+rises : (before k : ℕ) → 1 ≤ before → follows before k ≡ true → (before ≤ k) × (modulus-kind < k)
 unfolding follows
 rises zero k l e = absurd (omega arith)
 rises (suc before) k l e =
-    let t = both (leb (suc before) k) (ltb modulus-kind k) e in
+    let t = and-eq-true-iff (leb (suc before) k) (ltb modulus-kind k) .0 e in
     (leb-true _ _ (t .0), ltb-true _ _ (t .1))
 
 pub not-second : (before : ℕ) → follows before modulus-kind ≡ true → before < modulus-kind
@@ -98,7 +95,11 @@ pub record Passed (before k n m : ℕ) : Type 0 where
   pub in-file : body k ≤ m
   pub room : n < limit k
 
-all-true : (a b c d e : Bool) → first-failed ((KIND_UNKNOWN, a && b) ∷ (ORDER, c) ∷ (BODY_CUT, d) ∷ (TOO_MANY, e) ∷ []) ≡ 0 → (a ≡ true) × (b ≡ true) × (c ≡ true) × (d ≡ true) × (e ≡ true)
+-- the first failed of a record's tests, by their outcomes
+abbrev outcome : (low high order whole room : Bool) → ℕ
+outcome low high order whole room = first-failed ((KIND_UNKNOWN, low && high) ∷ (ORDER, order) ∷ (BODY_CUT, whole) ∷ (TOO_MANY, room) ∷ [])
+
+all-true : (a b c d e : Bool) → outcome a b c d e ≡ 0 → (a ≡ true) × (b ≡ true) × (c ≡ true) × (d ≡ true) × (e ≡ true)
 all-true true true true true true h = (refl, refl, refl, refl, refl)
 all-true true true true true false h = absurd (omega arith)
 all-true true true true false e h = absurd (omega arith)
@@ -113,11 +114,13 @@ passed before k n m h =
     record { low = leb-true _ _ (t .0); high = leb-true _ _ (t .1); order = t .2; in-file = leb-true _ _ (t .3); room = ltb-true _ _ (t .4) }
 
 -- how many of its kind were read matters only for a record of a known kind that may stand here
-pub fault-same : (before k n n′ m : ℕ) → (modulus-kind ≤ k → k ≤ end-kind → follows before k ≡ true → n ≡ n′) → fault-number before k n m ≡ fault-number before k n′ m
+pub fault-same : (before k n n′ m : ℕ) → (modulus-kind ≤ k → k ≤ end-kind → follows before k ≡ true → n ≡ n′)
+    → fault-number before k n m ≡ fault-number before k n′ m
 unfolding fault-number
 fault-same before k n n′ m h = go (leb modulus-kind k) (leb k end-kind) (follows before k) refl refl refl
   where
-    go : (a b o : Bool) → leb modulus-kind k ≡ a → leb k end-kind ≡ b → follows before k ≡ o → first-failed ((KIND_UNKNOWN, a && b) ∷ (ORDER, o) ∷ (BODY_CUT, leb (body k) m) ∷ (TOO_MANY, ltb n (limit k)) ∷ []) ≡ first-failed ((KIND_UNKNOWN, a && b) ∷ (ORDER, o) ∷ (BODY_CUT, leb (body k) m) ∷ (TOO_MANY, ltb n′ (limit k)) ∷ [])
+    go : (a b o : Bool) → leb modulus-kind k ≡ a → leb k end-kind ≡ b → follows before k ≡ o
+        → outcome a b o (leb (body k) m) (ltb n (limit k)) ≡ outcome a b o (leb (body k) m) (ltb n′ (limit k))
     go true true true low high e = rw (h (leb-true _ _ low) (leb-true _ _ high) e)
     go true true false low high e = refl
     go true false o low high e = refl

@@ -1,18 +1,17 @@
 -- The counts that the reader hands back stay within the arrays, so that a caller can take a list as the head of its array. Assumes nothing.
 use Prim.Native.Nat.{ℕ, zero, suc, _+_, _*_, _≤_}
-use mathlib.Core.Bool.{Bool, true, false}
 use mathlib.Core.List.{List, [], _∷_}
 use native.Mathlib.Omega.{arith}
-use lib.Dec.{ltb}
 use lib.ListN.{length}
 use Rattle.field.specs.Numbers.{AFTER_END, NO_END}
 use Rattle.case_file.specs.Format.{first-kind, second-kind, skeleton-kind, point-kind, count, body, limit, content}
 use Rattle.case_file.specs.Case.{Case, no-records, added, flat}
-use Rattle.case_file.specs.Reading.{Reading, whole, refused, reading, alone, read-one, read}
+use Rattle.case_file.specs.Reading.{Reading, refused, reading, alone, read-one, read}
 use Rattle.case_file.specs.Handed.{list, Gives}
 use Rattle.case_file.specs.declared.Counts.{Counts}
 use Rattle.case_file.proofs.Tests.{passed}
 use Rattle.case_file.proofs.Steps.{by-record}
+use Rattle.case_file.proofs.Alone.{alone-each}
 use Rattle.case_file.proofs.Standing.{Standing, standing-start, standing-more, fits}
 
 pub record Within (r : Counts) : Type 0 where
@@ -39,18 +38,14 @@ reading-fit zero at before c (k ∷ bs) t =
     (λ h q. fits k (added k (content k bs ∷ []) c) (standing-more before k (length bs) c bs t (passed before k _ _ h)))
     (λ h q. reading-fit (body k) (at + 1) k (added k (content k bs ∷ []) c) bs (standing-more before k (length bs) c bs t (passed before k _ _ h)))
 
-alone-fit : (n : ℕ) (o : Reading) → Fit o → Fit (alone n o)
-unfolding alone
-alone-fit n (refused e i) f = f
-alone-fit n (whole c at) f = go (ltb at n)
-  where
-    go : (b : Bool) → Fit (elim b [ true ↦ refused AFTER_END at | false ↦ whole c at ])
-    go true = refused-fit AFTER_END at
-    go false = f
-
 within : (o : Reading) {r : Counts} {f s k p : List ℕ} → Fit o → Gives o r f s k p → Within r
 within o h g =
-    record { first = rw (g .record-is) (h first-kind); second = rw (g .record-is) (h second-kind); skeleton = rw (g .record-is) (h skeleton-kind); points = rw (g .record-is) (h point-kind) }
+    record {
+      first = rw (g .record-is) (h first-kind);
+      second = rw (g .record-is) (h second-kind);
+      skeleton = rw (g .record-is) (h skeleton-kind);
+      points = rw (g .record-is) (h point-kind);
+    }
 
 module _ (bs : List ℕ) {r : Counts} {f s k p : List ℕ} where
   pub read-one-within : Gives (read-one bs) r f s k p → Within r
@@ -59,4 +54,4 @@ module _ (bs : List ℕ) {r : Counts} {f s k p : List ℕ} where
 
   pub read-within : Gives (read bs) r f s k p → Within r
   unfolding read read-one
-  read-within g = within (read bs) (alone-fit (length bs) (read-one bs) (reading-fit 0 0 0 no-records bs standing-start)) g
+  read-within g = within (read bs) (alone-each Fit (length bs) (read-one bs) (refused-fit AFTER_END) (reading-fit 0 0 0 no-records bs standing-start)) g

@@ -10,7 +10,18 @@ use Rattle.case_file.specs.Written.{written, in-order, records, packed, 
 use Rattle.case_file.specs.Handed.{contents, padded, case}
 
 abbrev pub example : List ℕ
-example = 0x01 ∷ 0x11 ∷ 0 ∷ 2 ∷ 1 ∷ 0 ∷ 0 ∷ 4 ∷ 2 ∷ 0x10 ∷ 0 ∷ 0 ∷ 0 ∷ 3 ∷ 1 ∷ 0 ∷ 0 ∷ 4 ∷ 3 ∷ 2 ∷ 0 ∷ 0 ∷ 2 ∷ 3 ∷ 1 ∷ 0 ∷ 0 ∷ 0 ∷ 4 ∷ 0 ∷ 2 ∷ 4 ∷ 0 ∷ 0 ∷ 5 ∷ 0 ∷ 0 ∷ 0 ∷ 0 ∷ 0 ∷ 0 ∷ 6 ∷ []
+example =
+    0x01 ∷ 0x11 ∷ 0
+    ∷ 2 ∷ 1 ∷ 0 ∷ 0 ∷ 4
+    ∷ 2 ∷ 0x10 ∷ 0 ∷ 0 ∷ 0
+    ∷ 3 ∷ 1 ∷ 0 ∷ 0 ∷ 4
+    ∷ 3 ∷ 2 ∷ 0 ∷ 0 ∷ 2
+    ∷ 3 ∷ 1 ∷ 0 ∷ 0 ∷ 0
+    ∷ 4 ∷ 0 ∷ 2
+    ∷ 4 ∷ 0 ∷ 0
+    ∷ 5 ∷ 0 ∷ 0 ∷ 0 ∷ 0 ∷ 0 ∷ 0
+    ∷ 6
+    ∷ []
 
 pub example-read :
     contents (read example)

@@ -4,11 +4,12 @@ use mathlib.Core.HLevel.{hedberg, isProp→PathP}
 use Prim.Native.Nat.{ℕ, _+_, _*_, _-_, _/_, _%_, _<_}
 use native.Mathlib.Decide.{ℕ-discrete}
 use native.Mathlib.Omega.{arith}
-use native.Mathlib.Nat.{add-assoc, add-comm, add-mod-mod, add-mul, add-zero, div-add-mod, mod-add-mod, mod-eq-of-lt, mod-lt, mod-mod, mod-self, mul-assoc, mul-comm, mul-one, zero-mod}
+use native.Mathlib.Nat.{add-assoc, add-comm, add-mul, add-zero, mul-assoc, mul-comm, mul-one, div-add-mod}
+use native.Mathlib.Nat.{add-mod-mod, mod-add-mod, mod-eq-of-lt, mod-lt, mod-mod, mod-self, zero-mod}
 use Rattle.field.specs.Fp.{Fp, el, add, mul, neg}
 use Rattle.field.specs.RemainderLaws.{mod-mul-mod, mul-mod-mod}
 
-pub ℕ-set : IsSet ℕ
+ℕ-set : IsSet ℕ
 ℕ-set = hedberg ℕ-discrete
 
 -- two elements are equal where their numbers are

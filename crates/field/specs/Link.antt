@@ -50,8 +50,8 @@ module _ {p : ℕ} (P : Prime p) (a x : ℕ) (e : (a * x) % p ≡ 1) where
       one≢zero (P .above)
       (sym (inverse-mul p a x e) ∙ ap (λ (y : Fp p). mul y (el p x)) z ∙ zero-mul (Residues p (prime-positive P)) (el p x))
 
-  -- is the inverse of the field
-  pub inverse-el : el p x ≡ inv (el p a)
+  -- it is the inverse of the field
+  inverse-el : el p x ≡ inv (el p a)
   inverse-el = inverse-unique (el p a) (el p x) (inv (el p a)) (inverse-mul p a x e) (mul-inv P (el p a) inverse-nonzero)
 
 -- what the contract of `inverse` determines is the inverse of the field

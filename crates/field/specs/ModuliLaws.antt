@@ -1,6 +1,6 @@
 -- Each listed modulus is prime, by one computed test over the table, and within the bounds that the code leans on. Assumes nothing.
 use mathlib.Core.Path.{_≡_, refl, sym, _∙_, subst}
-use mathlib.Core.Bool.{Bool, true, false, _&&_, _||_, Bool-discrete}
+use mathlib.Core.Bool.{Bool, true, false, _&&_, _||_, Bool-discrete, true≢false}
 use mathlib.Core.List.{List, [], _∷_}
 use Prim.Native.Nat.{ℕ, _<_}
 use native.Mathlib.Omega.{arith}
@@ -9,12 +9,13 @@ use Rattle.field.specs.Prime.{Prime}
 use Rattle.field.specs.PrimeLaws.{prime-test, test-prime}
 use Rattle.field.specs.Moduli.{moduli, among, listed, Listed}
 
-abbrev pub every : (ℕ → Bool) → List ℕ → Bool
+-- the test of each of a list
+abbrev pub every : {X : Type 0} → (X → Bool) → List X → Bool
 every f [] = true
-every f (m ∷ ms) = f m && every f ms
+every f (x ∷ xs) = f x && every f xs
 
 -- what a test says of each entry, it says of a number among them
-pub among-every : (f : ℕ → Bool) (ms : List ℕ) → T (every f ms) → (p : ℕ) → T (among p ms) → T (f p)
+among-every : (f : ℕ → Bool) (ms : List ℕ) → T (every f ms) → (p : ℕ) → T (among p ms) → T (f p)
 among-every f [] t p a = absurd a
 among-every f (m ∷ ms) t p a =
     go (eqb p m) refl (f m) refl t a (λ u. among-every f ms u p)
@@ -51,4 +52,4 @@ pub listed-stable : (p : ℕ) → ¬ (¬ Listed p) → Listed p
 listed-stable p n = elim (listed-decided p) [ yes h ↦ h | no m ↦ absurd (n m) ]
 
 pub unlisted : (p : ℕ) → listed p ≡ false → ¬ Listed p
-unlisted p e h = subst T (sym h ∙ e) tt
+unlisted p e h = true≢false (sym h ∙ e)

@@ -1,7 +1,7 @@
 -- A computed test of primes, by trial division, and what it gives. Assumes nothing.
-use mathlib.Core.Path.{_≡_, refl, sym, ap, _∙_, subst}
+use mathlib.Core.Path.{_≡_, refl, sym, ap, _∙_}
 use mathlib.Core.Logic.{_⊎_, inl, inr}
-use mathlib.Core.Bool.{Bool, true, false}
+use mathlib.Core.Bool.{Bool, true, false, true≢false}
 use Prim.Native.Nat.{ℕ, zero, suc, _*_, _/_, _%_, _≤_, _<_}
 use native.Mathlib.Decide.{ℕ-discrete, decLt}
 use native.Mathlib.Omega.{arith}
@@ -31,7 +31,7 @@ module _ (p m : ℕ) (above : 1 < p) (small : p < m * m) (none : (d : ℕ) → 2
           let h : m * m ≤ d * c = mul-le-mul (omega arith) (omega arith) in
           omega arith
 
-  pub prime-below : Prime p
+  prime-below : Prime p
   prime-below = record { above = above; only = λ d h. go d (mod-eq-zero-of-dvd d h) (ℕ-discrete d 1) (ℕ-discrete d p) }
     where
       go : (d : ℕ) → p % d ≡ 0 → Dec (d ≡ 1) → Dec (d ≡ p) → (d ≡ 1) ⊎ (d ≡ p)
@@ -57,11 +57,8 @@ module _ (p : ℕ) (above : 1 < p) where
   more : (d : ℕ) → Below d → eqb (p % d) 0 ≡ false → Below (suc d)
   more d h f k l u e = go (ℕ-discrete k d)
     where
-      clash : true ≡ false → ⊥
-      clash q = subst T q tt
-
       go : Dec (k ≡ d) → ⊥
-      go (yes q) = clash (sym (eq-eqb (p % d) 0 (ap (λ (n : ℕ). p % n) (sym q) ∙ e)) ∙ f)
+      go (yes q) = true≢false (sym (eq-eqb (p % d) 0 (ap (λ (n : ℕ). p % n) (sym q) ∙ e)) ∙ f)
       go (no q) = h k l (omega arith) e
 
   tried-prime : (n d : ℕ) → Below d → T (tried p n d) → Prime p
@@ -69,7 +66,8 @@ module _ (p : ℕ) (above : 1 < p) where
   tried-prime (suc n) d h t =
       root (ltb p (d * d)) refl (λ k u. tried-prime n (suc d) k u) t
     where
-      divides : (b : Bool) → eqb (p % d) 0 ≡ b → (Below (suc d) → T (tried p n (suc d)) → Prime p) → T (elim b [ true ↦ false | false ↦ tried p n (suc d) ]) → Prime p
+      divides : (b : Bool) → eqb (p % d) 0 ≡ b → (Below (suc d) → T (tried p n (suc d)) → Prime p)
+          → T (elim b [ true ↦ false | false ↦ tried p n (suc d) ]) → Prime p
       divides true f again u = absurd u
       divides false f again u = again (more d h f) u
 

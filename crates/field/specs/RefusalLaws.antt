@@ -78,12 +78,12 @@ pub tested-end : {f : Fault} → f ≡ none → Tested [] f
 tested-end e = passed tt e
 
 -- a table in two parts
-pub refuses-front : (front back : List Line) (f : Fault) → Refuses front f → Refuses (front ++ back) f
+refuses-front : (front back : List Line) (f : Fault) → Refuses front f → Refuses (front ++ back) f
 refuses-front [] back f h = absurd h
 refuses-front (l ∷ front) back f (inl h) = inl h
 refuses-front (l ∷ front) back f (inr h) = inr (h .0, refuses-front front back f (h .1))
 
-pub refuses-back : (front back : List Line) (f : Fault) → Passes front → Refuses back f → Refuses (front ++ back) f
+refuses-back : (front back : List Line) (f : Fault) → Passes front → Refuses back f → Refuses (front ++ back) f
 refuses-back [] back f h k = k
 refuses-back (l ∷ front) back f h k = inr (h .0, refuses-back front back f (h .1) k)
 

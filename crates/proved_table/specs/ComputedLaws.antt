@@ -32,7 +32,8 @@ use Rattle.divisor.specs.Laws.Passed.{looks-of}
 use Rattle.divisor.specs.Laws.Assembled as assembled
 use Rattle.proved_table.specs.TermDivision.{Outcome, divides, does-not, open-still}
 use Rattle.proved_table.specs.TermDivisionLaws.{Means, division-means}
-use Rattle.proved_table.specs.Computed.{Verdict, unsettled, settled, Computed, unanswered, answered, tried, most-steps, divided-by, by-division, by-answer, with-counts, by-kept, by-least, by-looks, computed}
+use Rattle.proved_table.specs.Computed.{Verdict, unsettled, settled, Computed, unanswered, answered, tried, most-steps}
+use Rattle.proved_table.specs.Computed.{divided-by, by-division, by-answer, with-counts, by-kept, by-least, by-looks, computed}
 
 -- the numbers of field elements
 abbrev values-of : {p : ℕ} → List (Fp p) → List ℕ
@@ -106,9 +107,11 @@ module _ (c : Call) (pass : Passes (table c)) (listed : Listed (c .modulus)) whe
           → Means (Numbers c listed) (poly p P (c .second-list)) (poly p P G) second → Settled (tried G first second)
       unfolding tried
       tried-settles divides divides a b = assembled.answer-accepted c pass listed d at-least k ks kept (values-of v) solves long below (a, b)
-      tried-settles divides does-not a b = assembled.answer-rejected c pass listed d at-least k ks kept (values-of v) solves long below (λ both. b (both .1))
+      tried-settles divides does-not a b =
+          assembled.answer-rejected c pass listed d at-least k ks kept (values-of v) solves long below (λ both. b (both .1))
       tried-settles divides open-still a b = tt
-      tried-settles does-not o a b = assembled.answer-rejected c pass listed d at-least k ks kept (values-of v) solves long below (λ both. a (both .0))
+      tried-settles does-not o a b =
+          assembled.answer-rejected c pass listed d at-least k ks kept (values-of v) solves long below (λ both. a (both .0))
       tried-settles open-still o a b = tt
 
       division-settles : Settled (by-division p P (c .first-list) (c .second-list) (c .skeleton) (c .points) G)
@@ -134,7 +137,8 @@ module _ (c : Call) (pass : Passes (table c)) (listed : Listed (c .modulus)) whe
   unfolding by-kept
   kept-sound d at-least [] e = tt
   kept-sound d at-least (k ∷ ks) e = counts-sound d at-least k ks e _
-      (answer-settles d at-least k ks e _ (solve-meets (Numbers c listed) (length (c .skeleton) + length ks) (all-rows (Numbers c listed) (monomials c listed) k ks)))
+      (answer-settles d at-least k ks e _ (solve-meets (Numbers c listed) (length (c .skeleton) + length ks)
+      (all-rows (Numbers c listed) (monomials c listed) k ks)))
 
   least-sound : (m : ℕ) → Least 0 (sizes-of looks) m → Sound (by-least p P (c .first-list) (c .second-list) (c .skeleton) (c .points) looks m)
   unfolding by-least

@@ -12,7 +12,8 @@ use Rattle.field.specs.Refusal.{Line}
 use Rattle.field.specs.RefusalDecision.{not-decided, both-decided, either-decided, at-most-decided, Checks, placed-check, first-check}
 use Rattle.poly.specs.Keys.{keys}
 use Rattle.poly.specs.Terms.{key-of, coefficient-of}
-use Rattle.poly.specs.Lists.{most-terms, Count, WrongKey, above, not-below, wrong-key, coefficient-zero, WrongModulo, wrong-term, coefficient-large, WrongNumber, of-lists}
+use Rattle.poly.specs.Lists.{most-terms, Count, WrongKey, above, not-below, wrong-key}
+use Rattle.poly.specs.Lists.{coefficient-zero, WrongModulo, wrong-term, coefficient-large, WrongNumber, of-lists}
 use Rattle.poly.specs.ImageCall.{ImageCall, of-point, image-table}
 use Rattle.poly.specs.Laws.PointCheck.{numbers-end}
 use Rattle.divisor.specs.Laws.Checks.{keys-beyond}
@@ -52,7 +53,8 @@ module _ (ks : List ℕ) where
   from-wrong (suc i) (not-below before e l h) = let q : before ≡ i = omega arith in (l, inr (subst (λ (n : ℕ). getD ks n 0 ≤ getD ks (suc i) 0) q h))
 
   unfoldable pub key-decided : (i : ℕ) → Dec (WrongKey ks i)
-  key-decided i = decided-as (to-wrong i) (from-wrong i) (both-decided (decLt i (length ks)) (either-decided (at-most-decided keys (getD ks i 0)) (not-below-decided i)))
+  key-decided i = decided-as (to-wrong i) (from-wrong i) (both-decided (decLt i (length ks))
+      (either-decided (at-most-decided keys (getD ks i 0)) (not-below-decided i)))
 
 module _ (p : ℕ) (ts : List ℕ) where
   -- a coefficient that is 0 or at least p
@@ -102,8 +104,10 @@ list-checks p A B = (
 )
 
 unfoldable pub skeleton-checks : (skeleton : List ℕ) → Checks (of-skeleton skeleton)
-skeleton-checks skeleton =
-    (placed-check SKELETON_COUNT 0 _ (count-decided most-keys skeleton), (first-check SKELETON_KEY _ (key-decided skeleton) (length skeleton) (keys-beyond skeleton), tt))
+skeleton-checks skeleton = (
+  placed-check SKELETON_COUNT 0 _ (count-decided most-keys skeleton),
+  (first-check SKELETON_KEY _ (key-decided skeleton) (length skeleton) (keys-beyond skeleton), tt),
+)
 
 unfoldable pub points-checks : (p : ℕ) (points : List ℕ) → Checks (of-points p points)
 points-checks p points = (
@@ -112,8 +116,10 @@ points-checks p points = (
 )
 
 unfoldable pub point-checks : (p : ℕ) (point : List ℕ) → Checks (of-point p point)
-point-checks p point =
-    (placed-check POINTS_COUNT 0 _ (not-decided (ℕ-discrete (length point) 3)), (first-check POINT_NUMBER _ (number-decided p point) (length point) (numbers-end p point), tt))
+point-checks p point = (
+  placed-check POINTS_COUNT 0 _ (not-decided (ℕ-discrete (length point) 3)),
+  (first-check POINT_NUMBER _ (number-decided p point) (length point) (numbers-end p point), tt),
+)
 
 -- the candidate's lines but those of the rooms
 abbrev pub lines : ℕ → List ℕ → List ℕ → List ℕ → List ℕ → List Line

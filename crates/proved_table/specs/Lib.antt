@@ -2,7 +2,6 @@
 -- Row and Table are what is to be believed; the others compute the test and prove it right.
 pub mod Row
 pub mod Table
-pub mod Order
 pub mod TermDivision
 pub mod TermDivisionLaws
 pub mod Decisions

@@ -3,16 +3,25 @@ use mathlib.Core.Bool.{Bool, true, false}
 use mathlib.Core.List.{[], _∷_}
 use Prim.Native.Nat.{ℕ, zero, suc, _-_}
 use Rattle.algebra.specs.Ring.{CommRing}
-use Rattle.algebra.specs.Four.{Exponents, _⊞_}
+use Rattle.algebra.specs.Four.{Exponents, _⊞_, _≼_, lower, equal, higher, compare}
 use Rattle.algebra.specs.Monomial.{Term}
 use Rattle.algebra.specs.Field.{Field}
+use Rattle.field.specs.RefusalDecision.{both-decided, at-most-decided}
 use Rattle.poly.specs.Terms.{Polynomial}
-use Rattle.proved_table.specs.Order.{before, same, after, order, each-at-most}
 
 pub data Outcome : Type 0 where
   divides : Outcome
   does-not : Outcome
   open-still : Outcome
+
+-- each exponent at most the other's
+unfoldable pub each-at-most : (e f : Exponents) → Dec (e ≼ f)
+each-at-most e f =
+    elim (both-decided (at-most-decided (e .x) (f .x)) (both-decided (at-most-decided (e .y) (f .y))
+    (both-decided (at-most-decided (e .z) (f .z)) (at-most-decided (e .w) (f .w))))) [
+      | yes h ↦ yes (record { x = h .0; y = h .1 .0; z = h .1 .1 .0; w = h .1 .1 .1 })
+      | no n ↦ no (λ l. n (l .x, (l .y, (l .z, l .w))))
+    ]
 
 -- e less f in each exponent
 abbrev pub over : Exponents → Exponents → Exponents
@@ -24,18 +33,26 @@ module _ (K : Field) where
 
   infixl 60 _+_
   infixl 70 _*_
+  -- two terms of one monomial as one
+  abbrev pub together : Term R → Term R → Term R
+  together t u = record { exponents = u .exponents; coefficient = t .coefficient + u .coefficient }
+
   -- a term and a list added; two terms of one monomial become one, or none
   unfoldable pub plus : Term R → Polynomial K → Polynomial K
   plus t [] = t ∷ []
   plus t (u ∷ us) =
-      elim (order (t .exponents) (u .exponents)) [
-        | before l ↦ t ∷ u ∷ us
-        | same e ↦ elim (K .decide (t .coefficient + u .coefficient)) [
+      elim (compare (t .exponents) (u .exponents)) [
+        | lower l ↦ u ∷ plus t us
+        | equal e ↦ elim (K .decide (t .coefficient + u .coefficient)) [
           | yes z ↦ us
-          | no n ↦ record { exponents = u .exponents; coefficient = t .coefficient + u .coefficient } ∷ us
+          | no n ↦ together t u ∷ us
         ]
-        | after ↦ u ∷ plus t us
+        | higher l ↦ t ∷ u ∷ us
       ]
+
+  -- t over u, where u's exponents are at most t's
+  abbrev pub term-over : Term R → Term R → Term R
+  term-over t u = record { exponents = over (t .exponents) (u .exponents); coefficient = t .coefficient * K .inv (u .coefficient) }
 
   -- - t u
   abbrev pub less-product : Term R → Term R → Term R
@@ -54,7 +71,7 @@ module _ (K : Field) where
   -- before all terms of a list
   unfoldable pub before-all : Exponents → Polynomial K → Bool
   before-all e [] = true
-  before-all e (u ∷ us) = elim (order e (u .exponents)) [ before l ↦ before-all e us | same q ↦ false | after ↦ false ]
+  before-all e (u ∷ us) = elim (compare e (u .exponents)) [ lower l ↦ false | equal q ↦ false | higher l ↦ before-all e us ]
 
   -- a term that is not 0 and before all that follow
   unfoldable pub leads : Term R → Polynomial K → Bool
@@ -67,7 +84,7 @@ module _ (K : Field) where
   divided l g (suc k) [] = divides
   divided l g (suc k) (t ∷ f) =
       elim (each-at-most (l .exponents) (t .exponents)) [
-        | yes h ↦ divided l g k (less (t ∷ f) (record { exponents = over (t .exponents) (l .exponents); coefficient = t .coefficient * K .inv (l .coefficient) }) g)
+        | yes h ↦ divided l g k (less (t ∷ f) (term-over t l) g)
         | no n ↦ elim (leads t f) [ true ↦ does-not | false ↦ open-still ]
       ]
 

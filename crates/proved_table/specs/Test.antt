@@ -9,7 +9,8 @@ use Rattle.field.specs.Prime.{Prime}
 use Rattle.field.specs.Moduli.{Listed}
 use Rattle.field.specs.ModuliLaws.{listed-prime, listed-decided}
 use Rattle.field.specs.Modulo.{Modulo}
-use Rattle.field.specs.RefusalDecision.{decided}
+use Rattle.field.specs.Refusal.{Line}
+use Rattle.field.specs.RefusalDecision.{Checks, decided}
 use Rattle.poly.specs.declared.ImageRecord.{ImageRecord}
 use Rattle.poly.specs.Terms.{terms-of}
 use Rattle.poly.specs.ImageCall.{image-table}
@@ -33,11 +34,19 @@ numbers r terms = r .fault .number ∷ r .fault .place ∷ r .degree ∷ r .bad 
 
 unfoldable pub agrees : Computed → CandidateRecord → List ℕ → Bool
 agrees unanswered found terms = false
-agrees (answered number degree bad unlucky kept ts) found terms = same-numbers (numbers (report number degree bad unlucky kept (length ts)) ts) (numbers found terms)
+agrees (answered number degree bad unlucky kept ts) found terms =
+    same-numbers (numbers (report number degree bad unlucky kept (length ts)) ts) (numbers found terms)
 
 module _ (r : Row) where
+  -- the lines of its inputs, and their checks
+  abbrev pub input-lines : List Line
+  input-lines = lines (r .modulus) (r .first-list) (r .second-list) (r .skeleton) (r .points)
+
+  abbrev pub input-checks : Checks input-lines
+  input-checks = checks (r .modulus) (r .first-list) (r .second-list) (r .skeleton) (r .points)
+
   unfoldable pub passes : Bool
-  passes = eqb (decided (lines (r .modulus) (r .first-list) (r .second-list) (r .skeleton) (r .points)) (checks (r .modulus) (r .first-list) (r .second-list) (r .skeleton) (r .points)) .number) 0
+  passes = eqb (decided input-lines input-checks .number) 0
 
   unfoldable pub answers : Listed (r .modulus) → Bool
   answers h = agrees (computed (r .modulus) (listed-prime h) (r .first-list) (r .second-list) (r .skeleton) (r .points)) (r .found) (r .terms)
@@ -54,7 +63,9 @@ module _ (r : ImageRow) where
   image-passes = eqb (decided (image-table (r .call)) (image-checks (r .call)) .number) 0
 
   unfoldable pub image-agrees : Bool
-  image-agrees = same-numbers (image-numbers (r .found)) (image-numbers (image-of (r .call .modulus) (r .call .first-list) (r .call .second-list) (r .call .point)))
+  image-agrees =
+      same-numbers (image-numbers (r .found))
+      (image-numbers (image-of (r .call .modulus) (r .call .first-list) (r .call .second-list) (r .call .point)))
 
   unfoldable pub image-test : Bool
   image-test = image-passes && image-agrees
@@ -62,8 +73,3 @@ module _ (r : ImageRow) where
 -- f less the product of the two leaves nothing
 unfoldable pub multiplies : (p : ℕ) → Prime p → Product → Bool
 multiplies p P q = elim (less-all (Modulo p P) (terms-of p P (q .whole)) (terms-of p P (q .first)) (terms-of p P (q .second))) [ [] ↦ true | t ∷ ts ↦ false ]
-
--- the test of each of a list
-unfoldable pub each : {X : Type 0} → (X → Bool) → List X → Bool
-each f [] = true
-each f (x ∷ xs) = f x && each f xs

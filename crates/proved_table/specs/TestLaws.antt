@@ -1,8 +1,7 @@
 -- A row that passes the test holds, and so do an image and a product; and each of a list does. Assumes nothing.
 use mathlib.Core.Path.{_≡_, refl, ap, ap₂, subst}
-use mathlib.Core.Bool.{Bool, true, false, false≢true}
+use mathlib.Core.Bool.{Bool, true, false, false≢true, and-eq-true-iff}
 use mathlib.Core.List.{List, [], _∷_}
-use mathlib.Mathlib.Data.Bool.Basic.{and-elim-left, and-elim-right}
 use Prim.Native.Nat.{ℕ, _≤_}
 use native.Mathlib.Omega.{arith}
 use lib.Dec.{eqb}
@@ -10,11 +9,11 @@ use lib.ListN.{length, getD, drop}
 use borrow.Author.Tests.{eqb-true}
 use Rattle.field.specs.Prime.{Prime}
 use Rattle.field.specs.Moduli.{Listed}
-use Rattle.field.specs.ModuliLaws.{listed-decided}
+use Rattle.field.specs.ModuliLaws.{every, listed-decided}
 use Rattle.field.specs.Modulo.{Modulo}
 use Rattle.field.specs.Refusal.{Passes}
 use Rattle.field.specs.RefusalLaws.{placed-never, passes-append}
-use Rattle.field.specs.RefusalDecision.{decided, decided-tested, decided-passes}
+use Rattle.field.specs.RefusalDecision.{decided-tested, decided-passes}
 use Rattle.poly.specs.declared.ImageRecord.{ImageRecord}
 use Rattle.poly.specs.Terms.{Polynomial, terms-of}
 use Rattle.poly.specs.ImageCall.{image-table}
@@ -26,24 +25,35 @@ use Rattle.divisor.specs.Candidate.{Call, table, Candidate}
 use Rattle.divisor.specs.Models.Checks.{of-rooms}
 use Rattle.proved_table.specs.Row.{Row, call, result, Holds, ImageRow, Shows, Product, Multiplies, Each}
 use Rattle.proved_table.specs.TermDivisionLaws.{nothing-left-means}
-use Rattle.proved_table.specs.Decisions.{lines, checks, image-checks}
+use Rattle.proved_table.specs.Decisions.{image-checks}
 use Rattle.proved_table.specs.Computed.{Computed, unanswered, answered}
 use Rattle.proved_table.specs.ComputedLaws.{Sound, computed-sound}
-use Rattle.proved_table.specs.Test.{same-numbers, numbers, agrees, passes, answers, test, image-numbers, image-passes, image-agrees, image-test, multiplies, each}
+use Rattle.proved_table.specs.Test.{same-numbers, numbers, agrees, input-lines, input-checks, passes, answers, test}
+use Rattle.proved_table.specs.Test.{image-numbers, image-passes, image-agrees, image-test, multiplies}
 
 same-is : (ms ns : List ℕ) → same-numbers ms ns ≡ true → ms ≡ ns
 unfolding same-numbers
 same-is [] [] h = refl
 same-is [] (n ∷ ns) h = absurd (false≢true h)
 same-is (m ∷ ms) [] h = absurd (false≢true h)
-same-is (m ∷ ms) (n ∷ ns) h = ap₂ _∷_ (eqb-true m n (and-elim-left (eqb m n) (same-numbers ms ns) h)) (same-is ms ns (and-elim-right (eqb m n) (same-numbers ms ns) h))
+same-is (m ∷ ms) (n ∷ ns) h =
+    let both = and-eq-true-iff (eqb m n) (same-numbers ms ns) .0 h in
+    ap₂ _∷_ (eqb-true m n (both .0)) (same-is ms ns (both .1))
 
 -- a record and terms are known by their numbers
 numbers-settle : (X : CandidateRecord → List ℕ → Type 0) (r q : CandidateRecord) (terms ts : List ℕ) → numbers r terms ≡ numbers q ts → X r terms → X q ts
 numbers-settle X r q terms ts e x = subst (λ (l : List ℕ). X (record-of l) (drop 7 l)) e x
   where
     record-of : List ℕ → CandidateRecord
-    record-of l = record { fault = record { number = getD l 0 0; place = getD l 1 0 }; degree = getD l 2 0; bad = getD l 3 0; unlucky = getD l 4 0; kept = getD l 5 0; terms = getD l 6 0 }
+    record-of l =
+        record {
+          fault = record { number = getD l 0 0; place = getD l 1 0 };
+          degree = getD l 2 0;
+          bad = getD l 3 0;
+          unlucky = getD l 4 0;
+          kept = getD l 5 0;
+          terms = getD l 6 0;
+        }
 
 module _ (r : Row) (output work : List ℕ) (long : length (r .skeleton) ≤ length output) (room : work-room ≤ length work) where
   abbrev c : Call
@@ -54,8 +64,8 @@ module _ (r : Row) (output work : List ℕ) (long : length (r .skeleton) ≤ len
 
   inputs-pass : passes r ≡ true → Passes (table c)
   unfolding passes
-  inputs-pass h = passes-append (lines (r .modulus) (r .first-list) (r .second-list) (r .skeleton) (r .points)) (of-rooms (length output) (length (r .skeleton)) (length work))
-      (decided-passes (lines (r .modulus) (r .first-list) (r .second-list) (r .skeleton) (r .points)) tt (checks (r .modulus) (r .first-list) (r .second-list) (r .skeleton) (r .points)) (eqb-true _ 0 h))
+  inputs-pass h = passes-append (input-lines r) (of-rooms (length output) (length (r .skeleton)) (length work))
+      (decided-passes (input-lines r) tt (input-checks r) (eqb-true _ 0 h))
       rooms-pass
 
   -- what agrees with a sound answer is the candidate's
@@ -69,10 +79,10 @@ module _ (r : Row) (output work : List ℕ) (long : length (r .skeleton) ≤ len
 
   tested-here : test r ≡ true → Candidate c (result r output work)
   unfolding test
-  tested-here h = go (listed-decided (r .modulus)) (and-elim-right (passes r) _ h)
+  tested-here h = go (listed-decided (r .modulus)) (and-eq-true-iff (passes r) _ .0 h .1)
     where
       pass : Passes (table c)
-      pass = inputs-pass (and-elim-left (passes r) _ h)
+      pass = inputs-pass (and-eq-true-iff (passes r) _ .0 h .0)
 
       go : (d : Dec (Listed (r .modulus))) → elim d as (λ _. Bool) [ yes h ↦ answers r h | no n ↦ false ] ≡ true
           → Candidate c (result r output work)
@@ -86,8 +96,10 @@ tested r h output work long room = tested-here r output work long room h
 pub image-tested : (r : ImageRow) → image-test r ≡ true → Shows r
 unfolding image-test image-passes image-agrees
 image-tested r h =
-    image-answered (r .call .modulus) (r .call .first-list) (r .call .second-list) (r .call .point) (decided (image-table (r .call)) (image-checks (r .call))) (decided-tested (image-table (r .call)) (image-checks (r .call)))
-    (eqb-true _ 0 (and-elim-left (image-passes r) (image-agrees r) h)) (image-known (r .found) _ (same-is _ _ (and-elim-right (image-passes r) (image-agrees r) h)))
+    let both = and-eq-true-iff (image-passes r) (image-agrees r) .0 h in
+    let tested = decided-tested (image-table (r .call)) (image-checks (r .call)) in
+    image-answered (r .call .modulus) (r .call .first-list) (r .call .second-list) (r .call .point) _ tested
+    (eqb-true _ 0 (both .0)) (image-known (r .found) _ (same-is _ _ (both .1)))
   where
     record-of : List ℕ → ImageRecord
     record-of l = record { fault = record { number = getD l 0 0; place = getD l 1 0 }; degree = getD l 2 0; coefficients = drop 3 l }
@@ -104,7 +116,8 @@ multiplied p P q h = nothing-left-means (Modulo p P) (terms-of p P (q .whole)) (
     go (t ∷ ts) h = absurd (false≢true h)
 
 -- what follows from a test follows for each of a list
-pub each-tested : {X : Type 0} (f : X → Bool) (F : X → Type 0) → ((x : X) → f x ≡ true → F x) → (xs : List X) → each f xs ≡ true → Each F xs
-unfolding each
+pub each-tested : {X : Type 0} (f : X → Bool) (F : X → Type 0) → ((x : X) → f x ≡ true → F x) → (xs : List X) → every f xs ≡ true → Each F xs
 each-tested f F law [] h = tt
-each-tested f F law (x ∷ xs) h = (law x (and-elim-left (f x) (each f xs) h), each-tested f F law xs (and-elim-right (f x) (each f xs) h))
+each-tested f F law (x ∷ xs) h =
+    let both = and-eq-true-iff (f x) (every f xs) .0 h in
+    (law x (both .0), each-tested f F law xs (both .1))

@@ -20,15 +20,15 @@ abbrev TermsFirst : QuotientResult → Type 0
 TermsFirst r = Counts (r .found .terms) (r .output)
 
 module _ (bytes output work : List ℕ) where
-  answered : (r : QuotientResult) → QuotientOfFile output work bytes r → Answered bytes output work r
-  answered r f =
+  met : (r : QuotientResult) → QuotientOfFile output work bytes r → Answered bytes output work r
+  met r f =
       record {
         is = f;
         terms-first = of-file-has _ _ bytes TermsFirst (λ g. none-first output) (λ o. quotient-first (call output work o)) r f;
       }
 
   pub answered-refused : (f : Fault) → f ≡ fault (read bytes) → ¬ (f .number ≡ 0) → Answered bytes output work (unread output work f)
-  answered-refused f e n = answered _ (of-file-refused _ _ bytes f e n)
+  answered-refused f e n = met _ (of-file-refused _ _ bytes f e n)
 
   module _ (counts : CaseCounts) (first second skeleton points : List ℕ) (lists : Lists (read bytes) counts first second skeleton points) where
     -- the call that is made
@@ -46,7 +46,7 @@ module _ (bytes output work : List ℕ) where
     made-is = rw (lists-modulus lists, lists .first-list .is, lists .second-list .is)
 
     pub answered-asked : (r : QuotientResult) → counts .fault .number ≡ 0 → Quotient made r → Answered bytes output work r
-    answered-asked r z q = answered r (of-file-asked _ _ bytes (counts .fault) (lists-fault lists) z r (rw made-is at q))
+    answered-asked r z q = met r (of-file-asked _ _ bytes (counts .fault) (lists-fault lists) z r (rw made-is at q))
 
   pub answered-determined : (r q : QuotientResult) → Answered bytes output work r → Answered bytes output work q → r ≡ q
   answered-determined r q x y = of-file-determined _ _ bytes (λ o. quotient-determined (call output work o)) r q (x .is) (y .is)

@@ -24,7 +24,8 @@ returns-3 : tie.Need-returns-3
 returns-3 c =
     let t = c .before .before .before .before .before in
     let d = t .before .before .before .before in
-    rw (bytes-after (d .before .before .before .before .before .before .args .bytes .now) (d .read-one-into .ensures) (t .before .before .if1 .left) (t .if2 .left)) (c .nothing .ensures)
+    let bytes = d .before .before .before .before .before .before .args .bytes .now in
+    rw (bytes-after bytes (d .read-one-into .ensures) (t .before .before .if1 .left) (t .if2 .left)) (c .nothing .ensures)
 
 pub read-into-spec : {M : Type 1} → statement M
 read-into-spec =

@@ -52,7 +52,13 @@ returns-2 c =
     let d = t .before in
     let g = d .before .before .before .loop .inv .given in
     rw (ended (d .before .before .before .loop .inv) (d .before .before .loop-test .taken) (d .fault-of .ensures) (t .if1 .left) (c .if2 .taken), c .if2 .taken)
-    (record { record-is = rw (g .record-is); first-is = g .first-is; second-is = g .second-is; skeleton-is = g .skeleton-is; points-is = g .points-is })
+    (record {
+      record-is = rw (g .record-is);
+      first-is = g .first-is;
+      second-is = g .second-is;
+      skeleton-is = g .skeleton-is;
+      points-is = g .points-is;
+    })
 
 with-record-requires : tie.Need-with-record-requires Inv-loop μ-loop
 with-record-requires c κs =
@@ -72,20 +78,30 @@ add-at c =
     let t = c .before .before .before .before .before .before in
     let d = t .before .before in
     let start = d .before .before .before .before .before .before .before .before .before .before in
-    omega (arith, fits-in (d .before .before .before .loop .inv) (d .before .before .loop-test .taken) (d .fault-of .ensures) (t .before .if1 .left), c .body .ensures, start .good .0)
+    omega (
+      arith,
+      fits-in (d .before .before .before .loop .inv) (d .before .before .loop-test .taken) (d .fault-of .ensures) (t .before .if1 .left),
+      c .body .ensures,
+      start .good .0,
+    )
 
 loop-less : tie.Need-loop-less Inv-loop μ-loop
 loop-less c =
     let t = c .before .before .before .before .before .before in
     let d = t .before .before in
-    omega (arith, fits-in (d .before .before .before .loop .inv) (d .before .before .loop-test .taken) (d .fault-of .ensures) (t .before .if1 .left), c .body .ensures)
+    omega (
+      arith,
+      fits-in (d .before .before .before .loop .inv) (d .before .before .loop-test .taken) (d .fault-of .ensures) (t .before .if1 .left),
+      c .body .ensures,
+    )
 
 loop-again : tie.Need-loop-again Inv-loop μ-loop
 loop-again c =
     let t = c .before .before .before .before .before .before in
     let d = t .before .before in
     rw (c .body .ensures)
-    (carried (d .before .before .before .loop .inv) (d .before .before .loop-test .taken) (d .fault-of .ensures) (t .before .if1 .left) (t .if2 .left) (c .before .with-record .ensures))
+    (carried (d .before .before .before .loop .inv) (d .before .before .loop-test .taken) (d .fault-of .ensures) (t .before .if1 .left)
+    (t .if2 .left) (c .before .with-record .ensures))
 
 nothing-requires-3 : tie.Need-nothing-requires-3 Inv-loop μ-loop
 nothing-requires-3 c κs = search needs

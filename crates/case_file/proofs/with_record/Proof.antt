@@ -17,22 +17,30 @@ is-point c =
 number2-requires : tie.Need-number2-requires
 number2-requires c κs = rw (c .match .keys1) at (c .before .before .pre .whole)
 
-first-place : (c : tie.After-put-term-arg) → Place first-kind (c .before .before .before .args .bytes .now) (c .before .before .before .args .at) (c .before .before .before .args .counts .first)
+first-place : (c : tie.After-put-term-arg)
+    → Place first-kind (c .before .before .before .args .bytes .now) (c .before .before .before .args .at)
+    (c .before .before .before .args .counts .first)
 first-place c =
     let p = c .before .before .before .pre in
     record { whole = rw (c .before .match .keys2) at (p .whole); room = omega (arith, rw (c .before .match .keys2) at (p .room)) }
 
-second-place : (c : tie.After-put-term-arg2) → Place first-kind (c .before .before .before .args .bytes .now) (c .before .before .before .args .at) (c .before .before .before .args .counts .second)
+second-place : (c : tie.After-put-term-arg2)
+    → Place first-kind (c .before .before .before .args .bytes .now) (c .before .before .before .args .at)
+    (c .before .before .before .args .counts .second)
 second-place c =
     let p = c .before .before .before .pre in
     record { whole = rw (c .before .match .keys3) at (p .whole); room = omega (arith, rw (c .before .match .keys3) at (p .room)) }
 
-skeleton-place : (c : tie.After-put-key-arg) → Place skeleton-kind (c .before .before .before .args .bytes .now) (c .before .before .before .args .at) (c .before .before .before .args .counts .skeleton)
+skeleton-place : (c : tie.After-put-key-arg)
+    → Place skeleton-kind (c .before .before .before .args .bytes .now) (c .before .before .before .args .at)
+    (c .before .before .before .args .counts .skeleton)
 skeleton-place c =
     let p = c .before .before .before .pre in
     record { whole = rw (c .before .match .keys4) at (p .whole); room = omega (arith, rw (c .before .match .keys4) at (p .room)) }
 
-points-place : (c : tie.After-put-point-arg) → Place point-kind (c .before .before .before .args .bytes .now) (c .before .before .before .args .at) (c .before .before .before .args .counts .points)
+points-place : (c : tie.After-put-point-arg)
+    → Place point-kind (c .before .before .before .args .bytes .now) (c .before .before .before .args .at)
+    (c .before .before .before .args .counts .points)
 points-place c =
     let p = c .before .before .before .pre in
     record { whole = rw (is-point (c .before)) at (p .whole); room = omega (arith, p .threes, rw (is-point (c .before)) at (p .room)) }
@@ -51,19 +59,25 @@ put-point-requires c κs = points-place c
 
 returns : tie.Need-returns
 unfolding added flat numbers
-returns c k g fresh =
+returns c case g fresh =
     let e = c .before .match .keys1 in
     rw e
-    (record { record-is = rw (g .record-is, rw e at (fresh e), c .number2 .ensures); first-is = g .first-is; second-is = g .second-is; skeleton-is = g .skeleton-is; points-is = g .points-is })
+    (record {
+      record-is = rw (g .record-is, rw e at (fresh e), c .number2 .ensures);
+      first-is = g .first-is;
+      second-is = g .second-is;
+      skeleton-is = g .skeleton-is;
+      points-is = g .points-is;
+    })
 
 returns-2 : tie.Need-returns-2
 unfolding added
-returns-2 c k g fresh =
-    let e : c .before .before .before .before .args .counts .first ≡ length (flat (k first-kind)) = rw (g .record-is) in
+returns-2 c case g fresh =
+    let e : c .before .before .before .before .args .counts .first ≡ length (flat (case first-kind)) = rw (g .record-is) in
     rw (c .before .before .match .keys2)
     (record {
-      record-is = rw (put-counted (first-place (c .before)) (c .put-term .ensures) (k first-kind) e, g .record-is);
-      first-is = put-stored (first-place (c .before)) (c .put-term .ensures) (k first-kind) e (g .first-is);
+      record-is = rw (put-counted (first-place (c .before)) (c .put-term .ensures) (case first-kind) e, g .record-is);
+      first-is = put-stored (first-place (c .before)) (c .put-term .ensures) (case first-kind) e (g .first-is);
       second-is = g .second-is;
       skeleton-is = g .skeleton-is;
       points-is = g .points-is;
@@ -71,41 +85,41 @@ returns-2 c k g fresh =
 
 returns-3 : tie.Need-returns-3
 unfolding added
-returns-3 c k g fresh =
-    let e : c .before .before .before .before .args .counts .second ≡ length (flat (k second-kind)) = rw (g .record-is) in
+returns-3 c case g fresh =
+    let e : c .before .before .before .before .args .counts .second ≡ length (flat (case second-kind)) = rw (g .record-is) in
     rw (c .before .before .match .keys3)
     (record {
-      record-is = rw (put-counted (second-place (c .before)) (c .put-term2 .ensures) (k second-kind) e, g .record-is);
+      record-is = rw (put-counted (second-place (c .before)) (c .put-term2 .ensures) (case second-kind) e, g .record-is);
       first-is = g .first-is;
-      second-is = put-stored (second-place (c .before)) (c .put-term2 .ensures) (k second-kind) e (g .second-is);
+      second-is = put-stored (second-place (c .before)) (c .put-term2 .ensures) (case second-kind) e (g .second-is);
       skeleton-is = g .skeleton-is;
       points-is = g .points-is;
     })
 
 returns-4 : tie.Need-returns-4
 unfolding added
-returns-4 c k g fresh =
-    let e : c .before .before .before .before .args .counts .skeleton ≡ length (flat (k skeleton-kind)) = rw (g .record-is) in
+returns-4 c case g fresh =
+    let e : c .before .before .before .before .args .counts .skeleton ≡ length (flat (case skeleton-kind)) = rw (g .record-is) in
     rw (c .before .before .match .keys4)
     (record {
-      record-is = rw (put-counted (skeleton-place (c .before)) (c .put-key .ensures) (k skeleton-kind) e, g .record-is);
+      record-is = rw (put-counted (skeleton-place (c .before)) (c .put-key .ensures) (case skeleton-kind) e, g .record-is);
       first-is = g .first-is;
       second-is = g .second-is;
-      skeleton-is = put-stored (skeleton-place (c .before)) (c .put-key .ensures) (k skeleton-kind) e (g .skeleton-is);
+      skeleton-is = put-stored (skeleton-place (c .before)) (c .put-key .ensures) (case skeleton-kind) e (g .skeleton-is);
       points-is = g .points-is;
     })
 
 returns-5 : tie.Need-returns-5
 unfolding added
-returns-5 c k g fresh =
-    let e : c .before .before .before .before .args .counts .points ≡ length (flat (k point-kind)) = rw (g .record-is) in
+returns-5 c case g fresh =
+    let e : c .before .before .before .before .args .counts .points ≡ length (flat (case point-kind)) = rw (g .record-is) in
     rw (is-point (c .before .before))
     (record {
-      record-is = rw (put-counted (points-place (c .before)) (c .put-point .ensures) (k point-kind) e, g .record-is);
+      record-is = rw (put-counted (points-place (c .before)) (c .put-point .ensures) (case point-kind) e, g .record-is);
       first-is = g .first-is;
       second-is = g .second-is;
       skeleton-is = g .skeleton-is;
-      points-is = put-stored (points-place (c .before)) (c .put-point .ensures) (k point-kind) e (g .points-is);
+      points-is = put-stored (points-place (c .before)) (c .put-point .ensures) (case point-kind) e (g .points-is);
     })
 
 pub with-record-spec : {M : Type 1} → statement M

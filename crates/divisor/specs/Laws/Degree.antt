@@ -11,7 +11,8 @@ use Rattle.algebra.specs.Divides.{div-top, div-to, top-le}
 use Rattle.algebra.specs.Four.{Exponents}
 use Rattle.algebra.specs.Field.{Field, domain}
 use Rattle.algebra.specs.Monomial.{polynomial}
-use Rattle.algebra.specs.Evaluate.{at-yzw, value-null}
+use Rattle.algebra.specs.Evaluation.{value-null}
+use Rattle.algebra.specs.Evaluate.{at-yzw}
 use Rattle.algebra.specs.GoodValue.{divides-value, divisor-keeps-degree}
 use Rattle.poly.specs.Terms.{Polynomial}
 use Rattle.poly.specs.Value.{Point, value, x-degree}

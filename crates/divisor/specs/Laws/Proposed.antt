@@ -4,9 +4,9 @@ use mathlib.Core.Logic.{_⊎_, inl, inr}
 use mathlib.Core.List.{List, [], _∷_, map}
 use Rattle.algebra.specs.Ring.{CommRing, zero-add}
 use Rattle.algebra.specs.Series.{S4}
-use Rattle.algebra.specs.Four.{Exponents, _≺_, below-irreflexive, coef}
+use Rattle.algebra.specs.Four.{Exponents, _≺_, same-exponents, below-irreflexive, coef}
 use Rattle.algebra.specs.Field.{Field}
-use Rattle.algebra.specs.Monomial.{Term, polynomial, monomial-at, monomial-off, same-exponents, coef-ext}
+use Rattle.algebra.specs.Monomial.{Term, polynomial, monomial-at, monomial-off, coef-ext}
 use Rattle.poly.specs.Terms.{Polynomial}
 use Rattle.divisor.specs.Demands.{Proposed, OnlyProposed}
 
@@ -27,7 +27,7 @@ module _ (K : Field) where
   infixl 60 _+_
   proposed? : (ms : List Exponents) (e : Exponents) → Dec (Proposed K ms e)
   proposed? [] e = no λ p. p
-  proposed? (m ∷ ms) e = go (same-exponents R m e) (proposed? ms e)
+  proposed? (m ∷ ms) e = go (same-exponents m e) (proposed? ms e)
     where
       go : Dec (m ≡ e) → Dec (Proposed K ms e) → Dec ((m ≡ e) ⊎ Proposed K ms e)
       go (yes q) t = yes (inl q)

@@ -1,12 +1,11 @@
 -- The image of two polynomials at a point, over any field: it has the degree that it says, there is one at most, and where the second
 -- polynomial's value is 0 it is the first one's value made monic. Assumes nothing.
-use mathlib.Core.Path.{_≡_, sym, subst}
+use mathlib.Core.Path.{_≡_}
 use Prim.Native.Nat.{ℕ}
 use Rattle.algebra.specs.Series.{Seq, SeriesR}
 use Rattle.algebra.specs.Degree.{Top}
 use Rattle.algebra.specs.Field.{Field}
-use Rattle.algebra.specs.GreatestCommon.{GreatestCommon, greatest-zero, greatest-first}
-use Rattle.algebra.specs.Univariate.{Poly, PolyD, monic-top, over-lead, over-lead-monic, over-lead-associate, monic-greatest-unique}
+use Rattle.algebra.specs.Univariate.{monic-top, over-lead, over-lead-monic, over-lead-greatest, monic-greatest-unique}
 use Rattle.poly.specs.Terms.{Polynomial}
 use Rattle.poly.specs.Value.{Point, value, x-degree}
 use Rattle.poly.specs.Image.{Bad, Image}
@@ -33,9 +32,5 @@ module _ (K : Field) (A B : Polynomial K) where
       let n = x-degree R A in
       let a = value R A at in
       let top = good-top at w (i .good) in
-      let alone : GreatestCommon (Poly K) (PolyD K) a (SeriesR R .𝟘) (over-lead K n a) =
-      greatest-first (Poly K) (PolyD K) (over-lead K n a) a (SeriesR R .𝟘) (over-lead K n a)
-      (record { to = over-lead-associate K n a top .from; from = over-lead-associate K n a top .to })
-      (greatest-zero (Poly K) (PolyD K) (over-lead K n a)) in
       monic-greatest-unique K e n a (value R B at) U (over-lead K n a) (i .monic) (over-lead-monic K n a top) (i .greatest)
-      (subst (λ (b : Seq R). GreatestCommon (Poly K) (PolyD K) a b (over-lead K n a)) (sym z) alone)
+      (over-lead-greatest K n a (value R B at) top z)

@@ -1,9 +1,8 @@
 -- The key of a monomial and its exponents are each other's; the order of keys is that of the exponents; keys add where no exponent passes 7. Assumes nothing.
 use mathlib.Core.Path.{_≡_, sym, _∙_, ap, ap₂}
-use mathlib.Core.Logic.{_⊎_, inl, inr}
 use Prim.Native.Nat.{ℕ, _+_, _*_, _/_, _%_, _<_}
 use native.Mathlib.Omega.{arith}
-use Rattle.algebra.specs.Four.{Exponents, _⊞_, _≺_, by-x, by-y, by-z, by-w, exponents-path, compare}
+use Rattle.algebra.specs.Four.{Exponents, _⊞_, _≺_, by-x, by-y, by-z, by-w, exponents-path, Order, lower, equal, higher, compare}
 use Rattle.poly.specs.Keys.{key, exponents}
 
 split-8 : (k : ℕ) → k / 8 ≡ 8 * (k / 64) + k / 8 % 8
@@ -70,10 +69,10 @@ key-order-of j k l =
 pub exponents-order : (j k : ℕ) → j < k → exponents j ≺ exponents k
 exponents-order j k l = go (compare (exponents j) (exponents k))
   where
-    go : (exponents j ≺ exponents k) ⊎ ((exponents j ≡ exponents k) ⊎ (exponents k ≺ exponents j)) → exponents j ≺ exponents k
-    go (inl h) = h
-    go (inr (inl e)) = absurd (let h = exponents-injective j k e in omega arith)
-    go (inr (inr h)) = absurd (let m = key-order-of k j h in omega arith)
+    go : Order (exponents j) (exponents k) → exponents j ≺ exponents k
+    go (lower h) = h
+    go (equal e) = absurd (let h = exponents-injective j k e in omega arith)
+    go (higher h) = absurd (let m = key-order-of k j h in omega arith)
 
 pub key-add : (e f : Exponents) → key (e ⊞ f) ≡ key e + key f
 key-add e f = omega arith

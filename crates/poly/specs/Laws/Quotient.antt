@@ -40,7 +40,7 @@ module _ (p : ℕ) (P : Prime p) where
       right-lists-equal p P qs rs (a .right) (b .right)
       (cancel (S4 (Modulo p P .ring)) (D4 (Modulo p P .ring) (domain (Modulo p P))) (poly p P qs) (poly p P rs) (poly p P (u ∷ us))
       (poly-finite p P qs) (poly-finite p P rs) (poly-finite p P (u ∷ us))
-      (lead-nonzero (Modulo p P .ring) (domain (Modulo p P)) (exponents (key-of u)) (poly p P (u ∷ us)) (poly-lead p P u us keys h))
+      (lead-nonzero (Modulo p P .ring) (exponents (key-of u)) (poly p P (u ∷ us)) (poly-lead p P u us keys h))
       (a .product ∙ sym (b .product)))
 
 -- a call by its parts

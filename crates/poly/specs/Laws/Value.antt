@@ -11,7 +11,8 @@ use Rattle.algebra.specs.Divides.{mono-fin}
 use Rattle.algebra.specs.Four.{D4}
 use Rattle.algebra.specs.Field.{Field, domain}
 use Rattle.algebra.specs.Monomial.{polynomial, polynomial-fin, monomial, monomial-fin}
-use Rattle.algebra.specs.Evaluate.{Evaluation, at-point, at-point-mono}
+use Rattle.algebra.specs.Evaluation.{Evaluation}
+use Rattle.algebra.specs.Evaluate.{at-point, at-point-mono}
 use Rattle.poly.specs.Terms.{Polynomial}
 use Rattle.poly.specs.Value.{Point, value}
 

@@ -9,10 +9,12 @@ use Rattle.case_file.proofs.Tests.{fails-low, fails-high, fails-order, 
 use Rattle.case_file.proofs.record.fault_of.Statement.{statement}
 use Rattle.case_file.proofs.record.fault_of.Tie as tie
 
-in-order : (c : tie.Else3) → follows (c .before .before .before .before .args .before) (c .before .before .before .before .args .kind) ≡ true
+in-order : (c : tie.Else3)
+    → follows (c .before .before .before .before .args .before) (c .before .before .before .before .args .kind) ≡ true
 in-order c = sym (c .before .follows .ensures) ∙ not-false _ (c .if3 .left)
 
-is-whole : (c : tie.Else4) → body (c .before .before .before .before .before .before .args .kind) ≤ c .before .before .before .before .before .before .args .left
+is-whole : (c : tie.Else4)
+    → body (c .before .before .before .before .before .before .args .kind) ≤ c .before .before .before .before .before .before .args .left
 is-whole c = rw (c .before .body .ensures) at (c .if4 .left)
 
 returns : tie.Need-returns
@@ -25,13 +27,15 @@ follows-requires : tie.Need-follows-requires
 follows-requires c κs = search needs
 
 returns-3 : tie.Need-returns-3
-returns-3 c = fails-order _ _ _ _ (c .before .before .before .if1 .left) (c .before .before .if2 .left) (sym (c .before .follows .ensures) ∙ not-true _ (c .if3 .taken))
+returns-3 c = fails-order _ _ _ _ (c .before .before .before .if1 .left) (c .before .before .if2 .left)
+    (sym (c .before .follows .ensures) ∙ not-true _ (c .if3 .taken))
 
 body-requires : tie.Need-body-requires
 body-requires c κs = search needs
 
 returns-4 : tie.Need-returns-4
-returns-4 c = fails-whole _ _ _ _ (c .before .before .before .before .before .if1 .left) (c .before .before .before .before .if2 .left) (in-order (c .before .before)) (rw (c .before .body .ensures) at (c .if4 .taken))
+returns-4 c = fails-whole _ _ _ _ (c .before .before .before .before .before .if1 .left) (c .before .before .before .before .if2 .left)
+    (in-order (c .before .before)) (rw (c .before .body .ensures) at (c .if4 .taken))
 
 mul-if5 : tie.Need-mul-if5
 mul-if5 c = search needs
@@ -43,10 +47,14 @@ held-requires : tie.Need-held-requires
 held-requires c κs = search needs
 
 returns-5 : tie.Need-returns-5
-returns-5 c = fails-limit _ _ _ _ (c .before .before .before .before .before .before .before .if1 .left) (c .before .before .before .before .before .before .if2 .left) (in-order (c .before .before .before .before)) (is-whole (c .before .before)) (rw (c .before .held .ensures) at (c .if5 .taken))
+returns-5 c = fails-limit _ _ _ _ (c .before .before .before .before .before .before .before .if1 .left)
+    (c .before .before .before .before .before .before .if2 .left) (in-order (c .before .before .before .before)) (is-whole (c .before .before))
+    (rw (c .before .held .ensures) at (c .if5 .taken))
 
 returns-6 : tie.Need-returns-6
-returns-6 c = passes _ _ _ _ (c .before .before .before .before .before .before .before .if1 .left) (c .before .before .before .before .before .before .if2 .left) (in-order (c .before .before .before .before)) (is-whole (c .before .before)) (rw (c .before .held .ensures) at (c .if5 .left))
+returns-6 c = passes _ _ _ _ (c .before .before .before .before .before .before .before .if1 .left)
+    (c .before .before .before .before .before .before .if2 .left) (in-order (c .before .before .before .before)) (is-whole (c .before .before))
+    (rw (c .before .held .ensures) at (c .if5 .left))
 
 pub fault-of-spec : {M : Type 1} → statement M
 fault-of-spec =

@@ -52,7 +52,14 @@ returns : tie.Need-returns
 returns c =
     let a = c .before .before .before .before .args in
     record {
-      stored = rw (three-numbers (a .bytes .now) (a .at), c .before .before .number2 .ensures, c .before .number22 .ensures, c .number23 .ensures, add-one (a .n), add-two (a .n));
+      stored = rw (
+        three-numbers (a .bytes .now) (a .at),
+        c .before .before .number2 .ensures,
+        c .before .number22 .ensures,
+        c .number23 .ensures,
+        add-one (a .n),
+        add-two (a .n),
+      );
       counted = refl;
     }
 
