@@ -1,6 +1,6 @@
 // The candidate of a case file.
 ghost use mathlib.Core.Path.{_≡_};
-ghost use Rattle.divisor.specs.Candidate.{refusal};
+ghost use Rattle.divisor.specs.Candidate.{candidate-result, refusal};
 ghost use Rattle.console.specs.CandidateOfFile.{Answered};
 use crate::input;
 use crate::print;
@@ -26,7 +26,7 @@ fn refused(fault: Fault) -> CandidateRecord
 
 // Reads the case and asks for its candidate.
 pub fn candidate_of(bytes: &[u8], out: &mut [Term], work: &mut [Number]) -> CandidateRecord
-    ensures { λ r. ⌜ Answered (now (bytes .entry)) (now (out .entry)) (now (work .entry)) (record { found = r; output = now (out .exit); work = now (work .exit) }) ⌝ }
+    ensures { λ r. ⌜ Answered (now (bytes .entry)) (now (out .entry)) (now (work .entry)) (candidate-result r (now (out .exit)) (now (work .exit))) ⌝ }
 {
     let mut first = [0; case_file::TERMS];
     let mut second = [0; case_file::TERMS];

@@ -22,6 +22,7 @@ use Rattle.poly.specs.Room.{work-room, written, cleared}
 use Rattle.divisor.specs.declared.CandidateRecord.{CandidateRecord}
 use Rattle.divisor.specs.Rule.{Answer}
 
+-- what is lent
 pub record Call : Type 0 where
   pub modulus : ℕ
   pub first-list : List ℕ
@@ -30,6 +31,11 @@ pub record Call : Type 0 where
   pub points : List ℕ
   pub output : List ℕ
   pub work : List ℕ
+
+-- a call by its parts
+abbrev pub candidate-call : ℕ → List ℕ → List ℕ → List ℕ → List ℕ → List ℕ → List ℕ → Call
+candidate-call p A B skeleton points output work =
+    record { modulus = p; first-list = A; second-list = B; skeleton = skeleton; points = points; output = output; work = work }
 
 abbrev pub most-keys : ℕ
 most-keys = 32
@@ -80,10 +86,14 @@ module _ (c : Call) (listed : Listed (c .modulus)) where
   abbrev pub lent-points : List (Point (Numbers .ring))
   lent-points = points-of (c .modulus) prime (c .points)
 
+-- what is answered, and the output and the work room afterwards
 pub record Result : Type 0 where
   pub found : CandidateRecord
   pub output : List ℕ
   pub work : List ℕ
+
+abbrev pub candidate-result : CandidateRecord → List ℕ → List ℕ → Result
+candidate-result found output work = record { found = found; output = output; work = work }
 
 -- the record of a refusal by the table
 abbrev pub refusal : Fault → CandidateRecord

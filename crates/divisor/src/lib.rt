@@ -1,5 +1,5 @@
 // Layer 3, the candidate: the common divisor that images and equations fix, or a refusal.
-ghost use Rattle.divisor.specs.Candidate.{table as table-of, Candidate};
+ghost use Rattle.divisor.specs.Candidate.{candidate-call, candidate-result, table as table-of, Candidate};
 ghost use Rattle.divisor.specs.Models.Verdict.{NoGoodPoint};
 ghost use Rattle.field.specs.Refusal.{Passes};
 ghost use Rattle.poly.specs.Room.{work-room};
@@ -55,8 +55,8 @@ fn answer(
     out: &mut [Term],
     work: &mut [Number],
 ) -> CandidateRecord
-    requires { ⌜ Passes (table-of (record { modulus = p; first-list = now first; second-list = now second; skeleton = now skeleton; points = now points; output = now out; work = now work })) ⌝ }
-    ensures { λ r. ⌜ Candidate (record { modulus = p; first-list = now (first .entry); second-list = now (second .entry); skeleton = now (skeleton .entry); points = now (points .entry); output = now (out .entry); work = now (work .entry) }) (record { found = r; output = now (out .exit); work = now (work .exit) }) ⌝ }
+    requires { ⌜ Passes (table-of (candidate-call p (now first) (now second) (now skeleton) (now points) (now out) (now work))) ⌝ }
+    ensures { λ r. ⌜ Candidate (candidate-call p (now (first .entry)) (now (second .entry)) (now (skeleton .entry)) (now (points .entry)) (now (out .entry)) (now (work .entry))) (candidate-result r (now (out .exit)) (now (work .exit))) ⌝ }
 {
     let n = points.len() / COORDINATES;
     let sizes = points::look(p, first, second, points, work);
@@ -90,7 +90,7 @@ pub fn candidate(
     out: &mut [Term],
     work: &mut [Number],
 ) -> CandidateRecord
-    ensures { λ r. ⌜ Candidate (record { modulus = p; first-list = now (first .entry); second-list = now (second .entry); skeleton = now (skeleton .entry); points = now (points .entry); output = now (out .entry); work = now (work .entry) }) (record { found = r; output = now (out .exit); work = now (work .exit) }) ⌝ }
+    ensures { λ r. ⌜ Candidate (candidate-call p (now (first .entry)) (now (second .entry)) (now (skeleton .entry)) (now (points .entry)) (now (out .entry)) (now (work .entry))) (candidate-result r (now (out .exit)) (now (work .exit))) ⌝ }
 {
     let fault = checks::candidate_fault(p, first, second, skeleton, points, out.len(), work.len());
     if fault.number != 0 {

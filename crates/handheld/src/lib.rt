@@ -7,9 +7,9 @@ ghost use Rattle.field.specs.Refusal.{Tested};
 ghost use Rattle.field.specs.Contract.{element};
 ghost use Rattle.field.specs.Arithmetic.{AskSum, AskDifference, AskProduct, AskInverse};
 ghost use Rattle.poly.specs.LeadingPart.{of-list, Leading};
-ghost use Rattle.poly.specs.Quotient.{Quotient};
-ghost use Rattle.poly.specs.ImageCall.{ImageAnswer};
-ghost use Rattle.divisor.specs.Candidate.{Candidate};
+ghost use Rattle.poly.specs.Quotient.{quotient-call, Quotient};
+ghost use Rattle.poly.specs.ImageCall.{image-call, ImageAnswer};
+ghost use Rattle.divisor.specs.Candidate.{candidate-call, Candidate};
 ghost use Rattle.case_file.specs.Reading.{read};
 ghost use Rattle.case_file.specs.Handed.{contents};
 ghost use Rattle.handheld.specs.Layout.{Laid, of-fault, of-answer, of-quotient, of-image, of-candidate, of-contents};
@@ -34,7 +34,7 @@ pub extern "C" fn balungkiro_candidate(
     work: &mut [Number],
     numbers: &mut [usize; 7],
 )
-    ensures { λ _. ⌜ Laid of-candidate (Candidate (record { modulus = modulus; first-list = now (first .entry); second-list = now (second .entry); skeleton = now (skeleton .entry); points = now (points .entry); output = now (out .entry); work = now (work .entry) })) (record { numbers = now (numbers .exit); output = now (out .exit); work = now (work .exit) }) ⌝ }
+    ensures { λ _. ⌜ Laid of-candidate (Candidate (candidate-call modulus (now (first .entry)) (now (second .entry)) (now (skeleton .entry)) (now (points .entry)) (now (out .entry)) (now (work .entry)))) (record { numbers = now (numbers .exit); output = now (out .exit); work = now (work .exit) }) ⌝ }
 {
     let found = divisor::candidate(modulus, first, second, skeleton, points, out, work);
     *numbers = [
@@ -58,7 +58,7 @@ pub extern "C" fn balungkiro_quotient(
     work: &mut [Number],
     numbers: &mut [usize; 3],
 )
-    ensures { λ _. ⌜ Laid of-quotient (Quotient (record { modulus = modulus; first-list = now (first .entry); second-list = now (second .entry); output = now (out .entry); work = now (work .entry) })) (record { numbers = now (numbers .exit); output = now (out .exit); work = now (work .exit) }) ⌝ }
+    ensures { λ _. ⌜ Laid of-quotient (Quotient (quotient-call modulus (now (first .entry)) (now (second .entry)) (now (out .entry)) (now (work .entry)))) (record { numbers = now (numbers .exit); output = now (out .exit); work = now (work .exit) }) ⌝ }
 {
     let found = poly::quotient::quotient(modulus, first, second, out, work);
     *numbers = [found.fault.number as usize, found.fault.place, found.terms];
@@ -74,7 +74,7 @@ pub extern "C" fn balungkiro_image(
     coefficients: &mut Eight,
     numbers: &mut [usize; 3],
 )
-    ensures { λ _. ⌜ Laid of-image (ImageAnswer (record { modulus = modulus; first-list = now (first .entry); second-list = now (second .entry); point = now (point .entry) })) (record { numbers = now (numbers .exit); coefficients = now (coefficients .exit) }) ⌝ }
+    ensures { λ _. ⌜ Laid of-image (ImageAnswer (image-call modulus (now (first .entry)) (now (second .entry)) (now (point .entry)))) (record { numbers = now (numbers .exit); coefficients = now (coefficients .exit) }) ⌝ }
 {
     let found = poly::image::image(modulus, first, second, point);
     let u = found.coefficients;

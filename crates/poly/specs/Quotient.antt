@@ -26,6 +26,10 @@ pub record QuotientCall : Type 0 where
   pub output : List ℕ
   pub work : List ℕ
 
+-- a call by its parts
+abbrev pub quotient-call : ℕ → List ℕ → List ℕ → List ℕ → List ℕ → QuotientCall
+quotient-call p A B output work = record { modulus = p; first-list = A; second-list = B; output = output; work = work }
+
 -- the refusals of the inputs, tested in this order; a quotient has at most as many terms as there are keys
 abbrev pub quotient-table : QuotientCall → List Line
 quotient-table c =
@@ -44,6 +48,9 @@ pub record QuotientResult : Type 0 where
   pub found : QuotientRecord
   pub output : List ℕ
   pub work : List ℕ
+
+abbrev pub quotient-result : QuotientRecord → List ℕ → List ℕ → QuotientResult
+quotient-result found output work = record { found = found; output = output; work = work }
 
 -- the promise of the quotient service
 pub data Quotient (c : QuotientCall) : QuotientResult → Type 0 where

@@ -2,7 +2,7 @@
 ghost use mathlib.Core.List.{_++_};
 ghost use Rattle.field.specs.Refusal.{Passes, Tested};
 ghost use Rattle.poly.specs.Lists.{of-lists};
-ghost use Rattle.poly.specs.Quotient.{quotient-table, Quotient};
+ghost use Rattle.poly.specs.Quotient.{quotient-call, quotient-result, quotient-table, Quotient};
 ghost use Rattle.poly.specs.Models.WorkRoom.{CanGather, Gathered, of-rooms};
 use crate::QuotientRecord;
 use crate::Term;
@@ -54,8 +54,8 @@ fn exact(
     out: &mut [Term],
     work: &mut [Number],
 ) -> QuotientRecord
-    requires { ⌜ Passes (quotient-table (record { modulus = p; first-list = now first; second-list = now second; output = now out; work = now work })) ⌝ }
-    ensures { λ r. ⌜ Quotient (record { modulus = p; first-list = now (first .entry); second-list = now (second .entry); output = now (out .entry); work = now (work .entry) }) (record { found = r; output = now (out .exit); work = now (work .exit) }) ⌝ }
+    requires { ⌜ Passes (quotient-table (quotient-call p (now first) (now second) (now out) (now work))) ⌝ }
+    ensures { λ r. ⌜ Quotient (quotient-call p (now (first .entry)) (now (second .entry)) (now (out .entry)) (now (work .entry))) (quotient-result r (now (out .exit)) (now (work .exit))) ⌝ }
 {
     crate::division::clear(WORK_ROOM, work);
     let whole = crate::division::divide(p, first, second, work);
@@ -82,7 +82,7 @@ pub fn quotient(
     out: &mut [Term],
     work: &mut [Number],
 ) -> QuotientRecord
-    ensures { λ r. ⌜ Quotient (record { modulus = p; first-list = now (first .entry); second-list = now (second .entry); output = now (out .entry); work = now (work .entry) }) (record { found = r; output = now (out .exit); work = now (work .exit) }) ⌝ }
+    ensures { λ r. ⌜ Quotient (quotient-call p (now (first .entry)) (now (second .entry)) (now (out .entry)) (now (work .entry))) (quotient-result r (now (out .exit)) (now (work .exit))) ⌝ }
 {
     let fault = quotient_fault(p, first, second, out.len(), work.len());
     if fault.number != 0 {

@@ -1,4 +1,5 @@
 // Reads a case file from standard input and prints A over B: `0 0` and a line for each term, or number and place.
+ghost use Rattle.poly.specs.Quotient.{quotient-result};
 ghost use Rattle.quotient.specs.QuotientOfFile.{Answered};
 use console::input;
 use console::print;
@@ -10,7 +11,7 @@ use poly::division::WORK_ROOM;
 
 // Reads the case and asks for its quotient.
 fn quotient_of(bytes: &[u8], out: &mut [Term], work: &mut [Number]) -> QuotientRecord
-    ensures { λ r. ⌜ Answered (now (bytes .entry)) (now (out .entry)) (now (work .entry)) (record { found = r; output = now (out .exit); work = now (work .exit) }) ⌝ }
+    ensures { λ r. ⌜ Answered (now (bytes .entry)) (now (out .entry)) (now (work .entry)) (quotient-result r (now (out .exit)) (now (work .exit))) ⌝ }
 {
     let mut first = [0; case_file::TERMS];
     let mut second = [0; case_file::TERMS];

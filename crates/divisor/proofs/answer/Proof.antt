@@ -5,7 +5,7 @@ use Prim.Native.Nat.{_+_, _/_, _≤_}
 use lib.ListN.{length}
 use Rattle.poly.specs.Room.{work-room}
 use Rattle.poly.specs.Laws.Room.{zeroed-length}
-use Rattle.divisor.specs.Candidate.{Call}
+use Rattle.divisor.specs.Candidate.{Call, candidate-call}
 use Rattle.divisor.specs.Laws.Passed.{look-ready}
 use Rattle.divisor.specs.Laws.KeptPoints.{within, room-after, SomeGood, ready-equations, count-small, counts-fit}
 use Rattle.divisor.specs.Laws.Answer.{nothing-good, ready-table, ready-verdict, answered-so}
@@ -17,7 +17,7 @@ use Rattle.divisor.proofs.answer.Tie as tie
 abbrev question : tie.Start → Call
 question s =
     let a = s .args in
-    record { modulus = a .p; first-list = a .first .now; second-list = a .second .now; skeleton = a .skeleton .now; points = a .points .now; output = a .out .now; work = a .work .now }
+    candidate-call (a .p) (a .first .now) (a .second .now) (a .skeleton .now) (a .points .now) (a .out .now) (a .work .now)
 
 -- after the look at the points: where the routine began
 abbrev start : tie.After-look → tie.Start

@@ -1,6 +1,6 @@
 -- `divisor::candidate` meets its contract: the fault of the table, or the answer. Assumes nothing.
 use Rattle.field.specs.RefusalLaws.{tested-refuses, tested-passes}
-use Rattle.divisor.specs.Candidate.{Call, table, refused}
+use Rattle.divisor.specs.Candidate.{Call, candidate-call, table, refused}
 use borrow.Author.Needs.{needs}
 use Rattle.divisor.proofs.candidate.Statement.{statement}
 use Rattle.divisor.proofs.candidate.Tie as tie
@@ -9,7 +9,7 @@ use Rattle.divisor.proofs.candidate.Tie as tie
 abbrev question : tie.Start → Call
 question s =
     let a = s .args in
-    record { modulus = a .p; first-list = a .first .now; second-list = a .second .now; skeleton = a .skeleton .now; points = a .points .now; output = a .out .now; work = a .work .now }
+    candidate-call (a .p) (a .first .now) (a .second .now) (a .skeleton .now) (a .points .now) (a .out .now) (a .work .now)
 
 candidate-fault-requires : tie.Need-candidate-fault-requires
 candidate-fault-requires c κs = search needs

@@ -43,10 +43,6 @@ module _ (p : ℕ) (P : Prime p) where
       (lead-nonzero (Modulo p P .ring) (exponents (key-of u)) (poly p P (u ∷ us)) (poly-lead p P u us keys h))
       (a .product ∙ sym (b .product)))
 
--- a call by its parts
-abbrev pub call : ℕ → List ℕ → List ℕ → List ℕ → List ℕ → QuotientCall
-call p first second output work = record { modulus = p; first-list = first; second-list = second; output = output; work = work }
-
 module _ (c : QuotientCall) where
   abbrev lists : List Line
   lists = of-lists (c .modulus) (c .first-list) (c .second-list)

@@ -6,9 +6,9 @@ use borrow.Author.Tests.{not-true, not-false}
 use lib.ListN.{length}
 use Rattle.poly.specs.Room.{work-room, zeroed}
 use Rattle.poly.specs.Laws.Room.{zeroed-all}
-use Rattle.poly.specs.Quotient.{QuotientCall}
+use Rattle.poly.specs.Quotient.{QuotientCall, quotient-call}
 use Rattle.poly.specs.Laws.WorkRoom.{quotient-long}
-use Rattle.poly.specs.Laws.Quotient.{call, passed-lists, passed-output}
+use Rattle.poly.specs.Laws.Quotient.{passed-lists, passed-output}
 use Rattle.poly.specs.Laws.QuotientExact.{exact-begins, exact-none, exact-found}
 use borrow.Author.Needs.{needs}
 use Rattle.poly.proofs.quotient.exact.Statement.{statement}
@@ -16,7 +16,7 @@ use Rattle.poly.proofs.quotient.exact.Tie as tie
 
 -- the call
 abbrev lent : tie.Start → QuotientCall
-lent z = call (z .args .p) (z .args .first .now) (z .args .second .now) (z .args .out .now) (z .args .work .now)
+lent z = quotient-call (z .args .p) (z .args .first .now) (z .args .second .now) (z .args .out .now) (z .args .work .now)
 
 -- the room is as long after the division as before
 abbrev opened : tie.After-clear → tie.Start

@@ -1,14 +1,13 @@
 -- `quotient` meets its contract: a fault of the table is the answer, and inputs that pass are divided. Assumes nothing.
 use Rattle.field.specs.RefusalLaws.{tested-passes, tested-refuses}
-use Rattle.poly.specs.Quotient.{QuotientCall, quotient-table, refused}
-use Rattle.poly.specs.Laws.Quotient.{call}
+use Rattle.poly.specs.Quotient.{QuotientCall, quotient-call, quotient-table, refused}
 use borrow.Author.Needs.{needs}
 use Rattle.poly.proofs.quotient.quotient.Statement.{statement}
 use Rattle.poly.proofs.quotient.quotient.Tie as tie
 
 -- the call
 abbrev lent : tie.Start → QuotientCall
-lent z = call (z .args .p) (z .args .first .now) (z .args .second .now) (z .args .out .now) (z .args .work .now)
+lent z = quotient-call (z .args .p) (z .args .first .now) (z .args .second .now) (z .args .out .now) (z .args .work .now)
 
 quotient-fault-requires : tie.Need-quotient-fault-requires
 quotient-fault-requires c κs = search needs
