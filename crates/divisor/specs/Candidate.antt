@@ -102,14 +102,10 @@ refusal f = record { fault = f; degree = 0; bad = 0; unlucky = 0; kept = 0; term
 -- the promise of the candidate call
 pub data Candidate (c : Call) : Result → Type 0 where
   refused : (f : Fault) → Refuses (table c) f
-      → Candidate c (record { found = refusal f; output = c .output; work = c .work })
+      → Candidate c (candidate-result (refusal f) (c .output) (c .work))
   answered : Passes (table c) → (listed : Listed (c .modulus)) (found : CandidateRecord) (G : Polynomial (Numbers c listed))
       → Answer (Numbers c listed) (A c listed) (B c listed) (monomials c listed) (lent-points c listed) found G
-      → Candidate c (record {
-        found = found;
-        output = written (numbers-of (c .modulus) (prime c listed) G) (c .output);
-        work = cleared (c .work);
-      })
+      → Candidate c (candidate-result found (written (numbers-of (c .modulus) (prime c listed) G) (c .output)) (cleared (c .work)))
 
 -- the polynomial that is handed out: the terms first in the output
 abbrev pub handed-out : (c : Call) (listed : Listed (c .modulus)) → Result → Polynomial (Numbers c listed)

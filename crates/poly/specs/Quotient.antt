@@ -55,11 +55,11 @@ quotient-result found output work = record { found = found; output = output; wor
 -- the promise of the quotient service
 pub data Quotient (c : QuotientCall) : QuotientResult → Type 0 where
   refused : (f : Fault) → Refuses (quotient-table c) f
-      → Quotient c (record { found = record { fault = f; terms = 0 }; output = c .output; work = c .work })
+      → Quotient c (quotient-result (record { fault = f; terms = 0 }) (c .output) (c .work))
   no-quotient : Passes (quotient-table c) → (listed : Listed (c .modulus))
       → ¬ Divides (Modulo (c .modulus) (listed-prime listed)) (poly (c .modulus) (listed-prime listed) (c .second-list))
       (poly (c .modulus) (listed-prime listed) (c .first-list))
-      → Quotient c (record { found = record { fault = fault DOES_NOT_DIVIDE 0; terms = 0 }; output = c .output; work = cleared (c .work) })
+      → Quotient c (quotient-result (record { fault = fault DOES_NOT_DIVIDE 0; terms = 0 }) (c .output) (cleared (c .work)))
   quotient : Passes (quotient-table c) → (listed : Listed (c .modulus)) (qs : List ℕ)
       → IsQuotient (c .modulus) (listed-prime listed) (c .first-list) (c .second-list) qs
-      → Quotient c (record { found = record { fault = none; terms = length qs }; output = written qs (c .output); work = cleared (c .work) })
+      → Quotient c (quotient-result (record { fault = none; terms = length qs }) (written qs (c .output)) (cleared (c .work)))
