@@ -30,7 +30,7 @@ pub record Domain (R : CommRing) : Type 1 where
   pub one≢0 : ¬ (R .𝟙 ≡ R .𝟘)
 
 module _ (R : CommRing) where
-  open CommRing R using (Car, 𝟘, 𝟙, add as _+_, mul as _*_, neg)
+  open CommRing R using (Car, 𝟘, add as _+_, mul as _*_)
 
   infixl 60 _+_
   infixl 70 _*_
@@ -84,11 +84,10 @@ module _ (R : CommRing) where
       go (no q) k = inr (N, record { nonzero = q; ends = h })
 
 module _ (R : CommRing) (D : Domain R) where
-  open CommRing R using (Car, 𝟘, 𝟙, add as _+_, mul as _*_, neg)
+  open CommRing R using (Car, 𝟘, 𝟙, add as _+_, neg)
   open Domain D using (P)
 
   infixl 60 _+_
-  infixl 70 _*_
   pub top-mul : (m n : ℕ) (f g : Seq R) → P (f m) → P (g n) → Top R m f → Top R n g → Top R (m +ₙ n) (conv R f g)
   top-mul m n f g pf pg tf tg = record {
     nonzero = λ e. D .nzd (f m) (g n) pf pg (tf .nonzero) (tg .nonzero) (sym (conv-top R m n f g (tf .ends) (tg .ends)) ∙ e);

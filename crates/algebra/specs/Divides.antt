@@ -66,9 +66,8 @@ module _ (R : CommRing) (D : Domain R) where
   ]
 
 module _ (R : CommRing) where
-  open CommRing R using (Car, 𝟘, 𝟙, add as _+_, mul as _*_, neg)
+  open CommRing R using (Car, 𝟘, 𝟙, mul as _*_)
 
-  infixl 60 _+_
   infixl 70 _*_
   pub top-le : (m n : ℕ) (f : Seq R) → Top R m f → Top R n f → m ≤ n
   top-le m n f s t = elim (decLe m n) [ yes l ↦ l | no q ↦ absurd (s .nonzero (t .ends m (omega arith))) ]
@@ -105,11 +104,9 @@ module _ (R : CommRing) where
   pow a (suc k) = pow a k * a
 
 module _ (R : CommRing) (D : Domain R) where
-  open CommRing R using (Car, 𝟘, 𝟙, add as _+_, mul as _*_, neg)
+  open CommRing R using (Car)
   open Domain D using (P)
 
-  infixl 60 _+_
-  infixl 70 _*_
   pub const-fin : (c : Car) → P c → Finite R D (constS R c)
   const-fin c pc = record { bound = 1; ends = const-ends R c; coef = const-P R D c pc }
 

@@ -11,7 +11,7 @@ pub record GreatestCommon (R : CommRing) (D : Domain R) (a b g : R .Car) : Type 
   pub most : (e : R .Car) → D .P e → Div R D e a → Div R D e b → Div R D e g
 
 module _ (R : CommRing) (D : Domain R) where
-  open CommRing R using (Car, 𝟘, 𝟙, add as _+_, mul as _*_, neg)
+  open CommRing R using (Car, 𝟘, add as _+_, mul as _*_, neg)
   open Domain D using (P)
 
   infixl 60 _+_

@@ -41,7 +41,7 @@ abbrev pub flip : {A : Type 0} → (ℕ → ℕ → A) → ℕ → ℕ → A
 flip f = λ b a. f a b
 
 module _ (R : CommRing) where
-  open CommRing R using (Car, 𝟘, 𝟙, add as _+_, mul as _*_, neg)
+  open CommRing R using (Car, 𝟙, add as _+_, mul as _*_)
 
   infixl 60 _+_
   infixl 70 _*_

@@ -15,9 +15,8 @@ use Rattle.algebra.specs.GreatestCommon.{GreatestCommon, greatest-swap, 
 use Rattle.algebra.specs.Univariate.{Monic, Poly, PolyD, Fin, ends-fin, less, less-ends, over-lead, over-lead-monic, over-lead-greatest}
 
 module _ (F : Field) where
-  open CommRing (F .ring) using (Car, 𝟘, add as _+_, mul as _*_, neg)
+  open CommRing (F .ring) using (Car, 𝟘, mul as _*_)
 
-  infixl 60 _+_
   infixl 70 _*_
   -- division with remainder by g, whose highest coefficient stands at n
   record WithRemainder (n : ℕ) (f g : Seq (F .ring)) : Type 0 where

@@ -8,7 +8,7 @@ use Rattle.algebra.specs.Series.{Seq, conv, SeriesR, S2, S3, S4}
 use Rattle.algebra.specs.Degree.{Ends, conv-null}
 
 module _ (R : CommRing) where
-  open CommRing R using (Car, 𝟘, 𝟙, add as _+_, mul as _*_, neg)
+  open CommRing R using (Car, 𝟘, add as _+_, mul as _*_)
 
   infixl 60 _+_
   infixl 70 _*_

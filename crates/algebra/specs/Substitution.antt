@@ -12,7 +12,7 @@ use Rattle.algebra.specs.Divides.{pow}
 use Rattle.algebra.specs.Evaluation.{Evaluation}
 
 module _ (R : CommRing) where
-  open CommRing R using (Car, 𝟘, 𝟙, add as _+_, mul as _*_, neg)
+  open CommRing R using (Car, 𝟘, add as _+_, mul as _*_)
 
   infixl 60 _+_
   infixl 70 _*_
@@ -65,7 +65,7 @@ module _ (R : CommRing) where
 
 -- the outermost variable takes the value a
 module _ (R : CommRing) (D : Domain R) (a : R .Car) (pa : D .P a) where
-  open CommRing R using (Car, 𝟘, 𝟙, add as _+_, mul as _*_)
+  open CommRing R using (Car, 𝟙, add as _+_, mul as _*_)
 
   infixl 60 _+_
   infixl 70 _*_

@@ -1,7 +1,7 @@
 -- The numbers of a `match` arm, as the test of a table. Assumes nothing.
-use mathlib.Core.Path.{_≡_, refl}
+use mathlib.Core.Path.{_≡_, refl, ap, _∙_}
 use mathlib.Core.Logic.{inl, inr}
-use mathlib.Core.Bool.{Bool, true, false, _||_}
+use mathlib.Core.Bool.{true, false, _||_, or-true}
 use mathlib.Core.List.{List, [], _∷_}
 use Prim.Native.Nat.{ℕ}
 use types.Run.{OneOf}
@@ -9,15 +9,11 @@ use lib.Dec.{eqb}
 use borrow.Author.Tests.{eq-eqb, ne-eqb}
 use Rattle.field.specs.Moduli.{among}
 
-or-true : (b c : Bool) → c ≡ true → (b || c) ≡ true
-or-true true c e = refl
-or-true false c e = e
-
 pub among-true : (ms : List ℕ) (p : ℕ) → OneOf ms p → among p ms ≡ true
 among-true [] p h = absurd h
 among-true (k ∷ []) p h = rw (eq-eqb p k h)
 among-true (k ∷ k′ ∷ ms) p (inl e) = rw (eq-eqb p k e)
-among-true (k ∷ k′ ∷ ms) p (inr h) = or-true (eqb p k) (among p (k′ ∷ ms)) (among-true (k′ ∷ ms) p h)
+among-true (k ∷ k′ ∷ ms) p (inr h) = ap (eqb p k ||_) (among-true (k′ ∷ ms) p h) ∙ or-true (eqb p k)
 
 pub among-false : (ms : List ℕ) (p : ℕ) → ¬ OneOf ms p → among p ms ≡ false
 among-false [] p h = refl

@@ -1,6 +1,5 @@
 -- A computed check of each line decides a table. Assumes nothing.
 use mathlib.Core.Path.{_≡_, refl}
-use mathlib.Core.Logic.{_⊎_, inl, inr}
 use mathlib.Core.List.{List, [], _∷_}
 use Prim.Native.Nat.{ℕ, zero, suc, _+_, _≤_, _<_}
 use native.Mathlib.Decide.{decLt}
@@ -9,25 +8,6 @@ use lib.Dec.{T}
 use Rattle.field.specs.declared.Fault.{Fault}
 use Rattle.field.specs.Refusal.{Line, line, placed, first, fault, none, Passes, Tested}
 use Rattle.field.specs.RefusalLaws.{tested-line, tested-past, tested-end, numbered, tested-passes}
-
--- decisions of compound statements
-abbrev pub not-decided : {X : Type 0} → Dec X → Dec (¬ X)
-not-decided (yes x) = no (λ n. n x)
-not-decided (no n) = yes n
-
-abbrev pub both-decided : {X Y : Type 0} → Dec X → Dec Y → Dec (X × Y)
-both-decided (yes x) (yes y) = yes (x, y)
-both-decided (yes x) (no n) = no (λ h. n (h .1))
-both-decided (no n) y = no (λ h. n (h .0))
-
-abbrev pub either-decided : {X Y : Type 0} → Dec X → Dec Y → Dec (X ⊎ Y)
-either-decided (yes x) y = yes (inl x)
-either-decided (no n) (yes y) = yes (inr y)
-either-decided (no n) (no m) = no (λ h. elim h [ inl x ↦ n x | inr y ↦ m y ])
-
-unfoldable pub at-most-decided : (a b : ℕ) → Dec (a ≤ b)
-unfolding decLt
-at-most-decided a b = elim (decLt b a) [ yes h ↦ no (λ k. omega arith) | no h ↦ yes (omega arith) ]
 
 -- what a check of a line finds: the place at which it applies, or that it does not
 pub data Check (l : Line) : Type 0 where

@@ -1,15 +1,15 @@
 -- The lines of the candidate's inputs and of the image's, each decided by computing. Assumes nothing.
 use mathlib.Core.Path.{_≡_, refl, subst}
-use mathlib.Core.Logic.{_⊎_, inl, inr}
+use mathlib.Core.Logic.{_⊎_, inl, inr, Dec·not, Dec·and}
 use mathlib.Core.List.{List, [], _∷_, _++_, map}
 use Prim.Native.Nat.{ℕ, zero, suc, _%_, _≤_, _<_}
-use native.Mathlib.Decide.{ℕ-discrete, decLt}
+use native.Mathlib.Decide.{ℕ-discrete, decLe, decLt}
 use native.Mathlib.Omega.{arith}
 use lib.ListN.{length, getD, length-map}
 use Rattle.field.specs.Numbers.{MODULUS, FIRST_COUNT, FIRST_TERM, SECOND_COUNT, SECOND_TERM, SKELETON_COUNT, SKELETON_KEY, POINTS_COUNT, POINT_NUMBER}
 use Rattle.field.specs.ModuliLaws.{listed-decided}
 use Rattle.field.specs.Refusal.{Line}
-use Rattle.field.specs.RefusalDecision.{not-decided, both-decided, either-decided, at-most-decided, Checks, placed-check, first-check}
+use Rattle.field.specs.RefusalDecision.{Checks, placed-check, first-check}
 use Rattle.poly.specs.Keys.{keys}
 use Rattle.poly.specs.Terms.{key-of, coefficient-of}
 use Rattle.poly.specs.Lists.{most-terms, Count, WrongKey, above, not-below, wrong-key}
@@ -20,7 +20,12 @@ use Rattle.divisor.specs.Laws.Checks.{keys-beyond}
 use Rattle.divisor.specs.Candidate.{most-keys, most-point-numbers}
 use Rattle.divisor.specs.Models.Checks.{of-skeleton, of-points}
 
--- where two statements say the same
+-- decisions of one of two statements, and of a statement that says the same as another
+abbrev pub either-decided : {X Y : Type 0} → Dec X → Dec Y → Dec (X ⊎ Y)
+either-decided (yes x) y = yes (inl x)
+either-decided (no n) (yes y) = yes (inr y)
+either-decided (no n) (no m) = no (λ h. elim h [ inl x ↦ n x | inr y ↦ m y ])
+
 abbrev pub decided-as : {X Y : Type 0} → (X → Y) → (Y → X) → Dec X → Dec Y
 decided-as to from (yes x) = yes (to x)
 decided-as to from (no n) = no (λ y. n (from y))
@@ -36,7 +41,7 @@ module _ (ks : List ℕ) where
 
   unfoldable pub not-below-decided : (i : ℕ) → Dec (NotBelow i)
   not-below-decided zero = no (λ h. h)
-  not-below-decided (suc before) = at-most-decided (getD ks before 0) (getD ks (suc before) 0)
+  not-below-decided (suc before) = decLe (getD ks before 0) (getD ks (suc before) 0)
 
   -- a wrong key, part by part
   abbrev pub WrongParts : ℕ → Type 0
@@ -53,8 +58,8 @@ module _ (ks : List ℕ) where
   from-wrong (suc i) (not-below before e l h) = let q : before ≡ i = omega arith in (l, inr (subst (λ (n : ℕ). getD ks n 0 ≤ getD ks (suc i) 0) q h))
 
   unfoldable pub key-decided : (i : ℕ) → Dec (WrongKey ks i)
-  key-decided i = decided-as (to-wrong i) (from-wrong i) (both-decided (decLt i (length ks))
-      (either-decided (at-most-decided keys (getD ks i 0)) (not-below-decided i)))
+  key-decided i = decided-as (to-wrong i) (from-wrong i) (Dec·and (decLt i (length ks))
+      (either-decided (decLe keys (getD ks i 0)) (not-below-decided i)))
 
 module _ (p : ℕ) (ts : List ℕ) where
   -- a coefficient that is 0 or at least p
@@ -74,7 +79,7 @@ module _ (p : ℕ) (ts : List ℕ) where
   unfoldable pub term-decided : (i : ℕ) → Dec (WrongModulo p ts i)
   term-decided i = decided-as (to-wrong-term i) (from-wrong-term i)
       (either-decided (key-decided (map key-of ts) i)
-      (both-decided (decLt i (length ts)) (either-decided (ℕ-discrete (coefficient-of (getD ts i 0)) 0) (at-most-decided p (coefficient-of (getD ts i 0))))))
+      (Dec·and (decLt i (length ts)) (either-decided (ℕ-discrete (coefficient-of (getD ts i 0)) 0) (decLe p (coefficient-of (getD ts i 0))))))
 
   pub no-term-beyond : (i : ℕ) → length ts ≤ i → ¬ WrongModulo p ts i
   no-term-beyond i l w = elim (from-wrong-term i w) [
@@ -84,7 +89,7 @@ module _ (p : ℕ) (ts : List ℕ) where
 
   unfoldable pub number-decided : (i : ℕ) → Dec (WrongNumber p ts i)
   number-decided i = decided-as (λ (h : (i < length ts) × (p ≤ getD ts i 0)). record { there = h .0; large = h .1 }) (λ w. (w .there, w .large))
-      (both-decided (decLt i (length ts)) (at-most-decided p (getD ts i 0)))
+      (Dec·and (decLt i (length ts)) (decLe p (getD ts i 0)))
 
 -- checks of two tables, one behind the other
 unfoldable pub checks-append : (front back : List Line) → Checks front → Checks back → Checks (front ++ back)
@@ -93,7 +98,7 @@ checks-append (l ∷ front) back cs ds = (cs .0, checks-append front back (cs .1
 
 unfoldable pub list-checks : (p : ℕ) (A B : List ℕ) → Checks (of-lists p A B)
 list-checks p A B = (
-  placed-check MODULUS 0 _ (not-decided (listed-decided p)),
+  placed-check MODULUS 0 _ (Dec·not (listed-decided p)),
   (
     placed-check FIRST_COUNT 0 _ (count-decided most-terms A),
     (
@@ -111,13 +116,13 @@ skeleton-checks skeleton = (
 
 unfoldable pub points-checks : (p : ℕ) (points : List ℕ) → Checks (of-points p points)
 points-checks p points = (
-  placed-check POINTS_COUNT 0 _ (either-decided (count-decided most-point-numbers points) (not-decided (ℕ-discrete (length points % 3) 0))),
+  placed-check POINTS_COUNT 0 _ (either-decided (count-decided most-point-numbers points) (Dec·not (ℕ-discrete (length points % 3) 0))),
   (first-check POINT_NUMBER _ (number-decided p points) (length points) (numbers-end p points), tt),
 )
 
 unfoldable pub point-checks : (p : ℕ) (point : List ℕ) → Checks (of-point p point)
 point-checks p point = (
-  placed-check POINTS_COUNT 0 _ (not-decided (ℕ-discrete (length point) 3)),
+  placed-check POINTS_COUNT 0 _ (Dec·not (ℕ-discrete (length point) 3)),
   (first-check POINT_NUMBER _ (number-decided p point) (length point) (numbers-end p point), tt),
 )
 

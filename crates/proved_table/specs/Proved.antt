@@ -2,9 +2,10 @@
 -- the images that its rows name and the products that give its polynomials. Assumes nothing.
 use mathlib.Core.Path.{_≡_, refl}
 use mathlib.Core.Bool.{true}
+use mathlib.Core.Logic.{Dec·not, Dec·and}
 use mathlib.Core.List.{List, [], _∷_, map}
 use Prim.Native.Nat.{ℕ, _≤_}
-use native.Mathlib.Decide.{ℕ-discrete, decLt}
+use native.Mathlib.Decide.{ℕ-discrete, decLe, decLt}
 use lib.ListN.{length}
 use Rattle.algebra.specs.Four.{compare-by, compare}
 use Rattle.algebra.specs.Mono.{mono}
@@ -14,7 +15,7 @@ use Rattle.field.specs.Moduli.{listed}
 use Rattle.field.specs.ModuliLaws.{every, listed-decided}
 use Rattle.field.specs.Fp.{el, add, mul, neg, chase, inv}
 use Rattle.field.specs.FpLaws.{Fp-discrete}
-use Rattle.field.specs.RefusalDecision.{at-most-decided, placed-check, look, first-check, decided}
+use Rattle.field.specs.RefusalDecision.{placed-check, look, first-check, decided}
 use Rattle.poly.specs.Room.{work-room}
 use Rattle.poly.specs.Models.Cells.{cells}
 use Rattle.poly.specs.Models.Powers.{power, powers}
@@ -40,7 +41,7 @@ use Rattle.proved_table.specs.TestLaws.{tested, image-tested, multiplied
 use Rattle.proved_table.specs.Table.{images, products, p1, table}
 
 pub table-passes : every test table ≡ true
-unfolding ℕ-discrete decLt mono pow listed listed-decided el add mul neg chase inv Fp-discrete at-most-decided placed-check look first-check
+unfolding ℕ-discrete decLe decLt mono pow listed listed-decided el add mul neg chase inv Fp-discrete Dec·not Dec·and placed-check look first-check
     decided cells power powers plus-term value-from value-of size-to scaled monic less-at subtract remainder euclid gcd value-at image-of-values
     image-of points-of size-of lesser least-from alike kept-of leading scaled-terms compare-by compare each-at-most plus less before-all leads
     divided division tried divided-by by-answer with-counts by-kept by-least by-looks computed count-decided not-below-decided key-decided
@@ -52,7 +53,7 @@ table-holds = each-tested test Holds tested table table-passes
 
 -- the images that the rows name are those
 pub images-hold : Each Shows images
-unfolding ℕ-discrete decLt listed listed-decided el add mul neg chase inv at-most-decided placed-check look first-check decided cells power
+unfolding ℕ-discrete decLe decLt listed listed-decided el add mul neg chase inv Dec·not Dec·and placed-check look first-check decided cells power
     powers plus-term value-from value-of size-to scaled monic less-at subtract remainder euclid gcd value-at image-of-values image-of
     count-decided not-below-decided key-decided term-decided number-decided checks-append list-checks point-checks image-checks same-numbers
     image-passes image-agrees image-test
@@ -65,7 +66,7 @@ agree-as-values = refl
 
 -- the lists that are given as products are those
 pub products-hold : (P : Prime 17) → Each (Multiplies 17 P) products
-unfolding decLt el add mul neg Fp-discrete compare-by compare plus less less-all multiplies
+unfolding decLe decLt el add mul neg Fp-discrete compare-by compare plus less less-all multiplies
 products-hold P = each-tested (multiplies 17 P) (Multiplies 17 P) (multiplied 17 P) products refl
 
 -- the candidate of the case file of document 01 is P1's record, with P1's terms first in the output

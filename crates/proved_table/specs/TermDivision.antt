@@ -1,12 +1,13 @@
 -- Division of short lists of terms, over any field, computed: it says of a list that the divisor divides, or that it does not, or leaves it open.
 use mathlib.Core.Bool.{Bool, true, false}
 use mathlib.Core.List.{[], _∷_}
+use mathlib.Core.Logic.{Dec·and}
 use Prim.Native.Nat.{ℕ, zero, suc, _-_}
+use native.Mathlib.Decide.{decLe}
 use Rattle.algebra.specs.Ring.{CommRing}
 use Rattle.algebra.specs.Four.{Exponents, _⊞_, _≼_, lower, equal, higher, compare}
 use Rattle.algebra.specs.Monomial.{Term}
 use Rattle.algebra.specs.Field.{Field}
-use Rattle.field.specs.RefusalDecision.{both-decided, at-most-decided}
 use Rattle.poly.specs.Terms.{Polynomial}
 
 pub data Outcome : Type 0 where
@@ -17,8 +18,8 @@ pub data Outcome : Type 0 where
 -- each exponent at most the other's
 unfoldable pub each-at-most : (e f : Exponents) → Dec (e ≼ f)
 each-at-most e f =
-    elim (both-decided (at-most-decided (e .x) (f .x)) (both-decided (at-most-decided (e .y) (f .y))
-    (both-decided (at-most-decided (e .z) (f .z)) (at-most-decided (e .w) (f .w))))) [
+    elim (Dec·and (decLe (e .x) (f .x)) (Dec·and (decLe (e .y) (f .y))
+    (Dec·and (decLe (e .z) (f .z)) (decLe (e .w) (f .w))))) [
       | yes h ↦ yes (record { x = h .0; y = h .1 .0; z = h .1 .1 .0; w = h .1 .1 .1 })
       | no n ↦ no (λ l. n (l .x, (l .y, (l .z, l .w))))
     ]
