@@ -1,5 +1,5 @@
 -- The greatest exponents of a list of terms, computed, are those of its polynomial. Assumes nothing.
-use mathlib.Core.Path.{_≡_, refl, sym, _∙_, ap, ap₂}
+use mathlib.Core.Path.{_≡_, refl, sym, _∙_, ap, ap₂, subst}
 use mathlib.Core.List.{List, [], _∷_}
 use Prim.Native.Nat.{ℕ, suc, _+_, _≤_, _<_}
 use native.Mathlib.Decide.{decLe}
@@ -32,6 +32,12 @@ most-small v (t ∷ ts) h =
     let a = exponent-small v (key-of t) (omega arith) in
     let r = most-small v ts (λ i m. h (suc i) (omega arith)) in
     omega arith
+
+pub exponent-most : (v : Variable) (ts : List ℕ) → exponent v (most-of ts) ≡ most v ts
+exponent-most in-x ts = refl
+exponent-most in-y ts = refl
+exponent-most in-z ts = refl
+exponent-most in-w ts = refl
 
 -- the key of the greatest exponents has them
 pub most-exponents : (ts : List ℕ) → KeysBelow 0 keys ts → exponents (most-key ts) ≡ most-of ts
@@ -76,10 +82,8 @@ module _ (p : ℕ) (P : Prime p) where
       record { within = within v (t ∷ ts); place = exponents (r .key); reached = r .is-most; stands = r .stands }
 
   pub poly-most : (t : ℕ) (ts : List ℕ) (b : ℕ) → Falling p b (t ∷ ts) → Most R (most-of (t ∷ ts)) (poly p P (t ∷ ts))
-  poly-most t ts b h in-x = most-is t ts b h in-x
-  poly-most t ts b h in-y = most-is t ts b h in-y
-  poly-most t ts b h in-z = most-is t ts b h in-z
-  poly-most t ts b h in-w = most-is t ts b h in-w
+  poly-most t ts b h v =
+      subst (λ (n : ℕ). GreatestExponent R v n (poly p P (t ∷ ts))) (sym (exponent-most v (t ∷ ts))) (most-is t ts b h v)
 
   -- what the rule of division needs to know of two lists
   abbrev pub sizes : (t : ℕ) (ts : List ℕ) (u : ℕ) (us : List ℕ) → Falling p keys (t ∷ ts) → Falling p keys (u ∷ us)
