@@ -65,7 +65,7 @@ module _ (p : ℕ) (P : Prime p) (f : List ℕ) (hf : Falling p keys f) (l : Lis
   begun-long = spread-length f l ∙ empty .long
 
   begun-reduced : Reduced p (spread f l)
-  begun-reduced = spread-reduced p P f l keys hf (zeros-reduced p l (prime-positive P) (empty .zeros))
+  begun-reduced = spread-reduced p f l keys hf (zeros-reduced p l (prime-positive P) (empty .zeros))
 
   begun-means : dense p P (spread f l) ≡ poly p P f
   begun-means =

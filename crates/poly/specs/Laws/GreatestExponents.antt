@@ -63,7 +63,6 @@ module _ (p : ℕ) (P : Prime p) where
     stands : ¬ (coef R (poly p P ts) (exponents key) ≡ el p 0)
 
   reached : (v : Variable) (t : ℕ) (ts : List ℕ) (b : ℕ) → Falling p b (t ∷ ts) → Reached v b (t ∷ ts)
-  unfolding polynomial
   reached v t [] b h = record { key = key-of t; below = h .0; is-most = omega arith; stands = poly-lead p P t [] b h .stands }
   reached v t (u ∷ us) b h = go (decLe (most v (u ∷ us)) (exponent v (exponents (key-of t)))) (reached v u us (key-of t) (h .3))
     where
