@@ -155,14 +155,14 @@ module _ (p : ℕ) (P : Prime p) where
       (poly-finite p P g) (divided-division f g h l c empty)
 
   -- a division that ends, with its terms and its answer
-  pub record Ends (f g : List ℕ) : Type 0 where
+  pub record Ended (f g : List ℕ) : Type 0 where
     pub terms : List (Term (Modulo p P .ring))
     pub whole : Bool
     pub division : Division (Modulo p P .ring) (poly p P f) (poly p P g) terms whole
     pub few : length terms ≤ keys
 
   -- the rule ends within as many steps as there are keys
-  pub division-ends : (f g : List ℕ) → Dividing p f g → Ends f g
+  pub division-ends : (f g : List ℕ) → Dividing p f g → Ended f g
   division-ends f g h =
       record {
         terms = terms-of p P (found p f g no-cells);
