@@ -154,22 +154,18 @@ module _ (p : ℕ) (P : Prime p) where
       (ap (λ (i : Exponents). monomial R i product) e
       ∙ sym (monomial-mul R (exponents s) (exponents (key-of t)) (el p q) (el p (coefficient-of t)))))
 
-  moves-same : (s n m : ℕ) (ts : List ℕ) → n ≡ m → MovesUp s n ts → MovesUp s m ts
-  moves-same s n m ts e f = subst (λ (k : ℕ). MovesUp s k ts) e f
-
   -- the remainder less the quotient's term times the divisor
   pub less-dense : (s q : ℕ) (ts l : List ℕ) → q ≤ p → MovesUp s (length l) ts
       → dense (less-product p s q ts l) ≡ S4 R .add (dense l) (S4 R .neg (S4 R .mul (monomial R (exponents s) (el p q)) (poly p P ts)))
   unfolding less-product polynomial
   less-dense s q [] l hq f = ring2 (S4 R) (λ d m. d ≗ d ⊖ m ⊗ k0) tt (dense l) (monomial R (exponents s) (el p q))
   less-dense s q (t ∷ ts) l hq f =
-      less-dense s q ts (less-term p s q t l) hq (moves-same s (length l) (length (less-term p s q t l)) ts (sym (length-set l _ _)) (f .2))
+      less-dense s q ts (less-term p s q t l) hq (subst (λ (n : ℕ). MovesUp s n ts) (sym (length-set l _ _)) (f .2))
       ∙ ap (λ (d : S4 R .Car). S4 R .add d (S4 R .neg (S4 R .mul (monomial R (exponents s) (el p q)) (poly p P ts)))) (less-one s q t l hq (f .0) (f .1))
       ∙ ring4 (S4 R) (λ d m a b. (d ⊖ m ⊗ a) ⊖ m ⊗ b ≗ d ⊖ m ⊗ (a ⊕ b)) tt (dense l) (monomial R (exponents s) (el p q)) (term R (term-of p P t)) (poly p P ts)
 
-  pub less-reduced : (s q : ℕ) (ts l : List ℕ) → MovesUp s (length l) ts → Reduced p l → Reduced p (less-product p s q ts l)
+  pub less-reduced : (s q : ℕ) (ts l : List ℕ) → Reduced p l → Reduced p (less-product p s q ts l)
   unfolding less-product
-  less-reduced s q [] l f red = red
-  less-reduced s q (t ∷ ts) l f red =
-      less-reduced s q ts (less-term p s q t l) (moves-same s (length l) (length (less-term p s q t l)) ts (sym (length-set l _ _)) (f .2))
-      (set-reduced p l (key-of t + s) _ (mod-lt _ (prime-positive P)) red)
+  less-reduced s q [] l red = red
+  less-reduced s q (t ∷ ts) l red =
+      less-reduced s q ts (less-term p s q t l) (set-reduced p l (key-of t + s) _ (mod-lt _ (prime-positive P)) red)

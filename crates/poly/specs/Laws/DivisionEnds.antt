@@ -1,12 +1,12 @@
 -- The rule of division ends on any two lists that fall, within as many steps as there are keys, and the division on cells gives its answer and its terms.
 -- So it is decided whether one list divides another. Assumes nothing.
-use mathlib.Core.Path.{_≡_, sym, _∙_, ap, subst}
+use mathlib.Core.Path.{_≡_, refl, sym, _∙_, ap}
 use mathlib.Core.Logic.{_↔_}
 use mathlib.Core.Bool.{Bool, true, false, true≢false}
 use mathlib.Core.List.{List, [], _∷_}
 use Prim.Native.Nat.{ℕ, _-_, _≤_, _<_}
 use native.Mathlib.Omega.{arith}
-use lib.ListN.{length, getD, replicate, length-map, length-replicate, getD-replicate}
+use lib.ListN.{length, getD, replicate, length-map, length-replicate}
 use native.Mathlib.Decide.{decLt}
 use Rattle.algebra.specs.Ring.{zero-add}
 use Rattle.algebra.specs.Series.{S4}
@@ -26,6 +26,7 @@ use Rattle.poly.specs.Keys.{exponents, keys}
 use Rattle.poly.specs.Terms.{key-of, coefficient-of, term-of, terms-of, poly, base}
 use Rattle.poly.specs.Image.{Divides}
 use Rattle.poly.specs.TrialDivision.{CanDivide}
+use Rattle.poly.specs.Laws.Places.{replicate-all}
 use Rattle.poly.specs.Laws.KeyDifference.{at-most-says, at-most-of, exponents-difference}
 use Rattle.poly.specs.Lists.{Falling}
 use Rattle.poly.specs.Laws.Falling.{falling-keys}
@@ -56,22 +57,19 @@ no-cells = replicate keys 0
 
 pub no-cells-empty : Empty no-cells
 unfolding no-cells
-no-cells-empty = empty-cells no-cells (length-replicate {A = ℕ} keys 0) (λ i h. getD-replicate {A = ℕ} keys i 0 0 h)
+no-cells-empty = record { long = length-replicate {A = ℕ} keys 0; zeros = λ i. replicate-all (λ n. n ≡ 0) keys i 0 0 refl refl }
 
 -- a list spread over them
 module _ (p : ℕ) (P : Prime p) (f : List ℕ) (hf : Falling p keys f) (l : List ℕ) (empty : Empty l) where
   begun-long : length (spread f l) ≡ keys
   begun-long = spread-length f l ∙ empty .long
 
-  enough : keys ≤ length l
-  enough = subst (λ (n : ℕ). keys ≤ n) (sym (empty .long)) (omega arith)
-
   begun-reduced : Reduced p (spread f l)
-  begun-reduced = spread-reduced p P f l keys hf (zeros-reduced p l (prime-positive P) (empty .zeros))
+  begun-reduced = spread-reduced p f l keys hf (zeros-reduced p l (prime-positive P) (empty .zeros))
 
   begun-means : dense p P (spread f l) ≡ poly p P f
   begun-means =
-      spread-dense p P f l keys hf enough (λ i h. empty .zeros i)
+      spread-dense p P f l keys hf (omega (arith, empty .long)) (λ i h. empty .zeros i)
       ∙ ap (λ (d : S4 (Modulo p P .ring) .Car). S4 (Modulo p P .ring) .add d (poly p P f)) (dense-zero p P l (empty .zeros))
       ∙ zero-add (S4 (Modulo p P .ring)) _
 
@@ -157,14 +155,14 @@ module _ (p : ℕ) (P : Prime p) where
       (poly-finite p P g) (divided-division f g h l c empty)
 
   -- a division that ends, with its terms and its answer
-  pub record Ends (f g : List ℕ) : Type 0 where
+  pub record Ended (f g : List ℕ) : Type 0 where
     pub terms : List (Term (Modulo p P .ring))
     pub whole : Bool
     pub division : Division (Modulo p P .ring) (poly p P f) (poly p P g) terms whole
     pub few : length terms ≤ keys
 
   -- the rule ends within as many steps as there are keys
-  pub division-ends : (f g : List ℕ) → Dividing p f g → Ends f g
+  pub division-ends : (f g : List ℕ) → Dividing p f g → Ended f g
   division-ends f g h =
       record {
         terms = terms-of p P (found p f g no-cells);

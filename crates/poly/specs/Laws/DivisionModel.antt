@@ -12,7 +12,6 @@ use Rattle.algebra.specs.Ring.{CommRing}
 use Rattle.algebra.specs.Series.{S4}
 use Rattle.algebra.specs.Four.{Exponents, _⊞_, _≼_, _≺_, coef}
 use Rattle.algebra.specs.Lead.{Lead}
-use Rattle.algebra.specs.GreatestExponent.{in-x, in-y, in-z, in-w}
 use Rattle.algebra.specs.Monomial.{term, monomial}
 use Rattle.algebra.specs.Field.{domain}
 use Rattle.algebra.specs.Division.{Sizes, Over, Goes, done, stop, step, Division}
@@ -32,7 +31,7 @@ use Rattle.poly.specs.Laws.Falling.{falling-keys}
 use Rattle.poly.specs.Laws.Terms.{poly-head}
 use Rattle.poly.specs.Laws.Dense.{Reduced, MovesUp, dense, dense-at, dense-zero, dense-lead, less-dense, less-reduced, less-length}
 use Rattle.poly.specs.Laws.Spread.{key-of-term, coefficient-of-term}
-use Rattle.poly.specs.Laws.GreatestExponents.{most-small, sizes}
+use Rattle.poly.specs.Laws.GreatestExponents.{exponent-most, most-small, sizes}
 use Rattle.poly.specs.Laws.DivisionSteps.{by-cells}
 use Rattle.poly.specs.Laws.Fitting.{Fits, fits-says, fits-of, moves-up}
 use Rattle.poly.specs.Models.Cells.{past-end}
@@ -57,7 +56,7 @@ module _ (p : ℕ) (P : Prime p) (word : p ≤ base) (t : ℕ) (ts : List ℕ) (
   d = record { modulus = p; terms = u ∷ us; lead = key-of u; inverse = inverse; bound = bound }
 
   -- the rule, with the cells l as the remainder
-  Run : List ℕ → List ℕ → Bool → Type 0
+  abbrev Run : List ℕ → List ℕ → Bool → Type 0
   Run l qs whole = Goes R F G S (dense p P l) (terms-of p P qs) whole
 
   factor-below : (k : ℕ) (l : List ℕ) → factor d k l < p
@@ -65,11 +64,9 @@ module _ (p : ℕ) (P : Prime p) (word : p ≤ base) (t : ℕ) (ts : List ℕ) (
 
   divisor-moves : (k : ℕ) → Fits d (most-of (t ∷ ts)) (most-of (u ∷ us)) spare k → MovesUp (k - key-of u) keys (u ∷ us)
   divisor-moves k o =
-      let small = falling-keys p keys (t ∷ ts) hf in
       moves-up (k - key-of u) (most-of (t ∷ ts)) (most-of (u ∷ us)) (o .bounded)
-      (most-small in-x (t ∷ ts) small) (most-small in-y (t ∷ ts) small)
-      (most-small in-z (t ∷ ts) small) (most-small in-w (t ∷ ts) small)
-      (u ∷ us) (omega arith) (omega arith) (omega arith) (omega arith)
+      (λ v. omega (arith, exponent-most v (t ∷ ts), most-small v (t ∷ ts) (falling-keys p keys (t ∷ ts) hf)))
+      (u ∷ us) (λ v. omega (arith, exponent-most v (u ∷ us)))
 
   -- a cell that is not 0 and can be divided
   module _ (k : ℕ) (l : List ℕ) (long : length l ≡ keys) (red : Reduced p l) (zeros : Clear (suc k) l) (nonzero : ¬ (getD l k 0 ≡ 0)) where
@@ -122,7 +119,7 @@ module _ (p : ℕ) (P : Prime p) (word : p ≤ base) (t : ℕ) (ts : List ℕ) (
           ∙ ap₂ (λ (i : Exponents) (c : Fp p). S4 R .add (dense p P l) (S4 R .neg (S4 R .mul (monomial R i c) G))) (sym T-exponents) (sym T-coefficient)
 
       left-reduced : Reduced p (less d k l)
-      left-reduced = less-reduced p P s q (u ∷ us) l fitting red
+      left-reduced = less-reduced p P s q (u ∷ us) l red
 
       left-clear : Clear k (less d k l)
       left-clear i m =
@@ -138,7 +135,6 @@ module _ (p : ℕ) (P : Prime p) (word : p ≤ base) (t : ℕ) (ts : List ℕ) (
       take-cell : (qs : List ℕ) (whole : Bool)
           → (length (less d k l) ≡ keys → Reduced p (less d k l) → Clear k (less d k l) → Run (less d k l) qs whole)
           → Run l (T ∷ qs) whole
-      unfolding Run
       take-cell qs whole again =
           step (exponents k) (term-of p P T) leads over times-lead
           (subst (λ (r : S4 R .Car). Goes R F G S r (terms-of p P qs) whole) left
@@ -146,14 +142,12 @@ module _ (p : ℕ) (P : Prime p) (word : p ≤ base) (t : ℕ) (ts : List ℕ) (
 
     -- one that cannot
     stop-cell : fits d k ≡ false → Run l [] false
-    unfolding Run
     stop-cell h =
         stop (exponents k) leads
         (λ e o. true≢false (sym (fits-of d (most-of (t ∷ ts)) (most-of (u ∷ us)) spare k e (o .exact) (o .bounded)) ∙ h))
 
   -- one cell after the other, the model takes the rule's steps
   goes : (k : ℕ) (l c : List ℕ) → length l ≡ keys → Reduced p l → Clear k l → Run l (found-from d k l) (divide-from d k l c .whole)
-  unfolding Run
   goes =
       by-cells d (λ k l c qs o. length l ≡ keys → Reduced p l → Clear k l → Run l qs (o .whole))
       (λ l c long red z. done (dense-zero p P l (λ i. z i (omega arith))))
@@ -164,7 +158,6 @@ module _ (p : ℕ) (P : Prime p) (word : p ≤ base) (t : ℕ) (ts : List ℕ) (
   -- the division of the cells that mean f
   pub model-division : (l c : List ℕ) → length l ≡ keys → Reduced p l → dense p P l ≡ F
       → Division R F G (terms-of p P (found-from d keys l)) (divide-from d keys l c .whole)
-  unfolding Run
   model-division l c long red e =
       record {
         sizes = S;

@@ -7,7 +7,7 @@ use Prim.Native.Nat.{ℕ, _+_, _-_, _≤_, _<_}
 use native.Mathlib.Nat.{add-comm}
 use native.Mathlib.Omega.{arith}
 use Rattle.algebra.specs.Four.{Exponents, _⊞_, _≼_}
-use Rattle.algebra.specs.GreatestExponent.{in-x, in-y, in-z, in-w}
+use Rattle.algebra.specs.GreatestExponent.{Variable, exponent, in-x, in-y, in-z, in-w}
 use Rattle.poly.specs.Keys.{exponents, keys}
 use Rattle.poly.specs.Terms.{key-of}
 use Rattle.poly.specs.Laws.Keys.{exponents-add}
@@ -54,19 +54,20 @@ module _ (d : Setting) (f g : Exponents) (spare : exponents (d .bound) ⊞ g ≡
 below-eight : (n : ℕ) → exponents n .x < 8 → n < keys
 below-eight n h = omega arith
 
-pub moves-up : (s : ℕ) (f g : Exponents) → exponents s ⊞ g ≼ f → f .x < 8 → f .y < 8 → f .z < 8 → f .w < 8
-    → (ts : List ℕ) → most in-x ts ≤ g .x → most in-y ts ≤ g .y → most in-z ts ≤ g .z → most in-w ts ≤ g .w → MovesUp s keys ts
-moves-up s f g l fx fy fz fw [] x y z w = tt
-moves-up s f g l fx fy fz fw (t ∷ ts) x y z w =
-    (small, sum, moves-up s f g l fx fy fz fw ts (omega arith) (omega arith) (omega arith) (omega arith))
+pub moves-up : (s : ℕ) (f g : Exponents) → exponents s ⊞ g ≼ f → ((v : Variable) → exponent v f < 8)
+    → (ts : List ℕ) → ((v : Variable) → most v ts ≤ exponent v g) → MovesUp s keys ts
+moves-up s f g l small [] within = tt
+moves-up s f g l small (t ∷ ts) within = (below, sum, moves-up s f g l small ts (λ v. omega (arith, within v)))
   where
     sum : exponents (key-of t + s) ≡ exponents s ⊞ exponents (key-of t)
     sum =
         ap exponents (add-comm (key-of t) s)
-        ∙ exponents-add s (key-of t) (record { y = let a = l .y in omega arith; z = let a = l .z in omega arith; w = let a = l .w in omega arith })
+        ∙ exponents-add s (key-of t)
+        (record {
+          y = omega (arith, l .y, small in-y, within in-y);
+          z = omega (arith, l .z, small in-z, within in-z);
+          w = omega (arith, l .w, small in-w, within in-w);
+        })
 
-    small : key-of t + s < keys
-    small =
-        let q : exponents (key-of t + s) .x ≡ exponents s .x + exponents (key-of t) .x = ap (λ (i : Exponents). i .x) sum in
-        let a = l .x in
-        below-eight (key-of t + s) (omega arith)
+    below : key-of t + s < keys
+    below = below-eight (key-of t + s) (omega (arith, ap (λ (i : Exponents). i .x) sum, l .x, small in-x, within in-x))

@@ -1,5 +1,5 @@
 -- The greatest exponents of a list of terms, computed, are those of its polynomial. Assumes nothing.
-use mathlib.Core.Path.{_≡_, refl, sym, _∙_, ap, ap₂}
+use mathlib.Core.Path.{_≡_, refl, sym, _∙_, ap, ap₂, subst}
 use mathlib.Core.List.{List, [], _∷_}
 use Prim.Native.Nat.{ℕ, suc, _+_, _≤_, _<_}
 use native.Mathlib.Decide.{decLe}
@@ -33,6 +33,12 @@ most-small v (t ∷ ts) h =
     let r = most-small v ts (λ i m. h (suc i) (omega arith)) in
     omega arith
 
+pub exponent-most : (v : Variable) (ts : List ℕ) → exponent v (most-of ts) ≡ most v ts
+exponent-most in-x ts = refl
+exponent-most in-y ts = refl
+exponent-most in-z ts = refl
+exponent-most in-w ts = refl
+
 -- the key of the greatest exponents has them
 pub most-exponents : (ts : List ℕ) → KeysBelow 0 keys ts → exponents (most-key ts) ≡ most-of ts
 most-exponents ts h = exponents-of-key (most-of ts) (record { y = most-small in-y ts h; z = most-small in-z ts h; w = most-small in-w ts h })
@@ -57,7 +63,6 @@ module _ (p : ℕ) (P : Prime p) where
     stands : ¬ (coef R (poly p P ts) (exponents key) ≡ el p 0)
 
   reached : (v : Variable) (t : ℕ) (ts : List ℕ) (b : ℕ) → Falling p b (t ∷ ts) → Reached v b (t ∷ ts)
-  unfolding polynomial
   reached v t [] b h = record { key = key-of t; below = h .0; is-most = omega arith; stands = poly-lead p P t [] b h .stands }
   reached v t (u ∷ us) b h = go (decLe (most v (u ∷ us)) (exponent v (exponents (key-of t)))) (reached v u us (key-of t) (h .3))
     where
@@ -76,10 +81,8 @@ module _ (p : ℕ) (P : Prime p) where
       record { within = within v (t ∷ ts); place = exponents (r .key); reached = r .is-most; stands = r .stands }
 
   pub poly-most : (t : ℕ) (ts : List ℕ) (b : ℕ) → Falling p b (t ∷ ts) → Most R (most-of (t ∷ ts)) (poly p P (t ∷ ts))
-  poly-most t ts b h in-x = most-is t ts b h in-x
-  poly-most t ts b h in-y = most-is t ts b h in-y
-  poly-most t ts b h in-z = most-is t ts b h in-z
-  poly-most t ts b h in-w = most-is t ts b h in-w
+  poly-most t ts b h v =
+      subst (λ (n : ℕ). GreatestExponent R v n (poly p P (t ∷ ts))) (sym (exponent-most v (t ∷ ts))) (most-is t ts b h v)
 
   -- what the rule of division needs to know of two lists
   abbrev pub sizes : (t : ℕ) (ts : List ℕ) (u : ℕ) (us : List ℕ) → Falling p keys (t ∷ ts) → Falling p keys (u ∷ us)

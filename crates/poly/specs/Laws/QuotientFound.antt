@@ -93,7 +93,7 @@ module _ (p : ℕ) (P : Prime p) (f g : List ℕ) (h : Dividing p f g) (l c : Li
   gathered-found =
       let r = cells-stored in
       poly-determines p P (gathered keys (divided p f g l c .quotient)) (found p f g l) keys keys
-      (gather-falling p P (h .word) keys (divided p f g l c .quotient) keys (omega arith) (r .reduced)) found-falling
+      (gather-falling p (h .word) keys (divided p f g l c .quotient) keys (omega arith) (r .reduced)) found-falling
       (gather-dense p P (h .word) keys (divided p f g l c .quotient) (subst (λ (n : ℕ). keys ≤ n) (sym (r .long)) (omega arith)) (r .reduced)
       (λ i b. past-end keys i (divided p f g l c .quotient) (r .long) b)
       ∙ stored-means p P keys c (divided p f g l c .quotient) (found p f g l) (free .zeros) r)

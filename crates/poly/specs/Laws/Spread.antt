@@ -63,15 +63,28 @@ gather-set (suc k) j v l h =
     gather-step k (set l j v) l (getD-set-other l j k v 0 (λ e. omega arith)) (gather-set k j v l (omega arith))
     (ℕ-discrete (getD (set l j v) k 0) 0)
 
+pub spread-reduced : (p : ℕ) (ts l : List ℕ) (b : ℕ) → Falling p b ts → Reduced p l → Reduced p (spread ts l)
+unfolding spread
+spread-reduced p [] l b h red = red
+spread-reduced p (t ∷ ts) l b h red =
+    spread-reduced p ts (set l (key-of t) (coefficient-of t)) (key-of t) (h .3) (set-reduced p l (key-of t) (coefficient-of t) (h .2) red)
+
+pub gather-falling : (p : ℕ) → p ≤ base → (k : ℕ) (l : List ℕ) (b : ℕ) → k ≤ b → Reduced p l → Falling p b (gathered k l)
+unfolding gathered
+gather-falling p w zero l b m red = tt
+gather-falling p w (suc k) l b m red = go (ℕ-discrete (getD l k 0) 0) (λ c n. gather-falling p w k l c n red)
+  where
+    go : Dec (getD l k 0 ≡ 0) → ((c : ℕ) → k ≤ c → Falling p c (gathered k l)) → Falling p b (gathered (suc k) l)
+    go (yes z) again = subst (Falling p b) (sym (gather-passed k l z)) (again b (omega arith))
+    go (no n) again =
+        let r = red k in
+        let ek : key-of (packed k (getD l k 0)) ≡ k = key-of-term k (getD l k 0) (omega arith) in
+        let ec : coefficient-of (packed k (getD l k 0)) ≡ getD l k 0 = coefficient-of-term k (getD l k 0) (omega arith) in
+        subst (Falling p b) (sym (gather-taken k l n)) (omega arith, omega arith, omega arith, again (key-of (packed k (getD l k 0))) (omega arith))
+
 module _ (p : ℕ) (P : Prime p) where
   abbrev R : CommRing
   R = Modulo p P .ring
-
-  pub spread-reduced : (ts l : List ℕ) (b : ℕ) → Falling p b ts → Reduced p l → Reduced p (spread ts l)
-  unfolding spread
-  spread-reduced [] l b h red = red
-  spread-reduced (t ∷ ts) l b h red =
-      spread-reduced ts (set l (key-of t) (coefficient-of t)) (key-of t) (h .3) (set-reduced p l (key-of t) (coefficient-of t) (h .2) red)
 
   pub spread-dense : (ts l : List ℕ) (b : ℕ) → Falling p b ts → b ≤ length l → ((i : ℕ) → i < b → getD l i 0 ≡ 0)
       → dense p P (spread ts l) ≡ S4 R .add (dense p P l) (poly p P ts)
@@ -84,19 +97,6 @@ module _ (p : ℕ) (P : Prime p) where
       ∙ ap (λ (d : S4 R .Car). S4 R .add d (poly p P ts))
       (dense-store p P l (key-of t) (coefficient-of t) lt (z (key-of t) (h .0)))
       ∙ S4 R .add-assoc _ _ _
-
-  pub gather-falling : p ≤ base → (k : ℕ) (l : List ℕ) (b : ℕ) → k ≤ b → Reduced p l → Falling p b (gathered k l)
-  unfolding gathered
-  gather-falling w zero l b m red = tt
-  gather-falling w (suc k) l b m red = go (ℕ-discrete (getD l k 0) 0) (λ c n. gather-falling w k l c n red)
-    where
-      go : Dec (getD l k 0 ≡ 0) → ((c : ℕ) → k ≤ c → Falling p c (gathered k l)) → Falling p b (gathered (suc k) l)
-      go (yes z) again = subst (Falling p b) (sym (gather-passed k l z)) (again b (omega arith))
-      go (no n) again =
-          let r = red k in
-          let ek : key-of (packed k (getD l k 0)) ≡ k = key-of-term k (getD l k 0) (omega arith) in
-          let ec : coefficient-of (packed k (getD l k 0)) ≡ getD l k 0 = coefficient-of-term k (getD l k 0) (omega arith) in
-          subst (Falling p b) (sym (gather-taken k l n)) (omega arith, omega arith, omega arith, again (key-of (packed k (getD l k 0))) (omega arith))
 
   -- the cells' terms mean what the cells mean
   pub gather-dense : p ≤ base → (k : ℕ) (l : List ℕ) → k ≤ length l → Reduced p l → Clear k l → poly p P (gathered k l) ≡ dense p P l

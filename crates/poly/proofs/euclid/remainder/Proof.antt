@@ -1,10 +1,9 @@
 -- `poly::euclid::remainder` meets its contract: the loop keeps the model's answer on the powers that are left. Assumes nothing.
 use borrow.Author.Needs.{needs}
-use mathlib.Core.Path.{_≡_, refl, sym, ap, _∙_, subst}
-use Prim.Native.Nat.{ℕ, _+_, _-_, _≤_, _<_}
+use mathlib.Core.Path.{_≡_, refl, sym, _∙_}
+use Prim.Native.Nat.{_+_, _-_, _≤_, _<_}
 use native.Mathlib.Omega.{arith}
 use lib.ListN.{getD}
-use mathlib.Core.List.{List}
 use Rattle.poly.specs.Coefficients.{Eight}
 use Rattle.poly.specs.Models.Eight.{subtract, remainder}
 use Rattle.poly.specs.Laws.EightNumbers.{subtract-eight}
@@ -52,9 +51,8 @@ loop-again c =
     let v = getD (l .r) (l .k - 1 + a .m) 0 in
     let pos : 0 < a .p = omega (arith, l .inv .1 .below 0) in (
       omega arith,
-      subst (λ (u : List ℕ). Eight (a .p) u) (sym (c .subtract .ensures)) (subtract-eight (a .p) pos v (l .k - 1) (l .r) (a .g) (l .inv .1)),
-      l .inv .2 ∙ remainder-next (a .p) (a .m) (a .g) (l .k) (l .r) (omega arith)
-          ∙ ap (λ (u : List ℕ). remainder (a .p) (a .m) (a .g) (l .k - 1) u) (sym (c .subtract .ensures)),
+      rw (c .subtract .ensures) (subtract-eight (a .p) pos v (l .k - 1) (l .r) (a .g) (l .inv .1)),
+      rw (c .subtract .ensures) (l .inv .2 ∙ remainder-next (a .p) (a .m) (a .g) (l .k) (l .r) (omega arith)),
     )
 
 returns : tie.Need-returns Inv-loop μ-loop
