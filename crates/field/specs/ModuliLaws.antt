@@ -1,6 +1,7 @@
 -- Each listed modulus is prime, by one computed test over the table, and within the bounds that the code leans on. Assumes nothing.
 use mathlib.Core.Path.{_≡_, refl, sym, _∙_, subst}
 use mathlib.Core.Bool.{Bool, true, false, _&&_, _||_, Bool-discrete, true≢false}
+use mathlib.Core.HLevel.{hedberg}
 use mathlib.Core.List.{List, [], _∷_}
 use Prim.Native.Nat.{ℕ, _<_}
 use native.Mathlib.Omega.{arith}
@@ -31,6 +32,10 @@ among-every f (m ∷ ms) t p a =
 listed-every : (f : ℕ → Bool) → T (every f moduli) → (p : ℕ) → Listed p → T (f p)
 unfolding listed
 listed-every f t p h = among-every f moduli t p (subst T (sym h) tt)
+
+-- the evidence that a modulus is listed does not matter
+pub listed-unique : (p : ℕ) (h k : Listed p) → h ≡ k
+listed-unique p h k = hedberg Bool-discrete _ _ h k
 
 pub listed-prime : {p : ℕ} → Listed p → Prime p
 listed-prime {p} h = test-prime p (listed-every prime-test tt p h)

@@ -1,5 +1,6 @@
 -- Laws of the definitions and models of this layer, each file one subject.
 pub mod Places
+pub mod Cells
 pub mod Keys
 pub mod Value
 pub mod Lists

@@ -9,5 +9,5 @@ pub mod Eight
 pub mod Spread
 pub mod Division
 pub mod WorkRoom
-pub mod Steps
+pub mod EuclidSteps
 pub mod Image

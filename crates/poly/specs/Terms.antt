@@ -10,18 +10,18 @@ use Rattle.field.specs.Modulo.{Modulo}
 use Rattle.poly.specs.Keys.{key, exponents}
 
 -- every coefficient is below
-abbrev pub base : ℕ
-base = 65536
+abbrev pub coefficient-limit : ℕ
+coefficient-limit = 65536
 
 -- the term of a key and a coefficient
-abbrev pub packed : ℕ → ℕ → ℕ
-packed k c = k * base + c
+abbrev pub keyed : ℕ → ℕ → ℕ
+keyed k c = k * coefficient-limit + c
 
 abbrev pub key-of : ℕ → ℕ
-key-of t = t / base
+key-of t = t / coefficient-limit
 
 abbrev pub coefficient-of : ℕ → ℕ
-coefficient-of t = t % base
+coefficient-of t = t % coefficient-limit
 
 abbrev pub Polynomial : Field → Type 0
 Polynomial K = List (Term (K .ring))
@@ -36,7 +36,7 @@ module _ (p : ℕ) (P : Prime p) where
 
   -- the number that a term is
   abbrev pub number-of : Term (Modulo p P .ring) → ℕ
-  number-of t = packed (key (t .exponents)) (t .coefficient .val)
+  number-of t = keyed (key (t .exponents)) (t .coefficient .val)
 
   abbrev pub numbers-of : Polynomial (Modulo p P) → List ℕ
   numbers-of f = map number-of f

@@ -2,7 +2,7 @@
 ghost use mathlib.Core.Path.{_≡_};
 ghost use Prim.Native.Nat.{_-_, _<_};
 ghost use Rattle.poly.specs.Models.Eight.{size as size-of, scaled as scaled-of, monic as monic-of, subtract as subtract-of, remainder as remainder-of, gcd as gcd-of};
-ghost use Rattle.poly.specs.Models.Steps.{Divisible, Step, Reducible, Pair};
+ghost use Rattle.poly.specs.Models.EuclidSteps.{Divisible, Step, Reducible, Pair};
 use crate::Eight;
 use crate::POWERS;
 use field::Element;

@@ -6,7 +6,7 @@ ghost use Rattle.poly.specs.Lists.{WrongNumber};
 ghost use Rattle.poly.specs.ImageCall.{image-call, refusal, of-point, image-table, ImageAnswer};
 ghost use Rattle.poly.specs.Models.Search.{Searched};
 ghost use Rattle.poly.specs.Models.Eight.{gcd};
-ghost use Rattle.poly.specs.Models.Steps.{Pair};
+ghost use Rattle.poly.specs.Models.EuclidSteps.{Pair};
 ghost use Rattle.poly.specs.Models.Image.{Fine, image-record, image-of};
 use crate::COORDINATES;
 use crate::Eight;

@@ -2,7 +2,7 @@
 ghost use mathlib.Core.Path.{_≡_};
 ghost use Prim.Native.Nat.{_+_, _*_};
 ghost use Rattle.poly.specs.Keys.{exponents};
-ghost use Rattle.poly.specs.Terms.{key-of, coefficient-of, packed};
+ghost use Rattle.poly.specs.Terms.{key-of, coefficient-of, keyed};
 ghost use Rattle.poly.specs.Models.Keys.{Packable};
 use crate::Term;
 use field::Number;
@@ -81,7 +81,7 @@ pub fn coefficient_of(t: Term) -> Number
 
 // The term of a key and a coefficient.
 pub fn term(key: u16, coefficient: Number) -> Term
-    ensures { λ r. ⌜ r ≡ packed key coefficient ⌝ }
+    ensures { λ r. ⌜ r ≡ keyed key coefficient ⌝ }
 {
     (key as u32) * Key::COEFFICIENT_LIMIT + (coefficient as u32)
 }

@@ -3,7 +3,7 @@ use mathlib.Core.List.{List, [], _∷_}
 use Prim.Native.Nat.{ℕ}
 use Rattle.field.specs.Refusal.{none}
 use Rattle.poly.specs.Keys.{key}
-use Rattle.poly.specs.Terms.{packed}
+use Rattle.poly.specs.Terms.{keyed}
 use Rattle.poly.specs.ImageCall.{image-call}
 use Rattle.divisor.specs.declared.CandidateRecord.{CandidateRecord}
 use Rattle.divisor.specs.Rule.{report}
@@ -14,7 +14,7 @@ abbrev pub key-xy : ℕ → ℕ → ℕ
 key-xy a b = key (record { x = a; y = b; z = 0; w = 0 })
 
 abbrev pub term-xy : ℕ → ℕ → ℕ → ℕ
-term-xy c a b = packed (key-xy a b) c
+term-xy c a b = keyed (key-xy a b) c
 
 -- the points (y, 0, 0)
 abbrev pub at : List ℕ → List ℕ

@@ -18,7 +18,7 @@ use Rattle.field.specs.Modulo.{Modulo}
 use Rattle.field.specs.Numbers.{NO_GOOD_POINT, NO_SOLUTION, SEVERAL_SOLUTIONS, DOES_NOT_DIVIDE}
 use Rattle.field.specs.Refusal.{Passes}
 use Rattle.poly.specs.Keys.{exponents}
-use Rattle.poly.specs.Terms.{Polynomial, numbers-of, poly, base}
+use Rattle.poly.specs.Terms.{Polynomial, numbers-of, poly, coefficient-limit}
 use Rattle.poly.specs.Image.{Divides, Image}
 use Rattle.poly.specs.Room.{written, cleared}
 use Rattle.divisor.specs.Rule.{report, Kept, Sorted, Unknowns, Solution, OnlySolution, without-zeros, made-monic, divisor, Verdict, none, several, rejected, accepted, all-bad, some-good}
@@ -156,7 +156,7 @@ module _ (c : Call) (pass : Passes (table c)) (listed : Listed (c .modulus)) whe
       sized : length cs ≡ length (c .skeleton)
       sized = length-take-le (length (c .skeleton)) values long
 
-      pub small : p < base
+      pub small : p < coefficient-limit
       small = let b = listed-below listed in omega arith
 
       pub list : GoodList p P small (c .skeleton) cs

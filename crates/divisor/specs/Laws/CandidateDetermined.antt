@@ -1,10 +1,9 @@
 -- The promise of the candidate call settles the record, the output and the work room: two results that meet it are equal. Assumes nothing.
 use mathlib.Core.Path.{_≡_, subst}
-use mathlib.Core.Bool.{Bool-discrete}
-use mathlib.Core.HLevel.{hedberg}
 use mathlib.Core.List.{_++_}
 use lib.ListN.{length}
 use Rattle.field.specs.Moduli.{Listed}
+use Rattle.field.specs.ModuliLaws.{listed-unique}
 use Rattle.field.specs.RefusalLaws.{OnePlaceEach, whole-one-place, first-one-place, one-place-append, refuses-determined, not-passes-and-refuses}
 use Rattle.poly.specs.Terms.{Polynomial, numbers-of}
 use Rattle.poly.specs.Lists.{of-lists}
@@ -34,7 +33,7 @@ answered-determined : (c : Call) (listed listed′ : Listed (c .modulus)) (f g :
     → answer-of c listed f G → answer-of c listed′ g H → result-of c listed f G ≡ result-of c listed′ g H
 answered-determined c listed listed′ f g G H x y =
     (subst (λ (l : Listed (c .modulus)). (H : Polynomial (Numbers c l)) → answer-of c l g H → result-of c listed f G ≡ result-of c l g H)
-    (hedberg Bool-discrete _ _ listed listed′) same) H y
+    (listed-unique _ listed listed′) same) H y
   where
     same : (H : Polynomial (Numbers c listed)) → answer-of c listed g H → result-of c listed f G ≡ result-of c listed g H
     same H y =

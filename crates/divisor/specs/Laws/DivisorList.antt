@@ -15,11 +15,11 @@ use Rattle.field.specs.FpLaws.{el-nonzero, el-val, val-lt}
 use Rattle.field.specs.Link.{product-el}
 use Rattle.field.specs.Modulo.{Modulo}
 use Rattle.poly.specs.Keys.{exponents, keys}
-use Rattle.poly.specs.Terms.{Polynomial, key-of, terms-of, base}
+use Rattle.poly.specs.Terms.{Polynomial, key-of, terms-of, coefficient-limit}
 use Rattle.poly.specs.Value.{value}
 use Rattle.poly.specs.Lists.{Falling}
 use Rattle.poly.specs.Laws.Lists.{FallFrom}
-use Rattle.poly.specs.Laws.Spread.{key-of-term, coefficient-of-term}
+use Rattle.poly.specs.Laws.Terms.{key-of-term, coefficient-of-term}
 use Rattle.divisor.specs.Rule.{Kept, Solution, without-zeros, made-monic}
 use Rattle.divisor.specs.Models.Monic.{leading, scaled-terms, monic-terms}
 use Rattle.divisor.specs.Laws.MonicValue.{value-without-zeros, inv-nonzero}
@@ -27,7 +27,7 @@ use Rattle.divisor.specs.Laws.Degree.{solution-at-first}
 use Rattle.divisor.specs.Laws.MonicTerms.{AllBelow, leading-zero, scaled-zero, scaled-here, skeleton-of, Led, no-term, first-left, led, divisor-numbers}
 use Rattle.divisor.specs.Laws.Output.{divisor-within, read-numbers}
 
-module _ (p : ℕ) (P : Prime p) (small : p < base) where
+module _ (p : ℕ) (P : Prime p) (small : p < coefficient-limit) where
   abbrev K : Field
   K = Modulo p P
 

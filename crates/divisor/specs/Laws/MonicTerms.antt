@@ -17,7 +17,7 @@ use Rattle.field.specs.FpLaws.{el-nonzero, el-val, val-of-el}
 use Rattle.field.specs.Link.{product-el}
 use Rattle.field.specs.Modulo.{Modulo}
 use Rattle.poly.specs.Keys.{key, exponents}
-use Rattle.poly.specs.Terms.{Polynomial, numbers-of, packed}
+use Rattle.poly.specs.Terms.{Polynomial, numbers-of, keyed}
 use Rattle.poly.specs.Laws.Keys.{key-of-exponents}
 use Rattle.divisor.specs.Rule.{without-zeros, divided-by, made-monic}
 use Rattle.divisor.specs.Models.Rows.{with-coefficients}
@@ -62,7 +62,7 @@ pub scaled-zero : (p f k c : ℕ) (ks cs : List ℕ) → c ≡ 0 → scaled-term
 unfolding scaled-terms
 scaled-zero p f k c ks cs e = rw (eq-eqb c 0 e, scaled-terms)
 
-pub scaled-here : (p f k c : ℕ) (ks cs : List ℕ) → ¬ (c ≡ 0) → scaled-terms p f (k ∷ ks) (c ∷ cs) ≡ packed k ((c * f) % p) ∷ scaled-terms p f ks cs
+pub scaled-here : (p f k c : ℕ) (ks cs : List ℕ) → ¬ (c ≡ 0) → scaled-terms p f (k ∷ ks) (c ∷ cs) ≡ keyed k ((c * f) % p) ∷ scaled-terms p f ks cs
 unfolding scaled-terms
 scaled-here p f k c ks cs n = rw (ne-eqb c 0 n, scaled-terms)
 
@@ -87,8 +87,8 @@ module _ (p : ℕ) (P : Prime p) where
     with-first : c < p → ¬ (c ≡ 0) → without-zeros K (skeleton-of (k ∷ ks) (c ∷ cs)) ≡ first-term ∷ without-zeros K (skeleton-of ks cs)
     with-first l n = nonzero-kept K first-term (skeleton-of ks cs) (el-nonzero p c l n)
 
-  number-divided : (k c : ℕ) (u : Fp p) → packed (key (exponents k)) (mul (el p c) u .val) ≡ packed k ((c * u .val) % p)
-  number-divided k c u = ap₂ packed (key-of-exponents k)
+  number-divided : (k c : ℕ) (u : Fp p) → keyed (key (exponents k)) (mul (el p c) u .val) ≡ keyed k ((c * u .val) % p)
+  number-divided k c u = ap₂ keyed (key-of-exponents k)
       (ap (λ (x : Fp p). mul (el p c) x .val) (sym (el-val u)) ∙ ap (λ (x : Fp p). x .val) (sym (product-el p c (u .val))) ∙ val-of-el p ((c * u .val) % p) ∙ mod-mod (c * u .val) p)
 
   -- zeros dropped and all divided by a number

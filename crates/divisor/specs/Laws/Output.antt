@@ -15,10 +15,10 @@ use Rattle.field.specs.Moduli.{Listed}
 use Rattle.field.specs.ModuliLaws.{listed-below}
 use Rattle.field.specs.Modulo.{Modulo}
 use Rattle.poly.specs.Keys.{key, exponents}
-use Rattle.poly.specs.Terms.{Polynomial, key-of, coefficient-of, terms-of, number-of, numbers-of, base}
+use Rattle.poly.specs.Terms.{Polynomial, key-of, coefficient-of, terms-of, number-of, numbers-of, coefficient-limit}
 use Rattle.poly.specs.Room.{written}
 use Rattle.poly.specs.Laws.Keys.{Digits, digits-of, exponents-of-key}
-use Rattle.poly.specs.Laws.Spread.{key-of-term, coefficient-of-term}
+use Rattle.poly.specs.Laws.Terms.{key-of-term, coefficient-of-term}
 use Rattle.divisor.specs.declared.CandidateRecord.{CandidateRecord}
 use Rattle.divisor.specs.Rule.{Kept, Unknowns, Solution, without-zeros, divided-by, made-monic, divisor, Verdict, none, several, rejected, accepted, all-bad, some-good}
 use Rattle.divisor.specs.Candidate.{Call, prime, Numbers, A, B, monomials, handed-out}
@@ -81,13 +81,13 @@ module _ (p : ℕ) (P : Prime p) where
   length-numbers [] = refl
   length-numbers (t ∷ ts) = ap suc (length-numbers ts)
 
-module _ (p : ℕ) (P : Prime p) (small : p < base) where
+module _ (p : ℕ) (P : Prime p) (small : p < coefficient-limit) where
   -- the numbers of a polynomial, read again
   pub read-numbers : (f : Polynomial (Modulo p P)) → Keyed (Modulo p P) f → terms-of p P (numbers-of p P f) ≡ f
   read-numbers [] h = refl
   read-numbers (t ∷ ts) h = ap₂ _∷_ (λ i. record { exponents = same-exponents i; coefficient = same-coefficient i }) (read-numbers ts (h .1))
     where
-      below : t .coefficient .val < base
+      below : t .coefficient .val < coefficient-limit
       below = let l : t .coefficient .val < p = val-lt (prime-positive P) (t .coefficient) in omega arith
 
       same-exponents : exponents (key-of (number-of p P t)) ≡ t .exponents

@@ -9,7 +9,7 @@ use lib.Seq.{drop-cons, getD-take, length-take-le, take-suc-set}
 use borrow.Author.Tests.{eq-eqb, ne-eqb}
 use Rattle.divisor.specs.Models.Sorting.{lesser, least-from, alike}
 use Rattle.divisor.specs.Models.Monic.{leading, scaled-terms}
-use Rattle.poly.specs.Terms.{packed}
+use Rattle.poly.specs.Terms.{keyed}
 
 module _ (list : List ℕ) (n i : ℕ) where
   next-left : n ≤ length list → i < n → drop i (take n list) ≡ getD list i 0 ∷ drop (i + 1) (take n list)
@@ -70,7 +70,7 @@ module _ (p f : ℕ) (ks values : List ℕ) (i : ℕ) (long : length ks ≤ leng
   scaled-passed h e = ap₂ (scaled-terms p f) (keys-left h) (next-left values (length ks) i long h) ∙ rw (eq-eqb (getD values i 0) 0 e, scaled-terms)
 
   scaled-taken : i < length ks → ¬ (getD values i 0 ≡ 0)
-      → scaled-terms p f (drop i ks) (drop i (take (length ks) values)) ≡ packed (getD ks i 0) ((getD values i 0 * f) % p) ∷ scaled-terms p f (drop (i + 1) ks) (drop (i + 1) (take (length ks) values))
+      → scaled-terms p f (drop i ks) (drop i (take (length ks) values)) ≡ keyed (getD ks i 0) ((getD values i 0 * f) % p) ∷ scaled-terms p f (drop (i + 1) ks) (drop (i + 1) (take (length ks) values))
   unfolding scaled-terms
   scaled-taken h e = ap₂ (scaled-terms p f) (keys-left h) (next-left values (length ks) i long h) ∙ rw (ne-eqb (getD values i 0) 0 e, scaled-terms)
 
@@ -82,7 +82,7 @@ module _ (p f : ℕ) (ks values : List ℕ) (i : ℕ) (long : length ks ≤ leng
   made-passed count terms h e m = ap (take count terms ++_) (sym (scaled-passed h e)) ∙ m
 
   pub made-taken : (count : ℕ) (terms : List ℕ) (v : ℕ) → i < length ks → ¬ (getD values i 0 ≡ 0) → count < length terms
-      → v ≡ packed (getD ks i 0) ((getD values i 0 * f) % p) → MadeSo p f ks values i count terms → MadeSo p f ks values (i + 1) (count + 1) (set terms count v)
+      → v ≡ keyed (getD ks i 0) ((getD values i 0 * f) % p) → MadeSo p f ks values i count terms → MadeSo p f ks values (i + 1) (count + 1) (set terms count v)
   made-taken count terms v h n l e m =
       ap (_++ scaled-terms p f (drop (i + 1) ks) (drop (i + 1) (take (length ks) values))) (ap (λ (k : ℕ). take k (set terms count v)) (add-one count) ∙ take-suc-set terms count v l)
       ∙ append-assoc (take count terms) (v ∷ []) (scaled-terms p f (drop (i + 1) ks) (drop (i + 1) (take (length ks) values)))

@@ -7,7 +7,7 @@ use lib.Dec.{eqb}
 use lib.ListN.{length, getD, take}
 use Rattle.field.specs.Moduli.{Listed}
 use Rattle.field.specs.Fp.{el, inv}
-use Rattle.poly.specs.Terms.{packed}
+use Rattle.poly.specs.Terms.{keyed}
 use Rattle.divisor.specs.declared.monic.Divisor.{Divisor}
 use Rattle.divisor.specs.Candidate.{most-keys}
 use Rattle.divisor.specs.Models.Table.{COLUMNS}
@@ -22,7 +22,7 @@ unfoldable pub scaled-terms : ℕ → ℕ → List ℕ → List ℕ → List ℕ
 scaled-terms p f [] cs = []
 scaled-terms p f (k ∷ ks) [] = []
 scaled-terms p f (k ∷ ks) (c ∷ cs) =
-    elim (eqb c 0) [ true ↦ scaled-terms p f ks cs | false ↦ packed k ((c * f) % p) ∷ scaled-terms p f ks cs ]
+    elim (eqb c 0) [ true ↦ scaled-terms p f ks cs | false ↦ keyed k ((c * f) % p) ∷ scaled-terms p f ks cs ]
 
 -- all divided by the leading coefficient
 abbrev pub monic-terms : ℕ → List ℕ → List ℕ → List ℕ

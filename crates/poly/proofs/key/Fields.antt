@@ -11,9 +11,9 @@ use Rattle.poly.specs.Models.Keys.{Packable}
 pub join : (k q : ℕ) {n m : ℕ} → n ≡ q * 2 ^ k → m < 2 ^ k → bitOr n m ≡ n + m
 join k q {n} {m} e h = rw e (or-shifted q k m h)
 
-pub packed : (x y z w : ℕ) → Packable x y z w
+pub keyed : (x y z w : ℕ) → Packable x y z w
     → bitOr (bitOr (bitOr ((x * 2 ^ 9) % 2 ^ 16) ((y * 2 ^ 6) % 2 ^ 16)) ((z * 2 ^ 3) % 2 ^ 16)) w ≡ 512 * x + 64 * y + 8 * z + w
-packed x y z w h =
+keyed x y z w h =
     let px : (x * 2 ^ 9) % 2 ^ 16 ≡ x * 2 ^ 9 = shl-exact 3 9 16 (omega arith) (lit≤ tt) in
     let py : (y * 2 ^ 6) % 2 ^ 16 ≡ y * 2 ^ 6 = shl-exact 3 6 16 (omega arith) (lit≤ tt) in
     let pz : (z * 2 ^ 3) % 2 ^ 16 ≡ z * 2 ^ 3 = shl-exact 3 3 16 (omega arith) (lit≤ tt) in

@@ -23,7 +23,7 @@ use Rattle.field.specs.PrimeLaws.{prime-positive}
 use Rattle.field.specs.ModuliLaws.{listed-below}
 use Rattle.field.specs.Modulo.{Modulo}
 use Rattle.poly.specs.Keys.{exponents, keys}
-use Rattle.poly.specs.Terms.{key-of, coefficient-of, term-of, terms-of, poly, base}
+use Rattle.poly.specs.Terms.{key-of, coefficient-of, term-of, terms-of, poly, coefficient-limit}
 use Rattle.poly.specs.Image.{Divides}
 use Rattle.poly.specs.TrialDivision.{CanDivide}
 use Rattle.poly.specs.Laws.Places.{replicate-all}
@@ -36,7 +36,7 @@ use Rattle.poly.specs.Laws.Dense.{Reduced, zeros-reduced, dense, dense-z
 use Rattle.poly.specs.Laws.Spread.{spread-length, spread-reduced, spread-dense}
 use Rattle.poly.specs.Laws.DivisionSteps.{by-lists, found-few}
 use Rattle.poly.specs.Laws.DivisionModel.{model-division}
-use Rattle.poly.specs.Models.Cells.{past-end}
+use Rattle.poly.specs.Laws.Cells.{past-end}
 use Rattle.poly.specs.Models.Spread.{spread}
 use Rattle.poly.specs.Models.Division.{most-of, most-key, at-most, setting, divided, found}
 
@@ -108,7 +108,7 @@ module _ (p : ℕ) (P : Prime p) (t : ℕ) (ts : List ℕ) (u : ℕ) (us : List 
           true≢false (sym (at-most-of (most-key (u ∷ us)) (most-key (t ∷ ts)) m) ∙ h)
 
   -- the division on cells goes by the rule, and finds its terms
-  lists-division : p ≤ base → (l c : List ℕ) → Empty l
+  lists-division : p ≤ coefficient-limit → (l c : List ℕ) → Empty l
       → Division (Modulo p P .ring) (poly p P (t ∷ ts)) (poly p P (u ∷ us)) (terms-of p P (found p (t ∷ ts) (u ∷ us) l))
       (divided p (t ∷ ts) (u ∷ us) l c .whole)
   lists-division word l c empty =
@@ -119,7 +119,7 @@ module _ (p : ℕ) (P : Prime p) (t : ℕ) (ts : List ℕ) (u : ℕ) (us : List 
 
 -- two lists that are not empty and fall, modulo a number within a coefficient's place
 pub record Dividing (p : ℕ) (f g : List ℕ) : Type 0 where
-  pub word : p ≤ base
+  pub word : p ≤ coefficient-limit
   pub some-dividend : 0 < length f
   pub dividend-falls : Falling p keys f
   pub some-divisor : 0 < length g

@@ -23,21 +23,20 @@ use Rattle.field.specs.PrimeLaws.{prime-positive}
 use Rattle.field.specs.Modulo.{Modulo}
 use Rattle.field.specs.Link.{product-el}
 use Rattle.poly.specs.Keys.{exponents, keys}
-use Rattle.poly.specs.Terms.{key-of, coefficient-of, term-of, terms-of, poly, base, packed}
+use Rattle.poly.specs.Terms.{key-of, coefficient-of, term-of, terms-of, poly, coefficient-limit, keyed}
 use Rattle.poly.specs.Lists.{Falling}
 use Rattle.poly.specs.Laws.Places.{Clear, clear-one-less}
 use Rattle.poly.specs.Laws.Keys.{exponents-order}
 use Rattle.poly.specs.Laws.Falling.{falling-keys}
-use Rattle.poly.specs.Laws.Terms.{poly-head}
+use Rattle.poly.specs.Laws.Terms.{key-of-term, coefficient-of-term, poly-head}
 use Rattle.poly.specs.Laws.Dense.{Reduced, MovesUp, dense, dense-at, dense-zero, dense-lead, less-dense, less-reduced, less-length}
-use Rattle.poly.specs.Laws.Spread.{key-of-term, coefficient-of-term}
 use Rattle.poly.specs.Laws.GreatestExponents.{exponent-most, most-small, sizes}
 use Rattle.poly.specs.Laws.DivisionSteps.{by-cells}
 use Rattle.poly.specs.Laws.Fitting.{Fits, fits-says, fits-of, moves-up}
-use Rattle.poly.specs.Models.Cells.{past-end}
+use Rattle.poly.specs.Laws.Cells.{past-end}
 use Rattle.poly.specs.Models.Division.{most-of, Setting, fits, factor, less, divide-from, found-from}
 
-module _ (p : ℕ) (P : Prime p) (word : p ≤ base) (t : ℕ) (ts : List ℕ) (u : ℕ) (us : List ℕ) (hf : Falling p keys (t ∷ ts)) (hg : Falling p keys (u ∷ us))
+module _ (p : ℕ) (P : Prime p) (word : p ≤ coefficient-limit) (t : ℕ) (ts : List ℕ) (u : ℕ) (us : List ℕ) (hf : Falling p keys (t ∷ ts)) (hg : Falling p keys (u ∷ us))
     (inverse : ℕ) (is-inverse : mul (el p inverse) (el p (coefficient-of u)) ≡ el p 1)
     (bound : ℕ) (spare : exponents bound ⊞ most-of (u ∷ us) ≡ most-of (t ∷ ts)) where
   abbrev R : CommRing
@@ -81,12 +80,12 @@ module _ (p : ℕ) (P : Prime p) (word : p ≤ base) (t : ℕ) (ts : List ℕ) (
       q = factor d k l
 
       abbrev T : ℕ
-      T = packed s q
+      T = keyed s q
 
       taken : Fits d (most-of (t ∷ ts)) (most-of (u ∷ us)) spare k
       taken = fits-says d (most-of (t ∷ ts)) (most-of (u ∷ us)) spare k h
 
-      q-word : q < base
+      q-word : q < coefficient-limit
       q-word = let m : q < p = factor-below k l in omega arith
 
       T-exponents : exponents (key-of T) ≡ exponents s

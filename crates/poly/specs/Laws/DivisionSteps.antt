@@ -9,7 +9,7 @@ use native.Mathlib.Omega.{arith}
 use borrow.Author.Tests.{eq-eqb, ne-eqb}
 use lib.ListN.{length, getD, set}
 use Rattle.poly.specs.Keys.{keys}
-use Rattle.poly.specs.Terms.{packed}
+use Rattle.poly.specs.Terms.{keyed}
 use Rattle.poly.specs.Models.Spread.{spread}
 use Rattle.poly.specs.Models.Division.{most-key, at-most, Setting, less-product, fits, factor, less, Outcome, divide-from, found-from, setting, divided, found}
 
@@ -33,7 +33,7 @@ module _ (d : Setting) where
   found-passed k l e = rw (eq-eqb _ _ e, found-from)
 
   found-taken : (k : ℕ) (l : List ℕ) → ¬ (getD l k 0 ≡ 0) → fits d k ≡ true
-      → found-from d (suc k) l ≡ packed (k - d .lead) (factor d k l) ∷ found-from d k (less d k l)
+      → found-from d (suc k) l ≡ keyed (k - d .lead) (factor d k l) ∷ found-from d k (less d k l)
   unfolding found-from
   found-taken k l n f = rw (ne-eqb _ _ n, found-from) (rw (f, found-from))
 
@@ -68,7 +68,7 @@ module _ (d : Setting) (Holds : ℕ → List ℕ → List ℕ → List ℕ → O
     (ends : (l c : List ℕ) → Holds 0 l c [] (record { whole = true; quotient = c }))
     (passes : (k : ℕ) (l c qs : List ℕ) (o : Outcome) → getD l k 0 ≡ 0 → Holds k l c qs o → Holds (suc k) l c qs o)
     (takes : (k : ℕ) (l c qs : List ℕ) (o : Outcome) → ¬ (getD l k 0 ≡ 0) → fits d k ≡ true
-    → Holds k (less d k l) (set c (k - d .lead) (factor d k l)) qs o → Holds (suc k) l c (packed (k - d .lead) (factor d k l) ∷ qs) o)
+    → Holds k (less d k l) (set c (k - d .lead) (factor d k l)) qs o → Holds (suc k) l c (keyed (k - d .lead) (factor d k l) ∷ qs) o)
     (stops : (k : ℕ) (l c : List ℕ) → ¬ (getD l k 0 ≡ 0) → fits d k ≡ false → Holds (suc k) l c [] (record { whole = false; quotient = c })) where
   pub by-cells : (k : ℕ) (l c : List ℕ) → Holds k l c (found-from d k l) (divide-from d k l c)
   unfolding found-from divide-from

@@ -8,7 +8,7 @@ use lib.ListN.{length, getD, set, take, drop, drop-of-length-le, take-append-dro
 use lib.Seq.{drop-cons, take-suc-set, drop-set-lt, drop-drop, length-take-le}
 use Rattle.algebra.specs.GreatestExponent.{Variable, exponent}
 use Rattle.poly.specs.Keys.{exponents}
-use Rattle.poly.specs.Terms.{key-of, coefficient-of, packed}
+use Rattle.poly.specs.Terms.{key-of, coefficient-of, keyed}
 use Rattle.poly.specs.Room.{written}
 use Rattle.poly.specs.Laws.Spread.{gather-passed, gather-taken}
 use Rattle.poly.specs.Models.Spread.{spread, gathered}
@@ -64,10 +64,10 @@ module _ (l out : List ℕ) (k n : ℕ) (G : List ℕ) (e : G ≡ take n out ++ 
   pub gather-pass : 0 < k → getD l (k - 1) 0 ≡ 0 → G ≡ take n out ++ gathered (k - 1) l
   gather-pass h z = e ∙ ap (λ (r : List ℕ). take n out ++ r) (ap (λ (m : ℕ). gathered m l) (down h) ∙ gather-passed (k - 1) l z)
 
-  next : 0 < k → ¬ (getD l (k - 1) 0 ≡ 0) → G ≡ take n out ++ packed (k - 1) (getD l (k - 1) 0) ∷ gathered (k - 1) l
+  next : 0 < k → ¬ (getD l (k - 1) 0 ≡ 0) → G ≡ take n out ++ keyed (k - 1) (getD l (k - 1) 0) ∷ gathered (k - 1) l
   next h z = e ∙ ap (λ (r : List ℕ). take n out ++ r) (ap (λ (m : ℕ). gathered m l) (down h) ∙ gather-taken (k - 1) l z)
 
-  pub gather-turn : {v : ℕ} → 0 < k → ¬ (getD l (k - 1) 0 ≡ 0) → n < length out → v ≡ packed (k - 1) (getD l (k - 1) 0)
+  pub gather-turn : {v : ℕ} → 0 < k → ¬ (getD l (k - 1) 0 ≡ 0) → n < length out → v ≡ keyed (k - 1) (getD l (k - 1) 0)
       → G ≡ take (n + 1) (set out n v) ++ gathered (k - 1) l
   gather-turn h z b ev = rw (add-one, take-suc-set out n _ b, append-assoc, ev) (next h z)
 

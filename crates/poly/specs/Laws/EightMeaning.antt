@@ -21,7 +21,7 @@ use Rattle.field.specs.Residues.{Residues}
 use Rattle.field.specs.Modulo.{Modulo}
 use Rattle.field.specs.Link.{minus-times-el}
 use Rattle.poly.specs.Coefficients.{Eight, series}
-use Rattle.poly.specs.Models.Cells.{cells-at, cells-all, past-end}
+use Rattle.poly.specs.Laws.Cells.{cells-at, cells-all, past-end}
 use Rattle.poly.specs.Models.Eight.{size, scaled, monic, less-at, subtract, remainder}
 use Rattle.poly.specs.Laws.Places.{Clear}
 use Rattle.poly.specs.Laws.EightNumbers.{Leads, eight-clear, size-clear, size-lead, scaled-eight, less-low, less-high, subtract-eight}

@@ -8,7 +8,8 @@ use native.Mathlib.Omega.{arith}
 use borrow.Author.Tests.{eq-eqb, ne-eqb, lt-ltb, le-ltb}
 use lib.ListN.{getD}
 use Rattle.poly.specs.Coefficients.{Eight}
-use Rattle.poly.specs.Models.Cells.{cells, cells-length, cells-all, past-end}
+use Rattle.poly.specs.Models.Cells.{cells}
+use Rattle.poly.specs.Laws.Cells.{cells-length, cells-all, past-end}
 use Rattle.poly.specs.Laws.Places.{Clear, clear-one-less}
 use Rattle.poly.specs.Models.Eight.{size-to, scaled, less-at, subtract, remainder}
 

@@ -1,14 +1,12 @@
 -- The image service: what its inputs are where no line applies, its answers by the model, and that its promise settles the record. Assumes nothing.
 use mathlib.Core.Path.{_≡_, refl, sym, ap, _∙_, subst}
-use mathlib.Core.Bool.{Bool-discrete}
-use mathlib.Core.HLevel.{hedberg}
 use mathlib.Core.List.{List}
 use Prim.Native.Nat.{ℕ}
 use lib.Seq.{ext-getD}
 use Rattle.field.specs.Prime.{Prime}
 use Rattle.field.specs.Modulo.{Modulo}
 use Rattle.field.specs.Moduli.{Listed}
-use Rattle.field.specs.ModuliLaws.{listed-prime}
+use Rattle.field.specs.ModuliLaws.{listed-prime, listed-unique}
 use Rattle.field.specs.Refusal.{none, Passes, Tested}
 use Rattle.field.specs.RefusalLaws.{OnePlaceEach, whole-one-place, first-one-place, one-place-append, refuses-determined, not-passes-and-refuses, passes-front, passes-back, tested-passes, tested-refuses}
 use Rattle.field.specs.declared.Fault.{Fault}
@@ -75,4 +73,4 @@ image-determined c r q (answered pass listed s x) (answered pass′ listed′ s�
     (λ (l : Listed (c .modulus)).
     PointAnswer (c .modulus) (listed-prime l) (terms-of (c .modulus) (listed-prime l) (c .first-list)) (terms-of (c .modulus) (listed-prime l) (c .second-list))
     (point-of (c .modulus) (listed-prime l) (c .point)) q)
-    (hedberg Bool-discrete _ _ listed′ listed) y)
+    (listed-unique _ listed′ listed) y)

@@ -11,7 +11,7 @@ use Rattle.field.specs.Refusal.{fault, none, Tested, refused, passed}
 use Rattle.field.specs.RefusalLaws.{OnePlaceEach, whole-one-place, first-one-place, placed-never, tested-line, tested-past, tested-end, tested-determined}
 use Rattle.field.specs.declared.Fault.{Fault}
 use Rattle.poly.specs.Keys.{keys}
-use Rattle.poly.specs.Terms.{key-of, coefficient-of, base}
+use Rattle.poly.specs.Terms.{key-of, coefficient-of, coefficient-limit}
 use Rattle.poly.specs.Lists.{most-terms, Count, WrongKey, above, not-below, WrongTerm, wrong-key, coefficient-zero, WrongModulo, wrong-term, coefficient-large, of-lists}
 use Rattle.poly.specs.LeadingPart.{of-list}
 use Rattle.poly.specs.Models.Search.{Searched}
@@ -58,11 +58,11 @@ module _ (bound : ℕ) (ts : List ℕ) (i : ℕ) where
 
 -- without a modulus: no coefficient reaches the bound
 module _ (ts : List ℕ) where
-  small-coefficient : (i : ℕ) → WrongModulo base ts i → WrongTerm ts i
+  small-coefficient : (i : ℕ) → WrongModulo coefficient-limit ts i → WrongTerm ts i
   small-coefficient i (wrong-term w) = w
   small-coefficient i (coefficient-large l m) = absurd (omega arith)
 
-  pub tested-without-modulus : {f : Fault} → Tested (of-terms FIRST_COUNT FIRST_TERM base ts) f → Tested (of-list ts) f
+  pub tested-without-modulus : {f : Fault} → Tested (of-terms FIRST_COUNT FIRST_TERM coefficient-limit ts) f → Tested (of-list ts) f
   tested-without-modulus (refused (inl h)) = refused (inl h)
   tested-without-modulus (refused (inr (n, inl h))) =
       refused (inr (n, inl (h .0, (small-coefficient _ (h .1 .0), λ j l v. h .1 .1 j l (wrong-term v)))))

@@ -10,7 +10,7 @@ use Rattle.field.specs.Fp.{Fp, el, mul}
 use Rattle.field.specs.FpLaws.{el-mod, el-mul}
 use Rattle.field.specs.Residues.{Residues}
 use Rattle.poly.specs.Coefficients.{Eight}
-use Rattle.poly.specs.Models.Cells.{cells-at}
+use Rattle.poly.specs.Laws.Cells.{cells-at}
 use Rattle.poly.specs.Models.Powers.{power, powers}
 use Rattle.poly.specs.Laws.EightNumbers.{cells-eight}
 

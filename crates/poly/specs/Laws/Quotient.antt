@@ -1,7 +1,5 @@
 -- A list over another has one quotient at most, so the promise of the quotient service settles record, output and work room. Assumes nothing.
 use mathlib.Core.Path.{_≡_, refl, sym, _∙_, ap, subst}
-use mathlib.Core.Bool.{Bool-discrete}
-use mathlib.Core.HLevel.{hedberg}
 use mathlib.Core.List.{List, [], _∷_}
 use Prim.Native.Nat.{ℕ, _≤_, _<_}
 use native.Mathlib.Omega.{arith}
@@ -13,7 +11,7 @@ use Rattle.algebra.specs.Divides.{cancel}
 use Rattle.algebra.specs.Lead.{lead-nonzero}
 use Rattle.field.specs.Prime.{Prime}
 use Rattle.field.specs.Moduli.{Listed}
-use Rattle.field.specs.ModuliLaws.{listed-prime}
+use Rattle.field.specs.ModuliLaws.{listed-prime, listed-unique}
 use Rattle.field.specs.Modulo.{Modulo}
 use Rattle.field.specs.Refusal.{Line, none, Passes}
 use Rattle.field.specs.RefusalLaws.{OnePlaceEach, whole-one-place, one-place-append, never-placed, refuses-determined, not-passes-and-refuses, passes-front, passes-back}
@@ -76,7 +74,7 @@ module _ (c : QuotientCall) where
 
   -- the evidence that the modulus is listed does not matter
   exact-same : (listed listed′ : Listed (c .modulus)) (qs : List ℕ) → Exact listed qs → Exact listed′ qs
-  exact-same listed listed′ qs q = subst (λ (l : Listed (c .modulus)). Exact l qs) (hedberg Bool-discrete _ _ listed listed′) q
+  exact-same listed listed′ qs q = subst (λ (l : Listed (c .modulus)). Exact l qs) (listed-unique _ listed listed′) q
 
   abbrev handed : List ℕ → QuotientResult
   handed qs = record { found = record { fault = none; terms = length qs }; output = written qs (c .output); work = cleared (c .work) }

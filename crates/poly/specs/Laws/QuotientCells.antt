@@ -14,12 +14,12 @@ use Rattle.field.specs.Prime.{Prime}
 use Rattle.field.specs.PrimeLaws.{prime-positive}
 use Rattle.field.specs.Modulo.{Modulo}
 use Rattle.poly.specs.Keys.{exponents}
-use Rattle.poly.specs.Terms.{poly, base, packed}
+use Rattle.poly.specs.Terms.{poly, coefficient-limit, keyed}
 use Rattle.poly.specs.Laws.KeyDifference.{fits-key}
 use Rattle.poly.specs.Laws.Dense.{Reduced, dense, dense-zero, dense-store, set-reduced, zeros-reduced}
 use Rattle.poly.specs.Laws.DivisionSteps.{by-cells}
-use Rattle.poly.specs.Laws.Spread.{key-of-term, coefficient-of-term}
 use Rattle.poly.specs.Models.Division.{Setting, factor, divide-from, found-from}
+use Rattle.poly.specs.Laws.Terms.{key-of-term, coefficient-of-term}
 
 module _ (p : ℕ) (P : Prime p) (n : ℕ) where
   abbrev R : CommRing
@@ -35,14 +35,14 @@ module _ (p : ℕ) (P : Prime p) (n : ℕ) where
   unfolding polynomial
   nothing-stored c long red = record { long = long; reduced = red; means = sym (S4 R .add-zero (dense p P c)) }
 
-  store-one : p ≤ base → (s q : ℕ) (c c′ qs : List ℕ) → q < p → s < length c → getD c s 0 ≡ 0 → Stored (set c s q) c′ qs → Stored c c′ (packed s q ∷ qs)
+  store-one : p ≤ coefficient-limit → (s q : ℕ) (c c′ qs : List ℕ) → q < p → s < length c → getD c s 0 ≡ 0 → Stored (set c s q) c′ qs → Stored c c′ (keyed s q ∷ qs)
   unfolding polynomial
   store-one word s q c c′ qs lq ls z r =
       record {
         long = r .long;
         reduced = r .reduced;
         means =
-            let w : q < base = omega arith in
+            let w : q < coefficient-limit = omega arith in
             r .means
             ∙ ap (λ (f : S4 R .Car). S4 R .add f (poly p P qs))
             (dense-store p P c s q ls z)
@@ -51,7 +51,7 @@ module _ (p : ℕ) (P : Prime p) (n : ℕ) where
             (ap₂ (λ (i j : ℕ). monomial R (exponents i) (el p j)) (sym (key-of-term s q w)) (sym (coefficient-of-term s q w)));
       }
 
-module _ (d : Setting) (P : Prime (d .modulus)) (word : d .modulus ≤ base) (n : ℕ) where
+module _ (d : Setting) (P : Prime (d .modulus)) (word : d .modulus ≤ coefficient-limit) (n : ℕ) where
   abbrev p : ℕ
   p = d .modulus
 

@@ -16,18 +16,18 @@ use Rattle.field.specs.Prime.{Prime}
 use Rattle.field.specs.PrimeLaws.{prime-positive}
 use Rattle.field.specs.Modulo.{Modulo}
 use Rattle.poly.specs.Keys.{exponents, keys}
-use Rattle.poly.specs.Terms.{key-of, coefficient-of, terms-of, poly, base}
+use Rattle.poly.specs.Terms.{key-of, coefficient-of, terms-of, poly, coefficient-limit}
 use Rattle.poly.specs.Quotient.{IsQuotient}
 use Rattle.poly.specs.Laws.Keys.{key-order-of}
 use Rattle.poly.specs.Lists.{Falling}
 use Rattle.poly.specs.Laws.Falling.{falling-right}
-use Rattle.poly.specs.Laws.Terms.{poly-determines}
+use Rattle.poly.specs.Laws.Terms.{key-of-term, coefficient-of-term, poly-determines}
 use Rattle.poly.specs.Laws.Dense.{zeros-reduced}
-use Rattle.poly.specs.Laws.Spread.{key-of-term, coefficient-of-term, gather-falling, gather-dense}
+use Rattle.poly.specs.Laws.Spread.{gather-falling, gather-dense}
 use Rattle.poly.specs.Laws.DivisionSteps.{by-cells, by-lists}
 use Rattle.poly.specs.Laws.QuotientCells.{Stored, nothing-stored, quotient-stored, stored-means}
 use Rattle.poly.specs.Laws.DivisionEnds.{Empty, no-cells, no-cells-empty, Dividing, divided-division}
-use Rattle.poly.specs.Models.Cells.{past-end}
+use Rattle.poly.specs.Laws.Cells.{past-end}
 use Rattle.poly.specs.Models.Spread.{spread, gathered}
 use Rattle.poly.specs.Models.Division.{Setting, setting, factor, found-from, divided, found}
 
@@ -54,7 +54,7 @@ module _ (p : ℕ) (P : Prime p) where
   falls-list [] r h = tt
   falls-list (q ∷ qs) r h = (r .0, positive q (h .0), r .1, falls-below-list qs (key-of q) (r .2) (h .1))
 
-found-from-in : (d : Setting) → 0 < d .modulus → d .modulus ≤ base → (k : ℕ) (l : List ℕ) → k ≤ keys → InRange (d .modulus) (found-from d k l)
+found-from-in : (d : Setting) → 0 < d .modulus → d .modulus ≤ coefficient-limit → (k : ℕ) (l : List ℕ) → k ≤ keys → InRange (d .modulus) (found-from d k l)
 found-from-in d pos word k l =
     by-cells d (λ k l c qs o. k ≤ keys → InRange (d .modulus) qs)
     (λ l c m. tt)

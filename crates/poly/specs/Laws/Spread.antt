@@ -16,18 +16,12 @@ use Rattle.field.specs.Prime.{Prime}
 use Rattle.field.specs.PrimeLaws.{prime-positive}
 use Rattle.field.specs.Modulo.{Modulo}
 use Rattle.poly.specs.Keys.{exponents}
-use Rattle.poly.specs.Terms.{key-of, coefficient-of, poly, base, packed}
+use Rattle.poly.specs.Terms.{key-of, coefficient-of, poly, coefficient-limit, keyed}
 use Rattle.poly.specs.Lists.{Falling}
+use Rattle.poly.specs.Laws.Terms.{key-of-term, coefficient-of-term}
 use Rattle.poly.specs.Laws.Places.{set-all, Clear, clear-one-less}
 use Rattle.poly.specs.Laws.Dense.{Reduced, dense, dense-set, dense-store, dense-zero, set-reduced}
 use Rattle.poly.specs.Models.Spread.{spread, gathered}
-
--- the number of a term has its key and its coefficient
-pub key-of-term : (n q : ℕ) → q < base → key-of (packed n q) ≡ n
-key-of-term n q h = omega arith
-
-pub coefficient-of-term : (n q : ℕ) → q < base → coefficient-of (packed n q) ≡ q
-coefficient-of-term n q h = omega arith
 
 pub spread-length : (ts l : List ℕ) → length (spread ts l) ≡ length l
 unfolding spread
@@ -47,13 +41,13 @@ pub gather-passed : (k : ℕ) (l : List ℕ) → getD l k 0 ≡ 0 → gathered (
 unfolding gathered
 gather-passed k l e = rw (eq-eqb _ _ e, gathered)
 
-pub gather-taken : (k : ℕ) (l : List ℕ) → ¬ (getD l k 0 ≡ 0) → gathered (suc k) l ≡ packed k (getD l k 0) ∷ gathered k l
+pub gather-taken : (k : ℕ) (l : List ℕ) → ¬ (getD l k 0 ≡ 0) → gathered (suc k) l ≡ keyed k (getD l k 0) ∷ gathered k l
 unfolding gathered
 gather-taken k l e = rw (ne-eqb _ _ e, gathered)
 
 gather-step : (k : ℕ) (l m : List ℕ) → getD l k 0 ≡ getD m k 0 → gathered k l ≡ gathered k m → Dec (getD l k 0 ≡ 0) → gathered (suc k) l ≡ gathered (suc k) m
 gather-step k l m e h (yes z) = gather-passed k l z ∙ h ∙ sym (gather-passed k m (sym e ∙ z))
-gather-step k l m e h (no n) = gather-taken k l n ∙ ap₂ (λ (c : ℕ) (r : List ℕ). packed k c ∷ r) e h ∙ sym (gather-taken k m (λ z. n (e ∙ z)))
+gather-step k l m e h (no n) = gather-taken k l n ∙ ap₂ (λ (c : ℕ) (r : List ℕ). keyed k c ∷ r) e h ∙ sym (gather-taken k m (λ z. n (e ∙ z)))
 
 -- only the cells below k count
 gather-set : (k j v : ℕ) (l : List ℕ) → k ≤ j → gathered k (set l j v) ≡ gathered k l
@@ -69,7 +63,7 @@ spread-reduced p [] l b h red = red
 spread-reduced p (t ∷ ts) l b h red =
     spread-reduced p ts (set l (key-of t) (coefficient-of t)) (key-of t) (h .3) (set-reduced p l (key-of t) (coefficient-of t) (h .2) red)
 
-pub gather-falling : (p : ℕ) → p ≤ base → (k : ℕ) (l : List ℕ) (b : ℕ) → k ≤ b → Reduced p l → Falling p b (gathered k l)
+pub gather-falling : (p : ℕ) → p ≤ coefficient-limit → (k : ℕ) (l : List ℕ) (b : ℕ) → k ≤ b → Reduced p l → Falling p b (gathered k l)
 unfolding gathered
 gather-falling p w zero l b m red = tt
 gather-falling p w (suc k) l b m red = go (ℕ-discrete (getD l k 0) 0) (λ c n. gather-falling p w k l c n red)
@@ -78,9 +72,9 @@ gather-falling p w (suc k) l b m red = go (ℕ-discrete (getD l k 0) 0) (λ c n.
     go (yes z) again = subst (Falling p b) (sym (gather-passed k l z)) (again b (omega arith))
     go (no n) again =
         let r = red k in
-        let ek : key-of (packed k (getD l k 0)) ≡ k = key-of-term k (getD l k 0) (omega arith) in
-        let ec : coefficient-of (packed k (getD l k 0)) ≡ getD l k 0 = coefficient-of-term k (getD l k 0) (omega arith) in
-        subst (Falling p b) (sym (gather-taken k l n)) (omega arith, omega arith, omega arith, again (key-of (packed k (getD l k 0))) (omega arith))
+        let ek : key-of (keyed k (getD l k 0)) ≡ k = key-of-term k (getD l k 0) (omega arith) in
+        let ec : coefficient-of (keyed k (getD l k 0)) ≡ getD l k 0 = coefficient-of-term k (getD l k 0) (omega arith) in
+        subst (Falling p b) (sym (gather-taken k l n)) (omega arith, omega arith, omega arith, again (key-of (keyed k (getD l k 0))) (omega arith))
 
 module _ (p : ℕ) (P : Prime p) where
   abbrev R : CommRing
@@ -99,7 +93,7 @@ module _ (p : ℕ) (P : Prime p) where
       ∙ S4 R .add-assoc _ _ _
 
   -- the cells' terms mean what the cells mean
-  pub gather-dense : p ≤ base → (k : ℕ) (l : List ℕ) → k ≤ length l → Reduced p l → Clear k l → poly p P (gathered k l) ≡ dense p P l
+  pub gather-dense : p ≤ coefficient-limit → (k : ℕ) (l : List ℕ) → k ≤ length l → Reduced p l → Clear k l → poly p P (gathered k l) ≡ dense p P l
   unfolding gathered polynomial
   gather-dense w zero l m red z = sym (dense-zero p P l (λ i. z i (omega arith)))
   gather-dense w (suc k) l m red z = go (ℕ-discrete (getD l k 0) 0) (λ l′. gather-dense w k l′)
@@ -115,7 +109,7 @@ module _ (p : ℕ) (P : Prime p) where
       go (yes e) again = ap (poly p P) (gather-passed k l e) ∙ again l (omega arith) red (clear-one-less k l e z)
       go (no n) again =
           let v = getD l k 0 in
-          let lv : v < base = let r = red k in omega arith in
+          let lv : v < coefficient-limit = let r = red k in omega arith in
           let M : Fp p → S4 R .Car = monomial R (exponents k) in
           ap (poly p P) (gather-taken k l n)
           ∙ ap₂ (S4 R .add) (ap₂ (λ (i j : ℕ). monomial R (exponents i) (el p j)) (key-of-term k v lv) (coefficient-of-term k v lv))

@@ -1,4 +1,4 @@
--- The polynomial of a list of terms: which coefficients it has, its leading term, and that a list that passes the check is known by it. Assumes nothing.
+-- The parts of a term; the polynomial of a list of terms: which coefficients it has, its leading term, and that a list that passes the check is known by it. Assumes nothing.
 use mathlib.Core.Path.{_≡_, refl, sym, _∙_, ap, ap₂, subst}
 use mathlib.Core.List.{List, [], _∷_}
 use Prim.Native.Nat.{ℕ, suc, _≤_, _<_}
@@ -15,11 +15,18 @@ use Rattle.field.specs.Fp.{el}
 use Rattle.field.specs.FpLaws.{el-below-inj, el-nonzero}
 use Rattle.field.specs.Modulo.{Modulo}
 use Rattle.poly.specs.Keys.{keys, exponents}
-use Rattle.poly.specs.Terms.{key-of, coefficient-of, term-of, terms-of, poly}
+use Rattle.poly.specs.Terms.{coefficient-limit, keyed, key-of, coefficient-of, term-of, terms-of, poly}
 use Rattle.poly.specs.Lists.{WrongModulo, Falling}
 use Rattle.poly.specs.Laws.Keys.{exponents-injective, key-order-of}
 use Rattle.poly.specs.Laws.Lists.{terms-fall}
 use Rattle.poly.specs.Laws.Value.{polynomial-finite}
+
+-- the term of a key and a coefficient has them
+pub key-of-term : (n q : ℕ) → q < coefficient-limit → key-of (keyed n q) ≡ n
+key-of-term n q h = omega arith
+
+pub coefficient-of-term : (n q : ℕ) → q < coefficient-limit → coefficient-of (keyed n q) ≡ q
+coefficient-of-term n q h = omega arith
 
 -- a term is known by its key and its coefficient
 same-term : (t u : ℕ) → key-of t ≡ key-of u → coefficient-of t ≡ coefficient-of u → t ≡ u

@@ -8,7 +8,7 @@ use Rattle.algebra.specs.Four.{Exponents}
 use Rattle.algebra.specs.GreatestExponent.{Variable, in-x, in-y, in-z, in-w, exponent}
 use Rattle.field.specs.Fp.{el, inv}
 use Rattle.poly.specs.Keys.{key, exponents, keys}
-use Rattle.poly.specs.Terms.{key-of, coefficient-of, packed}
+use Rattle.poly.specs.Terms.{key-of, coefficient-of, keyed}
 use Rattle.poly.specs.Models.Spread.{spread}
 
 -- each key of a list, moved up by s, is below n
@@ -90,7 +90,7 @@ found-from d (suc k) l =
     elim (eqb (getD l k 0) 0) [
       | true ↦ found-from d k l
       | false ↦ elim (fits d k) [
-        | true ↦ packed (k - d .lead) (factor d k l) ∷ found-from d k (less d k l)
+        | true ↦ keyed (k - d .lead) (factor d k l) ∷ found-from d k (less d k l)
         | false ↦ []
       ]
     ]

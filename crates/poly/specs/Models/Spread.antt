@@ -4,7 +4,7 @@ use mathlib.Core.Bool.{true, false}
 use Prim.Native.Nat.{ℕ, zero, suc}
 use lib.Dec.{eqb}
 use lib.ListN.{getD, set}
-use Rattle.poly.specs.Terms.{key-of, coefficient-of, packed}
+use Rattle.poly.specs.Terms.{key-of, coefficient-of, keyed}
 
 -- each term's coefficient stored at its key
 unfoldable pub spread : List ℕ → List ℕ → List ℕ
@@ -14,4 +14,4 @@ spread (t ∷ ts) l = spread ts (set l (key-of t) (coefficient-of t))
 -- the terms of the cells below k that are not 0, the highest key first
 unfoldable pub gathered : ℕ → List ℕ → List ℕ
 gathered zero l = []
-gathered (suc k) l = elim (eqb (getD l k 0) 0) [ true ↦ gathered k l | false ↦ packed k (getD l k 0) ∷ gathered k l ]
+gathered (suc k) l = elim (eqb (getD l k 0) 0) [ true ↦ gathered k l | false ↦ keyed k (getD l k 0) ∷ gathered k l ]

@@ -14,7 +14,7 @@ use Rattle.divisor.specs.Laws.MonicTerms.{leading-below}
 use Rattle.divisor.specs.Laws.Turns.{MadeSo, made-passed, made-taken, made-all}
 use Rattle.divisor.proofs.monic.made_monic.Statement.{statement}
 use Rattle.divisor.proofs.monic.made_monic.Tie as tie
-use Rattle.poly.specs.Terms.{packed}
+use Rattle.poly.specs.Terms.{keyed}
 
 abbrev Inv-loop : tie.InvT-loop
 Inv-loop p skeleton values factor terms₀ count₀ i₀ terms count i =
@@ -94,7 +94,7 @@ loop-again c =
       subst (λ (n : ℕ). MadeSo (a .p) f (a .skeleton .now) (a .t3) (l .i + 1) n (c .if1 .terms)) (sym (w .5))
           (subst (λ (ts : List ℕ). MadeSo (a .p) f (a .skeleton .now) (a .t3) (l .i + 1) (l .count + 1) ts) (sym (w .4))
           (made-taken (a .p) f (a .skeleton .now) (a .t3) (l .i) (s .pre .long) (l .count) (l .terms) (w .3 .result) i (w .0 .taken) (omega (arith, s .pre .few))
-          (w .3 .ensures ∙ ap (packed (getD (a .skeleton .now) (l .i) 0)) (w .2 .ensures)) (l .inv .3))),
+          (w .3 .ensures ∙ ap (keyed (getD (a .skeleton .now) (l .i) 0)) (w .2 .ensures)) (l .inv .3))),
     ))
     (λ w. (
       omega arith,

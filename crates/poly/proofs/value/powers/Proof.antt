@@ -5,7 +5,8 @@ use mathlib.Core.Path.{_≡_, refl, ap, _∙_}
 use Prim.Native.Nat.{ℕ, _-_, _*_, _%_, _≤_}
 use native.Mathlib.Omega.{arith}
 use lib.ListN.{length, replicate}
-use Rattle.poly.specs.Models.Cells.{Filled, filled-start, filled-next, filled-end}
+use Rattle.poly.specs.Models.Cells.{Filled}
+use Rattle.poly.specs.Laws.Cells.{filled-start, filled-next, filled-end}
 use Rattle.poly.specs.Models.Powers.{power, powers}
 use Rattle.poly.specs.Laws.Powers.{power-start, power-next}
 use Rattle.poly.proofs.value.powers.Statement.{statement}
