@@ -23,7 +23,7 @@ use Rattle.divisor.specs.Laws.Passed.{right-lists, skeleton-falls}
 use Rattle.divisor.specs.Laws.Monic.{monic-is-made-monic}
 use Rattle.divisor.specs.Laws.Degree.{accepted-greatest}
 use Rattle.divisor.specs.Laws.CandidateDetermined.{candidate-determined}
-use Rattle.divisor.specs.Laws.Proposed.{Under, Falling, terms-at, terms-at-monomials, polynomial-of-terms-at}
+use Rattle.divisor.specs.Laws.Proposed.{Under, FallingMonomials, terms-at, terms-at-monomials, polynomial-of-terms-at}
 use Rattle.divisor.specs.Laws.Complete.{common-divisor-found}
 use Rattle.divisor.specs.Laws.Output.{answered-output}
 
@@ -42,16 +42,16 @@ accepted-is-greatest c r (answered pass listed f G x) e = (
 )
 
 -- keys that fall have monomials that fall
-under-of : (b k : ℕ) (ks : List ℕ) → b ≤ k → FallFrom b ks → Under (exponents k) (map exponents ks)
-under-of b k [] l h = tt
-under-of b k (j ∷ js) l h = (
+keys-under : (b k : ℕ) (ks : List ℕ) → b ≤ k → FallFrom b ks → Under (exponents k) (map exponents ks)
+keys-under b k [] l h = tt
+keys-under b k (j ∷ js) l h = (
   exponents-order j k (let m : j < b = h .0 in omega arith),
-  under-of j k js (let m : j < b = h .0 in omega arith) (h .1),
+  keys-under j k js (let m : j < b = h .0 in omega arith) (h .1),
 )
 
-falling-of : (b : ℕ) (ks : List ℕ) → FallFrom b ks → Falling (map exponents ks)
-falling-of b [] h = tt
-falling-of b (k ∷ ks) h = (under-of k k ks (omega arith) (h .1), falling-of k ks (h .1))
+keys-falling : (b : ℕ) (ks : List ℕ) → FallFrom b ks → FallingMonomials (map exponents ks)
+keys-falling b [] h = tt
+keys-falling b (k ∷ ks) h = (keys-under k k ks (omega arith) (h .1), keys-falling k ks (h .1))
 
 -- DEMAND 3, second half
 pub common-divisor-comes-out : (c : Call) (r : Result) → Candidate c r → CommonDivisorComesOut c r
@@ -73,7 +73,7 @@ common-divisor-comes-out c r meets pass listed d b u k kept sorted s only C fin 
 
     of-L : polynomial (F .ring) L ≡ C
     of-L = polynomial-of-terms-at F (monomials c listed)
-        (falling-of keys (c .skeleton) (skeleton-falls c pass)) C proposed
+        (keys-falling keys (c .skeleton) (skeleton-falls c pass)) C proposed
 
     not-zero : ¬ (polynomial (F .ring) L ≡ S4 (F .ring) .𝟘)
     not-zero e = degree .nonzero (ap (λ (f : S4 (F .ring) .Car). f d) (sym of-L ∙ e))

@@ -20,17 +20,17 @@ module _ (K : Field) (A B : Polynomial K) where
 
   infixl 70 _*_
   -- the least degree is least
-  pub least : (d e : ℕ) (points : List (Point R)) (b u b′ u′ : ℕ) (ks : List (Kept K)) (k : Kept K) (ls : List (Kept K))
+  pub least-degree : (d e : ℕ) (points : List (Point R)) (b u b′ u′ : ℕ) (ks : List (Kept K)) (k : Kept K) (ls : List (Kept K))
       → Sorted K A B d points b u ks → Sorted K A B e points b′ u′ (k ∷ ls) → d ≤ e
-  least d e points b u b′ u′ ks k ls (bad x s) (bad y t) = least d e _ _ u _ u′ ks k ls s t
-  least d e points b u b′ u′ ks k ls (bad x s) (unlucky f W j l t) = absurd (j .good x)
-  least d e points b u b′ u′ ks k ls (bad x s) (keep W j t) = absurd (j .good x)
-  least d e points b u b′ u′ ks k ls (unlucky g U i l s) (bad y t) = absurd (i .good y)
-  least d e points b u b′ u′ ks k ls (unlucky g U i l s) (unlucky f W j m t) = least d e _ b _ b′ _ ks k ls s t
-  least d e points b u b′ u′ ks k ls (unlucky {at = at} g U i l s) (keep W j t) = let q : g ≡ e = image-unique K A B at g e U W i j .0 in omega arith
-  least d e points b u b′ u′ ks k ls (keep U i s) (bad y t) = absurd (i .good y)
-  least d e points b u b′ u′ ks k ls (keep U i s) (unlucky f W j m t) = least d e _ b u b′ _ _ k ls s t
-  least d e points b u b′ u′ ks k ls (keep {at = at} U i s) (keep W j t) = let q : d ≡ e = image-unique K A B at d e U W i j .0 in omega arith
+  least-degree d e points b u b′ u′ ks k ls (bad x s) (bad y t) = least-degree d e _ _ u _ u′ ks k ls s t
+  least-degree d e points b u b′ u′ ks k ls (bad x s) (unlucky f W j l t) = absurd (j .good x)
+  least-degree d e points b u b′ u′ ks k ls (bad x s) (keep W j t) = absurd (j .good x)
+  least-degree d e points b u b′ u′ ks k ls (unlucky g U i l s) (bad y t) = absurd (i .good y)
+  least-degree d e points b u b′ u′ ks k ls (unlucky g U i l s) (unlucky f W j m t) = least-degree d e _ b _ b′ _ ks k ls s t
+  least-degree d e points b u b′ u′ ks k ls (unlucky {at = at} g U i l s) (keep W j t) = let q : g ≡ e = image-unique K A B at g e U W i j .0 in omega arith
+  least-degree d e points b u b′ u′ ks k ls (keep U i s) (bad y t) = absurd (i .good y)
+  least-degree d e points b u b′ u′ ks k ls (keep U i s) (unlucky f W j m t) = least-degree d e _ b u b′ _ _ k ls s t
+  least-degree d e points b u b′ u′ ks k ls (keep {at = at} U i s) (keep W j t) = let q : d ≡ e = image-unique K A B at d e U W i j .0 in omega arith
 
   pub sorted-determined : (d : ℕ) (points : List (Point R)) (b u b′ u′ : ℕ) (ks ls : List (Kept K))
       → Sorted K A B d points b u ks → Sorted K A B d points b′ u′ ls → (b ≡ b′) × (u ≡ u′) × (ks ≡ ls)
@@ -92,8 +92,8 @@ module _ (K : Field) (A B : Polynomial K) where
   answer-determined monomials points r q G H (all-bad all) (some-good d b u k ks s n I x) = absurd (not-all-bad d points b u k ks s all)
   answer-determined monomials points r q G H (some-good d b u k ks s n I x) (all-bad all) = absurd (not-all-bad d points b u k ks s all)
   answer-determined monomials points r q G H (some-good d b u k ks s n I x) (some-good e c w l ls t m J y) =
-      let le : d ≤ e = least d e points b u c w (k ∷ ks) l ls s t in
-      let ge : e ≤ d = least e d points c w b u (l ∷ ls) k ks t s in
+      let le : d ≤ e = least-degree d e points b u c w (k ∷ ks) l ls s t in
+      let ge : e ≤ d = least-degree e d points c w b u (l ∷ ls) k ks t s in
       let same : d ≡ e = omega arith in
       let sorted = sorted-determined e points b u c w (k ∷ ks) (l ∷ ls) (subst (λ (f : ℕ). Sorted K A B f points b u (k ∷ ks)) same s) t in
       let v = verdict-determined monomials (l ∷ ls) n m I J (subst (λ (ms : List (Kept K)). Verdict K A B monomials ms n I) (sorted .2) x) y in

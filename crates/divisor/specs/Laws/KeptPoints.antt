@@ -100,7 +100,7 @@ module _ {c : Call} {after sizes : List ℕ} {m count : ℕ} (good : SomeGood c 
     few = right-points c pass .few;
     count = good .look .count;
     room = room-after c pass after sizes (good .look);
-    images = λ i l. subst (Eight p) (sym (good .look .images i l)) (look-eight p (c .first-list) (c .second-list) (c .points) (c .work) (look-ready c pass) i);
+    images = λ i l. subst (Eight p) (sym (good .look .images i l)) (look-eight (look-ready c pass) i);
     some = some-kept;
     columns-are = ap (length (c .skeleton) +_) (good .is-count);
     most = columns-fit .most;

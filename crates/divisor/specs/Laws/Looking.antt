@@ -29,7 +29,7 @@ answer-eight : (p : ℕ) (P : Prime p) (A B : Polynomial (Modulo p P)) (at : Poi
 answer-eight p P A B at r (bad x) = zeros-eight p (prime-positive P)
 answer-eight p P A B at r (good d cs e i) = e
 
-module _ (p : ℕ) (A B points work : List ℕ) (h : LookReady p A B points work) where
+module _ {p : ℕ} {A B points work : List ℕ} (h : LookReady p A B points work) where
   right : RightLists p A B
   right = lists-are-right p A B (h .lists)
 

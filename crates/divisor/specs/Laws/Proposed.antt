@@ -16,9 +16,9 @@ Under m [] = Unit {0}
 Under m (e ∷ es) = (e ≺ m) × Under m es
 
 -- the monomials fall
-abbrev pub Falling : List Exponents → Type 0
-Falling [] = Unit {0}
-Falling (m ∷ ms) = Under m ms × Falling ms
+abbrev pub FallingMonomials : List Exponents → Type 0
+FallingMonomials [] = Unit {0}
+FallingMonomials (m ∷ ms) = Under m ms × FallingMonomials ms
 
 module _ (K : Field) where
   open Field K using (ring as R)
@@ -55,7 +55,7 @@ module _ (K : Field) where
   at-other [] f e n = refl
   at-other (m ∷ ms) f e n = ap₂ _+_ (monomial-off R m e _ (λ q. n (inl q))) (at-other ms f e (λ p. n (inr p))) ∙ R .add-zero _
 
-  at-proposed : (ms : List Exponents) → Falling ms → (f : S4 R .Car) (e : Exponents) → Proposed K ms e → coef R (polynomial R (terms-at ms f)) e ≡ coef R f e
+  at-proposed : (ms : List Exponents) → FallingMonomials ms → (f : S4 R .Car) (e : Exponents) → Proposed K ms e → coef R (polynomial R (terms-at ms f)) e ≡ coef R f e
   unfolding polynomial terms-at
   at-proposed [] h f e p = absurd p
   at-proposed (m ∷ ms) h f e (inl q) =
@@ -65,7 +65,7 @@ module _ (K : Field) where
       ap₂ _+_ (monomial-off R m e _ (λ q. not-under m ms (h .0) (subst (Proposed K ms) (sym q) p))) (at-proposed ms (h .1) f e p) ∙ zero-add R _
 
   -- such a polynomial is its list
-  pub polynomial-of-terms-at : (ms : List Exponents) → Falling ms → (f : S4 R .Car) → OnlyProposed K ms f → polynomial R (terms-at ms f) ≡ f
+  pub polynomial-of-terms-at : (ms : List Exponents) → FallingMonomials ms → (f : S4 R .Car) → OnlyProposed K ms f → polynomial R (terms-at ms f) ≡ f
   polynomial-of-terms-at ms falling f only = coef-ext R _ f λ e. go e (proposed? ms e) (K .decide (coef R f e))
     where
       go : (e : Exponents) → Dec (Proposed K ms e) → Dec (coef R f e ≡ 𝟘) → coef R (polynomial R (terms-at ms f)) e ≡ coef R f e

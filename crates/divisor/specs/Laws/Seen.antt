@@ -65,7 +65,7 @@ module _ (p : ℕ) (A B points : List ℕ) where
     seen i zero e = subst (λ (l : List (Point (Modulo p P .ring))). Looked P (terms-of p P A) (terms-of p P B) l []) (sym (no-point p P (left i) (let q = left-length i 0 e in omega arith))) none
     seen i (suc n) e =
         subst (λ (l : List (Point (Modulo p P .ring))). Looked P (terms-of p P A) (terms-of p P B) l (looks-from p A B points i (suc n))) (sym (points-next P i n e))
-        (one (look-answers p A B points work ready P i) (seen (suc i) n (omega arith)))
+        (one (look-answers ready P i) (seen (suc i) n (omega arith)))
 
   module _ (N : ℕ) (before after sizes : List ℕ) (few : N ≤ most-points) (looks : Looks N p A B points before after sizes) where
     sizes-from : (i n : ℕ) → i + n ≡ N → take n (drop i sizes) ≡ sizes-of (looks-from p A B points i n)

@@ -46,7 +46,7 @@ image-at-requires c κs =
     let a = s .args in
     let i = c .before .before .loop .i in
     subst (Fine (a .p) (a .first .now) (a .second .now)) (sym (part-is 3 i (a .points .now)))
-    (point-fine (a .p) (a .first .now) (a .second .now) (a .points .now) (a .work .now) (s .pre) i (c .before .loop-test .taken))
+    (point-fine (s .pre) i (c .before .loop-test .taken))
 
 size-requires : tie.Need-size-requires Inv-loop μ-loop
 size-requires c κs =
@@ -54,7 +54,7 @@ size-requires c κs =
     let a = s .args in
     let i = c .before .before .before .loop .i in
     let e : c .image-at .result ≡ look-at (a .p) (a .first .now) (a .second .now) (a .points .now) i = c .image-at .ensures ∙ ap (image-of (a .p) (a .first .now) (a .second .now)) (part-is 3 i (a .points .now)) in
-    subst (λ (r : ImageRecord). r .degree < 8) (sym e) (look-small (a .p) (a .first .now) (a .second .now) (a .points .now) (a .work .now) (s .pre) i)
+    subst (λ (r : ImageRecord). r .degree < 8) (sym e) (look-small (s .pre) i)
 
 mul-sizes : tie.Need-mul-sizes Inv-loop μ-loop
 mul-sizes c = search needs
@@ -86,7 +86,7 @@ loop-again c =
     let e : seen .result ≡ look-at (a .p) (a .first .now) (a .second .now) (a .points .now) (l .i) = seen .ensures ∙ ap (image-of (a .p) (a .first .now) (a .second .now)) (part-is 3 (l .i) (a .points .now)) in (
       omega arith,
       looks-next (omega (arith, s .pre .few)) (s .pre .room) (l .inv .1)
-          e (ap (λ (r : ImageRecord). length (r .coefficients)) e ∙ look-eight (a .p) (a .first .now) (a .second .now) (a .points .now) (a .work .now) (s .pre) (l .i) .eight)
+          e (ap (λ (r : ImageRecord). length (r .coefficients)) e ∙ look-eight (s .pre) (l .i) .eight)
           (c .before .before .before .before .before .size .ensures) (c .before .before .store .ensures),
     )
 
