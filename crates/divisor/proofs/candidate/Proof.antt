@@ -9,7 +9,15 @@ use Rattle.divisor.proofs.candidate.Tie as tie
 abbrev question : tie.Start → Call
 question s =
     let a = s .args in
-    record { modulus = a .p; first-list = a .first .now; second-list = a .second .now; skeleton = a .skeleton .now; points = a .points .now; output = a .out .now; work = a .work .now }
+    record {
+      modulus = a .p;
+      first-list = a .first .now;
+      second-list = a .second .now;
+      skeleton = a .skeleton .now;
+      points = a .points .now;
+      output = a .out .now;
+      work = a .work .now;
+    }
 
 candidate-fault-requires : tie.Need-candidate-fault-requires
 candidate-fault-requires c κs = search needs

@@ -49,7 +49,9 @@ module _ (K : Field) where
     value-divides-image at d U image H fin dA dB = image .greatest .most _ (valued K at .keeps H fin) (of-value A dA) (of-value B dB)
       where
         of-value : (f : Polynomial K) → Divides K H (polynomial R f) → DividesX K (valued K at .fn H fin) (value R f at)
-        of-value f q = div-to (SeriesR R) (SeriesD R (domain K)) _ _ _ (value-of-polynomial K f at (polynomial-finite K f)) (divides-value (valued K at) fin (polynomial-finite K f) q)
+        of-value f q =
+            div-to (SeriesR R) (SeriesD R (domain K)) _ _ _ (value-of-polynomial K f at (polynomial-finite K f))
+            (divides-value (valued K at) fin (polynomial-finite K f) q)
 
     -- no common divisor has a degree above an image's
     pub common-divisor-degree : (at : Point R) (d : ℕ) (U : Seq R) → Image K A B at d U
@@ -116,7 +118,9 @@ module _ (K : Field) where
       top : ((n : ℕ) → polynomial R (divisor K s) n ≡ S3 .𝟘) ⊎ ((n : ℕ) × Top S3 n (polynomial R (divisor K s))) → DegreeX K d (polynomial R (divisor K s))
       top (inl z) = absurd (beside (z d))
       top (inr t) =
-          let l : t .0 ≤ d = common-divisor-degree A B w (k .point) d (k .image) image (polynomial R (divisor K s)) (polynomial-finite K (divisor K s)) (both .0) (both .1) (t .0) (t .1) in
+          let l : t .0 ≤ d =
+          common-divisor-degree A B w (k .point) d (k .image) image (polynomial R (divisor K s)) (polynomial-finite K (divisor K s)) (both .0) (both .1) (t .0)
+          (t .1) in
           let m : ¬ (suc (t .0) ≤ d) = λ h. beside (t .1 .ends d h) in
           let e : t .0 ≡ d = omega arith in
           subst (λ (n : ℕ). DegreeX K n (polynomial R (divisor K s))) e (t .1)

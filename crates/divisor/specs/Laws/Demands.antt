@@ -28,7 +28,8 @@ use Rattle.divisor.specs.Laws.Complete.{common-divisor-found}
 use Rattle.divisor.specs.Laws.Output.{answered-output}
 
 -- no power of x in a first list that passes is above the first term's
-first-within : (c : Call) → Passes (table c) → (listed : Listed (c .modulus)) → WithinX (Numbers c listed) (x-degree (Numbers c listed .ring) (A c listed)) (A c listed)
+first-within : (c : Call) → Passes (table c) → (listed : Listed (c .modulus))
+    → WithinX (Numbers c listed) (x-degree (Numbers c listed .ring) (A c listed)) (A c listed)
 first-within c pass listed = falling-within (c .modulus) (prime c listed) keys (c .first-list) (right-lists c pass .first .falls)
 
 -- DEMAND 3, first half
@@ -57,7 +58,8 @@ keys-falling b (k ∷ ks) h = (keys-under k k ks (omega arith) (h .1), keys-fall
 pub common-divisor-comes-out : (c : Call) (r : Result) → Candidate c r → CommonDivisorComesOut c r
 common-divisor-comes-out c r meets pass listed d b u k kept sorted s only C fin dA dB degree proposed =
     let answer = common-divisor-found F (A c listed) (B c listed) (first-within c pass listed)
-    L divides-both d (subst (DegreeX F d) (sym of-L) degree) (monomials c listed) (terms-at-monomials F (monomials c listed) C) (lent-points c listed) b u k kept sorted s only in
+    L divides-both d (subst (DegreeX F d) (sym of-L) degree) (monomials c listed) (terms-at-monomials F (monomials c listed) C)
+    (lent-points c listed) b u k kept sorted s only in
     let same = candidate-determined c _ r (answered pass listed _ _ answer) meets in
     subst (λ (q : Result). (q .found .fault .number ≡ 0) × MadeMonic F C (handed-out c listed q)) same (
       refl,
@@ -78,5 +80,7 @@ common-divisor-comes-out c r meets pass listed d b u k kept sorted s only C fin 
     not-zero : ¬ (polynomial (F .ring) L ≡ S4 (F .ring) .𝟘)
     not-zero e = degree .nonzero (ap (λ (f : S4 (F .ring) .Car). f d) (sym of-L ∙ e))
 
-    divides-both : Divides F (polynomial (F .ring) L) (polynomial (F .ring) (A c listed)) × Divides F (polynomial (F .ring) L) (polynomial (F .ring) (B c listed))
-    divides-both = subst (λ (f : S4 (F .ring) .Car). Divides F f (polynomial (F .ring) (A c listed)) × Divides F f (polynomial (F .ring) (B c listed))) (sym of-L) (dA, dB)
+    divides-both : Divides F (polynomial (F .ring) L) (polynomial (F .ring) (A c listed))
+        × Divides F (polynomial (F .ring) L) (polynomial (F .ring) (B c listed))
+    divides-both =
+        subst (λ (f : S4 (F .ring) .Car). Divides F f (polynomial (F .ring) (A c listed)) × Divides F f (polynomial (F .ring) (B c listed))) (sym of-L) (dA, dB)

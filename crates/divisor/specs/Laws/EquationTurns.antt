@@ -39,7 +39,8 @@ module _ (p : ℕ) (ys zs ws ks : List ℕ) (i : ℕ) where
     }
       where
         go : (k : ℕ) → k < j + 1 → Dec (k ≡ j) → cell r k ≡ monomial-number p ys zs ws i (getD ks k 0)
-        go k l (yes e) = h .left k (omega arith) ∙ sym (ap (λ (m : ℕ). monomial-number p ys zs ws i (getD ks m 0)) e ∙ number-there p ys zs ws i (getD ks j 0) n)
+        go k l (yes e) =
+            h .left k (omega arith) ∙ sym (ap (λ (m : ℕ). monomial-number p ys zs ws i (getD ks m 0)) e ∙ number-there p ys zs ws i (getD ks j 0) n)
         go k l (no e) = h .done k (omega arith)
 
     pub equation-taken : (v : ℕ) → exponents (getD ks j 0) .x ≡ i → j < COLUMNS
@@ -57,7 +58,8 @@ module _ (p : ℕ) (ys zs ws ks : List ℕ) (i : ℕ) where
             ∙ sym (ap (λ (m : ℕ). monomial-number p ys zs ws i (getD ks m 0)) z ∙ number-here p ys zs ws i (getD ks j 0) e)
         go k l (no z) = getD-set-other (r .cells) j k v 0 z ∙ h .done k (omega arith)
 
-    pub equation-end : (column u : ℕ) → length ks ≤ j → j ≤ length ks → length ks ≤ column → column < COLUMNS → IsEquation p ys zs ws ks i column u (with-cell r column u)
+    pub equation-end : (column u : ℕ) → length ks ≤ j → j ≤ length ks → length ks ≤ column → column < COLUMNS
+        → IsEquation p ys zs ws ks i column u (with-cell r column u)
     equation-end column u l m b c = record {
       size = length-set (r .cells) column u ∙ h .size;
       monomials = λ k a. getD-set-other (r .cells) column k u 0 (λ z. omega arith) ∙ h .done k (omega arith);

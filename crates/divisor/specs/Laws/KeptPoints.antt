@@ -90,7 +90,8 @@ module _ {c : Call} {after sizes : List ℕ} {m count : ℕ} (good : SomeGood c 
   counts-fit bad is-bad = let l = alike-two 0 m (λ e. good .some (sym e)) (take n sizes) in let e = sized in let i = good .is-count in omega arith
 
   pub columns-fit : Columns (length (c .skeleton) + count)
-  columns-fit = record { some = let k = some-kept in let i = good .is-count in omega arith; most = let k = count-small in let s = keys-most c pass in omega arith }
+  columns-fit =
+      record { some = let k = some-kept in let i = good .is-count in omega arith; most = let k = count-small in let s = keys-most c pass in omega arith }
 
   pub ready-equations : EquationsReady (c .modulus) (c .skeleton) (c .points) sizes after m (length (c .skeleton) + count)
   ready-equations = record {

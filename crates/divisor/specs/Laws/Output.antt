@@ -69,7 +69,8 @@ module _ (K : Field) where
       record { keyed = (subst Digits (sym q) (digits-of k), w .keyed); count = let l = w .count in omega arith }
 
   -- G has at most as many terms as the skeleton, and their monomials have keys
-  pub divisor-within : (keys : List ℕ) (kept : List (Kept K)) (s : Unknowns K) → Solution K (map exponents keys) kept s → KeyedWithin (divisor K s) (length keys)
+  pub divisor-within : (keys : List ℕ) (kept : List (Kept K)) (s : Unknowns K) → Solution K (map exponents keys) kept s
+      → KeyedWithin (divisor K s) (length keys)
   divisor-within keys kept s h =
       let a = proposed-within (s .skeleton) keys (h .proposed) in
       let b = without-zeros-within (s .skeleton) (a .keyed) in
@@ -110,7 +111,8 @@ answer-counts : (c : Call) (listed : Listed (c .modulus)) (r : CandidateRecord) 
 answer-counts c listed r G (all-bad all) = (tt, refl)
 answer-counts c listed r G (some-good d b u k kept sorted n H v) = (go n H v, refl)
   where
-    go : (n : ℕ) (H : Polynomial (Numbers c listed)) → Verdict (Numbers c listed) (A c listed) (B c listed) (monomials c listed) (k ∷ kept) n H → Keyed (Numbers c listed) H
+    go : (n : ℕ) (H : Polynomial (Numbers c listed)) → Verdict (Numbers c listed) (A c listed) (B c listed) (monomials c listed) (k ∷ kept) n H
+        → Keyed (Numbers c listed) H
     go n H (none x) = tt
     go n H (several x) = tt
     go n H (rejected s x y) = tt

@@ -55,7 +55,8 @@ module _ (K : Field) where
   at-other [] f e n = refl
   at-other (m ∷ ms) f e n = ap₂ _+_ (monomial-off R m e _ (λ q. n (inl q))) (at-other ms f e (λ p. n (inr p))) ∙ R .add-zero _
 
-  at-proposed : (ms : List Exponents) → FallingMonomials ms → (f : S4 R .Car) (e : Exponents) → Proposed K ms e → coef R (polynomial R (terms-at ms f)) e ≡ coef R f e
+  at-proposed : (ms : List Exponents) → FallingMonomials ms → (f : S4 R .Car) (e : Exponents) → Proposed K ms e
+      → coef R (polynomial R (terms-at ms f)) e ≡ coef R f e
   unfolding polynomial terms-at
   at-proposed [] h f e p = absurd p
   at-proposed (m ∷ ms) h f e (inl q) =

@@ -57,14 +57,20 @@ module _ (p : ℕ) (A B points : List ℕ) where
   left-next : (i : ℕ) → drop 3 (left i) ≡ left (suc i)
   left-next i = let e : 3 * i + 3 ≡ 3 * suc i = omega arith in drop-drop 3 (3 * i) points ∙ ap (λ (n : ℕ). drop n points) e
 
-  points-next : (P : Prime p) (i n : ℕ) → length points ≡ 3 * (i + suc n) → points-of p P (left i) ≡ point-of p P (point-at points i) ∷ points-of p P (left (suc i))
-  points-next P i n e = next-point p P (left i) (let q = left-length i (suc n) e in omega arith) ∙ ap (λ (l : List ℕ). point-of p P (point-at points i) ∷ points-of p P l) (left-next i)
+  points-next : (P : Prime p) (i n : ℕ) → length points ≡ 3 * (i + suc n)
+      → points-of p P (left i) ≡ point-of p P (point-at points i) ∷ points-of p P (left (suc i))
+  points-next P i n e =
+      next-point p P (left i) (let q = left-length i (suc n) e in omega arith)
+      ∙ ap (λ (l : List ℕ). point-of p P (point-at points i) ∷ points-of p P l) (left-next i)
 
   module _ (work : List ℕ) (ready : LookReady p A B points work) (P : Prime p) where
     pub seen : (i n : ℕ) → length points ≡ 3 * (i + n) → Looked P (terms-of p P A) (terms-of p P B) (points-of p P (left i)) (looks-from p A B points i n)
-    seen i zero e = subst (λ (l : List (Point (Modulo p P .ring))). Looked P (terms-of p P A) (terms-of p P B) l []) (sym (no-point p P (left i) (let q = left-length i 0 e in omega arith))) none
+    seen i zero e =
+        subst (λ (l : List (Point (Modulo p P .ring))). Looked P (terms-of p P A) (terms-of p P B) l [])
+        (sym (no-point p P (left i) (let q = left-length i 0 e in omega arith))) none
     seen i (suc n) e =
-        subst (λ (l : List (Point (Modulo p P .ring))). Looked P (terms-of p P A) (terms-of p P B) l (looks-from p A B points i (suc n))) (sym (points-next P i n e))
+        subst (λ (l : List (Point (Modulo p P .ring))). Looked P (terms-of p P A) (terms-of p P B) l (looks-from p A B points i (suc n)))
+        (sym (points-next P i n e))
         (one (look-answers ready P i) (seen (suc i) n (omega arith)))
 
   module _ (N : ℕ) (before after sizes : List ℕ) (few : N ≤ most-points) (looks : Looks N p A B points before after sizes) where
@@ -85,10 +91,12 @@ module _ (p : ℕ) (A B points : List ℕ) where
       rest i n = kept-of P m (points-of p P (left i)) (looks-from p A B points i n)
 
       -- one more point, kept or not
-      one-more : (i n : ℕ) → i + suc n ≡ N → kept-before P m points sizes after i ++ rest i (suc n) ≡ kept-before P m points sizes after (suc i) ++ rest (suc i) n
+      one-more : (i n : ℕ) → i + suc n ≡ N
+          → kept-before P m points sizes after i ++ rest i (suc n) ≡ kept-before P m points sizes after (suc i) ++ rest (suc i) n
       unfolding kept-before kept-of
       one-more i n e =
-          ap (λ (l : List (Point (Modulo p P .ring))). kept-before P m points sizes after i ++ kept-of P m l (looks-from p A B points i (suc n))) (points-next P i n (omega arith))
+          ap (λ (l : List (Point (Modulo p P .ring))). kept-before P m points sizes after i ++ kept-of P m l (looks-from p A B points i (suc n)))
+          (points-next P i n (omega arith))
           ∙ ap (λ (s : ℕ). kept-before P m points sizes after i ++ by (eqb s m) (look-at p A B points i .coefficients)) (sym (looks .sized i (omega arith)))
           ∙ ap (λ (l : List ℕ). kept-before P m points sizes after i ++ by (eqb (getD sizes i 0) m) l) (sym (looks .images i (omega arith)))
           ∙ go (eqb (getD sizes i 0) m)
@@ -112,7 +120,8 @@ module _ (p : ℕ) (A B points : List ℕ) where
       kept-from : (i n : ℕ) → i + n ≡ N → kept-before P m points sizes after i ++ rest i n ≡ kept-before P m points sizes after N
       kept-from i zero e =
           let q : i ≡ N = omega arith in
-          ap (λ (l : List (Point (Modulo p P .ring))). kept-before P m points sizes after i ++ kept-of P m l []) (no-point p P (left i) (let r = left-length i 0 (omega arith) in omega arith))
+          ap (λ (l : List (Point (Modulo p P .ring))). kept-before P m points sizes after i ++ kept-of P m l [])
+          (no-point p P (left i) (let r = left-length i 0 (omega arith) in omega arith))
           ∙ ap (kept-before P m points sizes after i ++_) none-kept
           ∙ append-nil (kept-before P m points sizes after i)
           ∙ ap (kept-before P m points sizes after) q

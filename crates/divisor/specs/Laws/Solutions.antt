@@ -123,10 +123,14 @@ module _ (K : Field) where
     unknowns-of-vector s h = λ i. record { skeleton = same i; multipliers = (ap (𝟙 ∷_) later ∙ sym (first-and-after (s .multipliers) (h .one-first))) i }
       where
         same : with-coefficients K es (vector-of K s) ≡ s .skeleton
-        same = subst (λ (ms : List Exponents). with-coefficients K ms (vector-of K s) ≡ s .skeleton) (h .proposed) (with-own (s .skeleton) (after-first K (s .multipliers)))
+        same =
+            subst (λ (ms : List Exponents). with-coefficients K ms (vector-of K s) ≡ s .skeleton) (h .proposed)
+            (with-own (s .skeleton) (after-first K (s .multipliers)))
 
         later : behind K es (vector-of K s) ≡ after-first K (s .multipliers)
-        later = subst (λ (ms : List Exponents). behind K ms (vector-of K s) ≡ after-first K (s .multipliers)) (h .proposed) (behind-own (s .skeleton) (after-first K (s .multipliers)))
+        later =
+            subst (λ (ms : List Exponents). behind K ms (vector-of K s) ≡ after-first K (s .multipliers)) (h .proposed)
+            (behind-own (s .skeleton) (after-first K (s .multipliers)))
 
     vector-of-unknowns : (v : List Car) → SolvesRows v → vector-of K (unknowns-of K es v) ≡ v
     vector-of-unknowns v h =

@@ -94,7 +94,8 @@ least-is a (s ∷ sizes) = go (lesser a s) (lesser-is a s) (least-from (lesser a
     go : (b : ℕ) → Lesser a s b → (m : ℕ) → Least b sizes m → Least a (s ∷ sizes) m
     go b (first h) m l = record {
       below-first = l .below-first;
-      below = (elim h [ inl e ↦ inl e | inr q ↦ elim (l .below-first) [ inl e ↦ absurd (q .0 e) | inr k ↦ inr (let c : a ≤ s = q .1 in omega arith) ] ], l .below);
+      below =
+          (elim h [ inl e ↦ inl e | inr q ↦ elim (l .below-first) [ inl e ↦ absurd (q .0 e) | inr k ↦ inr (let c : a ≤ s = q .1 in omega arith) ] ], l .below);
       zero-first = l .zero-first;
       zero = λ e. (elim h [ inl z ↦ z | inr q ↦ absurd (q .0 (l .zero-first e)) ], l .zero e);
       reached = elim (l .reached) [ inl e ↦ inl e | inr k ↦ inr (alike-later m s sizes k) ];
@@ -115,7 +116,8 @@ module _ {p : ℕ} (P : Prime p) (A B : Polynomial (Modulo p P)) where
         → PointAnswer p P A B at r → Looked points looks → Looked (at ∷ points) (r ∷ looks)
 
   -- all sizes 0: all points bad
-  pub all-bad : (points : List (Point (Modulo p P .ring))) (looks : List ImageRecord) → Looked points looks → AllZero (sizes-of looks) → AllBad (Modulo p P) A B points
+  pub all-bad : (points : List (Point (Modulo p P .ring))) (looks : List ImageRecord) → Looked points looks → AllZero (sizes-of looks)
+      → AllBad (Modulo p P) A B points
   unfolding size-of
   all-bad points looks none h = tt
   all-bad points looks (one (bad x) rest) h = (x, all-bad _ _ rest (h .1))
@@ -157,7 +159,8 @@ module _ {p : ℕ} (P : Prime p) (A B : Polynomial (Modulo p P)) where
           (suc (s .0), unlucky degree (series p cs) i (elim l [ inl z ↦ absurd (omega arith) | inr k ↦ omega arith ]) (s .1))
 
   -- as many are kept as have the size
-  pub kept-count : (m : ℕ) (points : List (Point (Modulo p P .ring))) (looks : List ImageRecord) → Looked points looks → length (kept-of P m points looks) ≡ alike m (sizes-of looks)
+  pub kept-count : (m : ℕ) (points : List (Point (Modulo p P .ring))) (looks : List ImageRecord) → Looked points looks
+      → length (kept-of P m points looks) ≡ alike m (sizes-of looks)
   unfolding alike kept-of
   kept-count m points looks none = refl
   kept-count m (at ∷ points) (r ∷ looks) (one a rest) = go (eqb (size-of r) m) (kept-count m points looks rest)

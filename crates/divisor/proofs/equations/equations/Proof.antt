@@ -51,7 +51,9 @@ column-of-requires c κs =
     let s = c .before .before .before .before .before .before .before in
     let a = s .args in
     let l = c .before .before .loop in
-    let left = alike-same (a .t4) (length (a .points .now) / 3) (l .i) (a .least) (points-sized (length (a .points .now)) (a .t4) (s .pre .few) (s .pre .count)) (c .before .loop-test .taken) (c .if1 .taken) in
+    let left =
+    alike-same (a .t4) (length (a .points .now) / 3) (l .i) (a .least) (points-sized (length (a .points .now)) (a .t4) (s .pre .few) (s .pre .count))
+    (c .before .loop-test .taken) (c .if1 .taken) in
     record {
       behind = omega (arith, s .pre .columns-are, s .pre .some);
       most = s .pre .most;
@@ -100,7 +102,9 @@ point-equations-requires c κs =
     let a = s .args in
     let l = c .before .before .before .before .before .loop in
     let e = c .before .before .column-of .ensures in
-    let left = alike-same (a .t4) (length (a .points .now) / 3) (l .i) (a .least) (points-sized (length (a .points .now)) (a .t4) (s .pre .few) (s .pre .count)) (c .before .before .before .before .loop-test .taken) (c .before .before .before .if1 .taken) in
+    let left =
+    alike-same (a .t4) (length (a .points .now) / 3) (l .i) (a .least) (points-sized (length (a .points .now)) (a .t4) (s .pre .few) (s .pre .count))
+    (c .before .before .before .before .loop-test .taken) (c .before .before .before .if1 .taken) in
     let i : l .i < length (a .points .now) / 3 = c .before .before .before .before .loop-test .taken in
     let fits = next-fits (a .columns - length (a .skeleton .now) - 1) (l .kept) (omega (arith, s .pre .columns-are, l .inv .1, left)) in
     let columns = equations-columns (l .inv .2) in

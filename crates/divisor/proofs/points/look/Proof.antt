@@ -53,7 +53,8 @@ size-requires c κs =
     let s = c .before .before .before .before .before .before .before .before in
     let a = s .args in
     let i = c .before .before .before .loop .i in
-    let e : c .image-at .result ≡ look-at (a .p) (a .first .now) (a .second .now) (a .points .now) i = c .image-at .ensures ∙ ap (image-of (a .p) (a .first .now) (a .second .now)) (part-is 3 i (a .points .now)) in
+    let e : c .image-at .result ≡ look-at (a .p) (a .first .now) (a .second .now) (a .points .now) i =
+    c .image-at .ensures ∙ ap (image-of (a .p) (a .first .now) (a .second .now)) (part-is 3 i (a .points .now)) in
     subst (λ (r : ImageRecord). r .degree < 8) (sym e) (look-small (s .pre) i)
 
 mul-sizes : tie.Need-mul-sizes Inv-loop μ-loop

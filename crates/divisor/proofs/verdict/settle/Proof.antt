@@ -47,7 +47,8 @@ same-length-4 c = search needs
 returns-3 : tie.Need-returns-3
 returns-3 c =
     let a = c .before .before .before .before .before .before .before .before .before .before .before .before .before .before .before .args in
-    settled-only (a .solved) (c .before .before .before .before .before .before .before .enum-told3 .given .1) (c .before .before .before .before .divided .ensures)
+    settled-only (a .solved) (c .before .before .before .before .before .before .before .enum-told3 .given .1)
+    (c .before .before .before .before .divided .ensures)
 
 pub settle-spec : {M : Type 1} → statement M
 settle-spec =
