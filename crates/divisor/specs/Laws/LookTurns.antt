@@ -90,7 +90,8 @@ module _ {p : ℕ} {ks points sizes work : List ℕ} {m columns : ℕ} where
       rows = h .rows;
       ready = h .ready;
       adds = h .adds;
-      means = λ P. h .means P ∙ ap (kept-rows (Modulo p P) (map exponents ks) (alike m (take (length points / 3) sizes) - 1)) (sym (kept-other P m points sizes work i n));
+      means = λ P. h .means P
+          ∙ ap (kept-rows (Modulo p P) (map exponents ks) (alike m (take (length points / 3) sizes) - 1)) (sym (kept-other P m points sizes work i n));
     }
 
     pub equations-same : getD sizes i 0 ≡ m → (column kept n : ℕ) (r : Table) → ((P : Prime p) → length (kept-before P m points sizes work i) ≡ kept)
@@ -106,7 +107,8 @@ module _ {p : ℕ} {ks points sizes work : List ℕ} {m columns : ℕ} where
           let N : alike m (take (length points / 3) sizes) - 1 ≡ n = omega arith in
           rows-append p (columns - 1) (h .rows) (g .rows)
           ∙ ap₂ _++_ (h .means P ∙ ap (λ (a : ℕ). kept-rows K (map exponents ks) a (kept-before P m points sizes work i)) N)
-          (g .means P (columns - 1) (suc n) (next-column n kept) (omega arith) col fits ∙ ap (λ (a : ℕ). rows-at K (map exponents ks) (suc n) (next-column n a) k 0 8) (sym (counted P)))
+          (g .means P (columns - 1) (suc n) (next-column n kept) (omega arith) col fits
+          ∙ ap (λ (a : ℕ). rows-at K (map exponents ks) (suc n) (next-column n a) k 0 8) (sym (counted P)))
           ∙ sym (kept-rows-more K (map exponents ks) n (kept-before P m points sizes work i) k)
           ∙ ap₂ (kept-rows K (map exponents ks)) (sym N) (sym (kept-same P m points sizes work i e));
     }

@@ -84,7 +84,8 @@ module _ (p : ℕ) (P : Prime p) where
 
   number-divided : (k c : ℕ) (u : Fp p) → packed (key (exponents k)) (mul (el p c) u .val) ≡ packed k ((c * u .val) % p)
   number-divided k c u = ap₂ packed (key-of-exponents k)
-      (ap (λ (x : Fp p). mul (el p c) x .val) (sym (el-val u)) ∙ ap (λ (x : Fp p). x .val) (sym (product-el p c (u .val))) ∙ val-of-el p ((c * u .val) % p) ∙ mod-mod (c * u .val) p)
+      (ap (λ (x : Fp p). mul (el p c) x .val) (sym (el-val u)) ∙ ap (λ (x : Fp p). x .val) (sym (product-el p c (u .val)))
+      ∙ val-of-el p ((c * u .val) % p) ∙ mod-mod (c * u .val) p)
 
   -- zeros dropped and all divided by a number
   divided-numbers : (a : Fp p) (ks cs : List ℕ) → length cs ≡ length ks → AllBelow p cs
@@ -143,4 +144,5 @@ module _ (p : ℕ) (P : Prime p) where
       go (no-term w z) r =
           ap (numbers-of p P) (ap (made-monic K) w ∙ monic-none ∙ sym (ap (divided-by K (el p (leading cs))) w ∙ divided-none (el p (leading cs)))) ∙ r
       go (first-left t ts w q n b) r =
-          ap (numbers-of p P) (ap (made-monic K) w ∙ monic-first t ts ∙ ap (λ (a : Fp p). divided-by K a (t ∷ ts)) q ∙ ap (divided-by K (el p (leading cs))) (sym w)) ∙ r
+          ap (numbers-of p P)
+          (ap (made-monic K) w ∙ monic-first t ts ∙ ap (λ (a : Fp p). divided-by K a (t ∷ ts)) q ∙ ap (divided-by K (el p (leading cs))) (sym w)) ∙ r
