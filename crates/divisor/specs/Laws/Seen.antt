@@ -87,44 +87,48 @@ module _ (p : ℕ) (A B points : List ℕ) where
       abbrev Kepts : Type 0
       Kepts = List (Kept (Modulo p P))
 
+      -- those kept before point i, and of n points from i on
+      abbrev so-far : ℕ → Kepts
+      so-far i = kept-before P m points sizes after i
+
       abbrev rest : ℕ → ℕ → Kepts
       rest i n = kept-of P m (points-of p P (left i)) (looks-from p A B points i n)
 
       -- one more point, kept or not
       one-more : (i n : ℕ) → i + suc n ≡ N
-          → kept-before P m points sizes after i ++ rest i (suc n) ≡ kept-before P m points sizes after (suc i) ++ rest (suc i) n
+          → so-far i ++ rest i (suc n) ≡ so-far (suc i) ++ rest (suc i) n
       unfolding kept-before kept-of
       one-more i n e =
-          ap (λ (l : List (Point (Modulo p P .ring))). kept-before P m points sizes after i ++ kept-of P m l (looks-from p A B points i (suc n)))
+          ap (λ (l : List (Point (Modulo p P .ring))). so-far i ++ kept-of P m l (looks-from p A B points i (suc n)))
           (points-next P i n (omega arith))
-          ∙ ap (λ (s : ℕ). kept-before P m points sizes after i ++ by (eqb s m) (look-at p A B points i .coefficients)) (sym (looks .sized i (omega arith)))
-          ∙ ap (λ (l : List ℕ). kept-before P m points sizes after i ++ by (eqb (getD sizes i 0) m) l) (sym (looks .images i (omega arith)))
+          ∙ ap (λ (s : ℕ). so-far i ++ by (eqb s m) (look-at p A B points i .coefficients)) (sym (looks .sized i (omega arith)))
+          ∙ ap (λ (l : List ℕ). so-far i ++ by (eqb (getD sizes i 0) m) l) (sym (looks .images i (omega arith)))
           ∙ go (eqb (getD sizes i 0) m)
         where
           by : Bool → List ℕ → Kepts
           by b image = elim b as (λ _. Kepts) [ true ↦ kept-numbers p P (point-at points i) image ∷ rest (suc i) n | false ↦ rest (suc i) n ]
 
-          go : (b : Bool) → kept-before P m points sizes after i ++ by b (image-at after i)
-              ≡ (kept-before P m points sizes after i ++ elim b as (λ _. Kepts) [ true ↦ kept-numbers p P (point-at points i) (image-at after i) ∷ [] | false ↦ [] ]) ++ rest (suc i) n
-          go true = sym (append-assoc (kept-before P m points sizes after i) (kept-numbers p P (point-at points i) (image-at after i) ∷ []) (rest (suc i) n))
-          go false = sym (append-assoc (kept-before P m points sizes after i) [] (rest (suc i) n))
+          go : (b : Bool) → so-far i ++ by b (image-at after i)
+              ≡ (so-far i ++ elim b as (λ _. Kepts) [ true ↦ kept-numbers p P (point-at points i) (image-at after i) ∷ [] | false ↦ [] ]) ++ rest (suc i) n
+          go true = sym (append-assoc (so-far i) (kept-numbers p P (point-at points i) (image-at after i) ∷ []) (rest (suc i) n))
+          go false = sym (append-assoc (so-far i) [] (rest (suc i) n))
 
       none-kept : kept-of P m [] [] ≡ []
       unfolding kept-of
       none-kept = refl
 
-      none-before : kept-before P m points sizes after 0 ≡ []
+      none-before : so-far 0 ≡ []
       unfolding kept-before
       none-before = refl
 
-      kept-from : (i n : ℕ) → i + n ≡ N → kept-before P m points sizes after i ++ rest i n ≡ kept-before P m points sizes after N
+      kept-from : (i n : ℕ) → i + n ≡ N → so-far i ++ rest i n ≡ so-far N
       kept-from i zero e =
           let q : i ≡ N = omega arith in
-          ap (λ (l : List (Point (Modulo p P .ring))). kept-before P m points sizes after i ++ kept-of P m l [])
+          ap (λ (l : List (Point (Modulo p P .ring))). so-far i ++ kept-of P m l [])
           (no-point p P (left i) (let r = left-length i 0 (omega arith) in omega arith))
-          ∙ ap (kept-before P m points sizes after i ++_) none-kept
-          ∙ append-nil (kept-before P m points sizes after i)
-          ∙ ap (kept-before P m points sizes after) q
+          ∙ ap (so-far i ++_) none-kept
+          ∙ append-nil (so-far i)
+          ∙ ap so-far q
       kept-from i (suc n) e = one-more i n e ∙ kept-from (suc i) n (omega arith)
 
       pub kept-seen : kept-before P m points sizes after N ≡ kept-of P m (points-of p P points) (looks-from p A B points 0 N)

@@ -107,9 +107,12 @@ module _ (K : Field) where
       unknowns = length-append (coefficients (s .skeleton)) (after-first K (s .multipliers)) ∙ ap₂ _+ₙ_ sized left;
       solves = say-rows K es (coefficients (s .skeleton)) sized (after-first K (s .multipliers)) k ks left
           (subst (λ (f : Polynomial K). Equations K f (k ∷ ks) (𝟙 ∷ after-first K (s .multipliers)))
-          (sym (subst (λ (ms : List Exponents). with-coefficients K ms (coefficients (s .skeleton)) ≡ s .skeleton) (h .proposed) (with-coefficients-own (s .skeleton)))) holds);
+          (sym own) holds);
     }
       where
+        own : with-coefficients K es (coefficients (s .skeleton)) ≡ s .skeleton
+        own = subst (λ (ms : List Exponents). with-coefficients K ms (coefficients (s .skeleton)) ≡ s .skeleton) (h .proposed) (with-coefficients-own (s .skeleton))
+
         holds : Equations K (s .skeleton) (k ∷ ks) (𝟙 ∷ after-first K (s .multipliers))
         holds = subst (Equations K (s .skeleton) (k ∷ ks)) (first-and-after (s .multipliers) (h .one-first)) (h .holds)
 

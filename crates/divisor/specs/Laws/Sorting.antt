@@ -123,16 +123,20 @@ module _ {p : ℕ} (P : Prime p) (A B : Polynomial (Modulo p P)) where
   all-bad points looks (one (bad x) rest) h = (x, all-bad _ _ rest (h .1))
   all-bad points looks (one (good degree cs e i) rest) h = absurd (let z : suc degree ≡ 0 = h .0 in omega arith)
 
-  -- one more point, by the tests of its size
   abbrev Kepts : Type 0
   Kepts = List (Kept (Modulo p P))
 
+  -- a point with its image, if it is kept
+  abbrev kept-here : Point (Modulo p P .ring) → ImageRecord → Kept (Modulo p P)
+  kept-here at r = record { point = at; image = series p (r .coefficients) }
+
+  -- one more point, by the tests of its size
   module _ (d : ℕ) (at : Point (Modulo p P .ring)) (points : List (Point (Modulo p P .ring))) (r : ImageRecord) (looks : List ImageRecord) where
     abbrev SortedBy : Bool → Bool → Type 0
     SortedBy zero-size same-size =
         (u : ℕ) × Sorted (Modulo p P) A B d (at ∷ points)
         (elim zero-size as (λ _. ℕ) [ true ↦ suc (alike 0 (sizes-of looks)) | false ↦ alike 0 (sizes-of looks) ]) u
-        (elim same-size as (λ _. Kepts) [ true ↦ record { point = at; image = series p (r .coefficients) } ∷ kept-of P (suc d) points looks | false ↦ kept-of P (suc d) points looks ])
+        (elim same-size as (λ _. Kepts) [ true ↦ kept-here at r ∷ kept-of P (suc d) points looks | false ↦ kept-of P (suc d) points looks ])
 
     sorted-by : (s : ℕ) → size-of r ≡ s → SortedBy (eqb s 0) (eqb s (suc d))
         → (u : ℕ) × Sorted (Modulo p P) A B d (at ∷ points) (alike 0 (sizes-of (r ∷ looks))) u (kept-of P (suc d) (at ∷ points) (r ∷ looks))
@@ -166,7 +170,7 @@ module _ {p : ℕ} (P : Prime p) (A B : Polynomial (Modulo p P)) where
   kept-count m (at ∷ points) (r ∷ looks) (one a rest) = go (eqb (size-of r) m) (kept-count m points looks rest)
     where
       go : (b : Bool) → length (kept-of P m points looks) ≡ alike m (sizes-of looks)
-          → length {A = Kept (Modulo p P)} (elim b as (λ _. Kepts) [ true ↦ record { point = at; image = series p (r .coefficients) } ∷ kept-of P m points looks | false ↦ kept-of P m points looks ])
+          → length {A = Kept (Modulo p P)} (elim b as (λ _. Kepts) [ true ↦ kept-here at r ∷ kept-of P m points looks | false ↦ kept-of P m points looks ])
           ≡ elim b as (λ _. ℕ) [ true ↦ suc (alike m (sizes-of looks)) | false ↦ alike m (sizes-of looks) ]
       go true h = ap suc h
       go false h = h
