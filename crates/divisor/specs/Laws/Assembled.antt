@@ -29,7 +29,7 @@ use Rattle.divisor.specs.Models.Sorting.{sizes-of, alike, kept-of}
 use Rattle.divisor.specs.Models.Monic.{monic-terms}
 use Rattle.divisor.specs.Models.Verdict.{Both}
 use Rattle.divisor.specs.Laws.Determined.{counts-add-up}
-use Rattle.divisor.specs.Laws.Degree.{first-image}
+use Rattle.divisor.specs.Laws.Degree.{kept-images}
 use Rattle.divisor.specs.Laws.Solutions.{no-solution, only-solution, several-solutions}
 use Rattle.divisor.specs.Laws.Seen.{points-length}
 use Rattle.divisor.specs.Laws.Passed.{point-count, looks-of, skeleton-falls, looked}
@@ -110,7 +110,7 @@ module _ (c : Call) (pass : Passes (table c)) (listed : Listed (c .modulus)) whe
 
     -- the image at the first kept point has 1 beside x^d
     image : Image (Numbers c listed) (A c listed) (B c listed) (k .point) d (k .image)
-    image = first-image (Numbers c listed) (A c listed) (B c listed) d (lent-points c listed) bad-points (some .0) k ks (some .1)
+    image = kept-images (Numbers c listed) (A c listed) (B c listed) d (lent-points c listed) bad-points (some .0) (k ∷ ks) (some .1) .0
 
     -- as many unknowns as the skeleton has keys and there are kept points after the first
     abbrev pub unknowns : ℕ

@@ -12,7 +12,7 @@ use Rattle.poly.specs.Terms.{Polynomial}
 use Rattle.poly.specs.Value.{Point}
 use Rattle.poly.specs.Laws.Image.{image-unique}
 use Rattle.divisor.specs.declared.CandidateRecord.{CandidateRecord}
-use Rattle.divisor.specs.Rule.{report, DividesBoth, Kept, Sorted, done, bad, unlucky, keep, AllBad, Unknowns, divisor, Verdict, none, several, rejected, accepted, Answer, all-bad, some-good}
+use Rattle.divisor.specs.Rule.{report, DividesBoth, Kept, Sorted, done, bad, unlucky, keep, AllBad, Unknowns, OnlySolution, SeveralSolutions, divisor, Verdict, none, several, rejected, accepted, Answer, all-bad, some-good}
 
 module _ (K : Field) (A B : Polynomial K) where
   open Field K using (ring as R)
@@ -65,6 +65,10 @@ module _ (K : Field) (A B : Polynomial K) where
   not-all-bad d points b u k ks (unlucky e U i l s) all = i .good (all .0)
   not-all-bad d points b u k ks (keep U i s) all = i .good (all .0)
 
+  -- several solutions rule out an only one
+  not-several : (monomials : List Exponents) (kept : List (Kept K)) (s : Unknowns K) → OnlySolution K monomials kept s → ¬ SeveralSolutions K monomials kept
+  not-several monomials kept s only t = t .4 (only .1 (t .0) (t .2) ∙ sym (only .1 (t .1) (t .3)))
+
   verdict-determined : (monomials : List Exponents) (kept : List (Kept K)) (n m : ℕ) (G H : Polynomial K)
       → Verdict K A B monomials kept n G → Verdict K A B monomials kept m H → (n ≡ m) × (G ≡ H)
   verdict-determined monomials kept n m G H (none z) (none y) = (refl, refl)
@@ -73,15 +77,15 @@ module _ (K : Field) (A B : Polynomial K) where
   verdict-determined monomials kept n m G H (none z) (accepted t only x) = absurd (z t (only .0))
   verdict-determined monomials kept n m G H (several s) (none z) = absurd (z (s .0) (s .2))
   verdict-determined monomials kept n m G H (several s) (several t) = (refl, refl)
-  verdict-determined monomials kept n m G H (several s) (rejected t only x) = absurd (s .4 (only .1 (s .0) (s .2) ∙ sym (only .1 (s .1) (s .3))))
-  verdict-determined monomials kept n m G H (several s) (accepted t only x) = absurd (s .4 (only .1 (s .0) (s .2) ∙ sym (only .1 (s .1) (s .3))))
+  verdict-determined monomials kept n m G H (several s) (rejected t only x) = absurd (not-several monomials kept t only s)
+  verdict-determined monomials kept n m G H (several s) (accepted t only x) = absurd (not-several monomials kept t only s)
   verdict-determined monomials kept n m G H (rejected s only x) (none z) = absurd (z s (only .0))
-  verdict-determined monomials kept n m G H (rejected s only x) (several t) = absurd (t .4 (only .1 (t .0) (t .2) ∙ sym (only .1 (t .1) (t .3))))
+  verdict-determined monomials kept n m G H (rejected s only x) (several t) = absurd (not-several monomials kept s only t)
   verdict-determined monomials kept n m G H (rejected s only x) (rejected t only′ y) = (refl, refl)
   verdict-determined monomials kept n m G H (rejected s only x) (accepted t only′ y) =
       absurd (x (subst (λ (v : Unknowns K). DividesBoth K A B (divisor K v)) (only .1 t (only′ .0)) y))
   verdict-determined monomials kept n m G H (accepted s only x) (none z) = absurd (z s (only .0))
-  verdict-determined monomials kept n m G H (accepted s only x) (several t) = absurd (t .4 (only .1 (t .0) (t .2) ∙ sym (only .1 (t .1) (t .3))))
+  verdict-determined monomials kept n m G H (accepted s only x) (several t) = absurd (not-several monomials kept s only t)
   verdict-determined monomials kept n m G H (accepted s only x) (rejected t only′ y) =
       absurd (y (subst (λ (v : Unknowns K). DividesBoth K A B (divisor K v)) (only′ .1 s (only .0)) x))
   verdict-determined monomials kept n m G H (accepted s only x) (accepted t only′ y) = (refl, ap (divisor K) (only′ .1 s (only .0)))

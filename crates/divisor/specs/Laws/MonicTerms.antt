@@ -37,7 +37,7 @@ pub leading-zero : (c : ℕ) (cs : List ℕ) → c ≡ 0 → leading (c ∷ cs) 
 unfolding leading
 leading-zero c cs e = rw (eq-eqb c 0 e, leading)
 
-leading-here : (c : ℕ) (cs : List ℕ) → ¬ (c ≡ 0) → leading (c ∷ cs) ≡ c
+pub leading-here : (c : ℕ) (cs : List ℕ) → ¬ (c ≡ 0) → leading (c ∷ cs) ≡ c
 unfolding leading
 leading-here c cs n = rw (ne-eqb c 0 n, leading)
 

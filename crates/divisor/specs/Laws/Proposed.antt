@@ -1,12 +1,13 @@
 -- A polynomial with only proposed monomials is a list of terms with these monomials. Assumes nothing.
 use mathlib.Core.Path.{_≡_, refl, sym, _∙_, ap, ap₂, subst}
-use mathlib.Core.Logic.{_⊎_, inl, inr}
+use mathlib.Core.Logic.{inl, inr}
 use mathlib.Core.List.{List, [], _∷_, map}
 use Rattle.algebra.specs.Ring.{CommRing, zero-add}
 use Rattle.algebra.specs.Series.{S4}
 use Rattle.algebra.specs.Four.{Exponents, _≺_, below-irreflexive, coef}
 use Rattle.algebra.specs.Field.{Field}
 use Rattle.algebra.specs.Monomial.{Term, polynomial, monomial-at, monomial-off, same-exponents, coef-ext}
+use Rattle.field.specs.RefusalDecision.{either-decided}
 use Rattle.poly.specs.Terms.{Polynomial}
 use Rattle.divisor.specs.Demands.{Proposed, OnlyProposed}
 
@@ -27,12 +28,7 @@ module _ (K : Field) where
   infixl 60 _+_
   proposed? : (ms : List Exponents) (e : Exponents) → Dec (Proposed K ms e)
   proposed? [] e = no λ p. p
-  proposed? (m ∷ ms) e = go (same-exponents R m e) (proposed? ms e)
-    where
-      go : Dec (m ≡ e) → Dec (Proposed K ms e) → Dec ((m ≡ e) ⊎ Proposed K ms e)
-      go (yes q) t = yes (inl q)
-      go (no q) (yes p) = yes (inr p)
-      go (no q) (no n) = no λ s. elim s [ inl e ↦ q e | inr p ↦ n p ]
+  proposed? (m ∷ ms) e = either-decided (same-exponents R m e) (proposed? ms e)
 
   -- a monomial is not among those under it
   not-under : (m : Exponents) (ms : List Exponents) → Under m ms → ¬ Proposed K ms m

@@ -7,9 +7,10 @@ use native.Mathlib.Omega.{arith}
 use lib.ListN.{length, getD, take, drop, set, drop-of-length-le}
 use lib.Seq.{drop-cons, getD-take, length-take-le, take-suc-set}
 use borrow.Author.Tests.{eq-eqb, ne-eqb}
+use Rattle.poly.specs.Terms.{packed}
 use Rattle.divisor.specs.Models.Sorting.{lesser, least-from, alike}
 use Rattle.divisor.specs.Models.Monic.{leading, scaled-terms}
-use Rattle.poly.specs.Terms.{packed}
+use Rattle.divisor.specs.Laws.MonicTerms.{leading-zero, leading-here, scaled-zero, scaled-here}
 
 module _ (list : List ℕ) (n i : ℕ) where
   next-left : n ≤ length list → i < n → drop i (take n list) ≡ getD list i 0 ∷ drop (i + 1) (take n list)
@@ -42,12 +43,10 @@ module _ (list : List ℕ) (n i : ℕ) where
   alike-end m l h = ap (alike m) (none-left l h)
 
   pub leading-next : n ≤ length list → i < n → getD list i 0 ≡ 0 → leading (drop i (take n list)) ≡ leading (drop (i + 1) (take n list))
-  unfolding leading
-  leading-next l h e = ap leading (next-left l h) ∙ rw (eq-eqb (getD list i 0) 0 e, leading)
+  leading-next l h e = ap leading (next-left l h) ∙ leading-zero (getD list i 0) _ e
 
   pub leading-found : n ≤ length list → i < n → ¬ (getD list i 0 ≡ 0) → leading (drop i (take n list)) ≡ getD list i 0
-  unfolding leading
-  leading-found l h e = ap leading (next-left l h) ∙ rw (ne-eqb (getD list i 0) 0 e, leading)
+  leading-found l h e = ap leading (next-left l h) ∙ leading-here (getD list i 0) _ e
 
   pub leading-end : n ≤ length list → n ≤ i → leading (drop i (take n list)) ≡ 0
   unfolding leading
@@ -67,14 +66,12 @@ module _ (p f : ℕ) (ks values : List ℕ) (i : ℕ) (long : length ks ≤ leng
 
   scaled-passed : i < length ks → getD values i 0 ≡ 0
       → scaled-terms p f (drop i ks) (drop i (take (length ks) values)) ≡ scaled-terms p f (drop (i + 1) ks) (drop (i + 1) (take (length ks) values))
-  unfolding scaled-terms
-  scaled-passed h e = ap₂ (scaled-terms p f) (keys-left h) (next-left values (length ks) i long h) ∙ rw (eq-eqb (getD values i 0) 0 e, scaled-terms)
+  scaled-passed h e = ap₂ (scaled-terms p f) (keys-left h) (next-left values (length ks) i long h) ∙ scaled-zero p f (getD ks i 0) (getD values i 0) _ _ e
 
   scaled-taken : i < length ks → ¬ (getD values i 0 ≡ 0)
       → scaled-terms p f (drop i ks) (drop i (take (length ks) values))
       ≡ packed (getD ks i 0) ((getD values i 0 * f) % p) ∷ scaled-terms p f (drop (i + 1) ks) (drop (i + 1) (take (length ks) values))
-  unfolding scaled-terms
-  scaled-taken h e = ap₂ (scaled-terms p f) (keys-left h) (next-left values (length ks) i long h) ∙ rw (ne-eqb (getD values i 0) 0 e, scaled-terms)
+  scaled-taken h e = ap₂ (scaled-terms p f) (keys-left h) (next-left values (length ks) i long h) ∙ scaled-here p f (getD ks i 0) (getD values i 0) _ _ e
 
   scaled-end : length ks ≤ i → scaled-terms p f (drop i ks) (drop i (take (length ks) values)) ≡ []
   unfolding scaled-terms
