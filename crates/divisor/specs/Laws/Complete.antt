@@ -26,9 +26,8 @@ use Rattle.divisor.specs.Laws.Degree.{divisor-at-good-point, value-divid
 
 module _ (K : Field) (A B : Polynomial K) (within : WithinX K (x-degree (K .ring) A) A) where
   open Field K using (ring as R)
-  open CommRing R using (Car, 𝟘, 𝟙, add as _+_, mul as _*_)
+  open CommRing R using (Car, mul as _*_)
 
-  infixl 60 _+_
   infixl 70 _*_
   module _ (C : Polynomial K) (both : DividesBoth K A B C) (d : ℕ) (degree : DegreeX K d (polynomial R C)) where
     -- at a kept point the value of C has the degree d

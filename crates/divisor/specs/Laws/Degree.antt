@@ -24,9 +24,8 @@ use Rattle.divisor.specs.Laws.MonicValue.{value-without-zeros, without-z
 
 module _ (K : Field) where
   open Field K using (ring as R)
-  open CommRing R using (Car, 𝟘, 𝟙, add as _+_, mul as _*_)
+  open CommRing R using (Car, 𝟘, 𝟙, mul as _*_)
 
-  infixl 60 _+_
   infixl 70 _*_
   module _ (A B : Polynomial K) (within : WithinX K (x-degree R A) A) where
     -- at a good point a divisor of A keeps its degree

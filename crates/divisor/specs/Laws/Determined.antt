@@ -4,7 +4,6 @@ use mathlib.Core.List.{List, _∷_}
 use lib.ListN.{length}
 use Prim.Native.Nat.{ℕ, suc, _+_ as _+ₙ_, _≤_}
 use native.Mathlib.Omega.{arith}
-use Rattle.algebra.specs.Ring.{CommRing}
 use Rattle.algebra.specs.Series.{Seq}
 use Rattle.algebra.specs.Four.{Exponents}
 use Rattle.algebra.specs.Field.{Field}
@@ -16,9 +15,7 @@ use Rattle.divisor.specs.Rule.{report, DividesBoth, Kept, Sorted, done, 
 
 module _ (K : Field) (A B : Polynomial K) where
   open Field K using (ring as R)
-  open CommRing R using (Car, 𝟘, 𝟙, mul as _*_)
 
-  infixl 70 _*_
   -- the least degree is least
   pub least-degree : (d e : ℕ) (points : List (Point R)) (b u b′ u′ : ℕ) (ks : List (Kept K)) (k : Kept K) (ls : List (Kept K))
       → Sorted K A B d points b u ks → Sorted K A B e points b′ u′ (k ∷ ls) → d ≤ e

@@ -23,9 +23,8 @@ FallingMonomials (m ∷ ms) = Under m ms × FallingMonomials ms
 
 module _ (K : Field) where
   open Field K using (ring as R)
-  open CommRing R using (Car, 𝟘, add as _+_)
+  open CommRing R using (𝟘, add as _+_)
 
-  infixl 60 _+_
   proposed? : (ms : List Exponents) (e : Exponents) → Dec (Proposed K ms e)
   proposed? [] e = no λ p. p
   proposed? (m ∷ ms) e = either-decided (same-exponents R m e) (proposed? ms e)

@@ -17,7 +17,7 @@ use Rattle.divisor.specs.Laws.Equations.{rows-say, say-rows}
 
 module _ (K : Field) where
   open Field K using (ring as R)
-  open CommRing R using (Car, 𝟘, 𝟙)
+  open CommRing R using (Car, 𝟙)
 
   abbrev coefficients : Polynomial K → List Car
   coefficients f = map (λ (t : Term R). t .coefficient) f
