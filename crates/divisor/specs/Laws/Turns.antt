@@ -58,9 +58,6 @@ MadeSo p f ks values i count terms =
     take count terms ++ scaled-terms p f (drop i ks) (drop i (take (length ks) values)) ≡ scaled-terms p f ks (take (length ks) values)
 
 module _ (p f : ℕ) (ks values : List ℕ) (i : ℕ) (long : length ks ≤ length values) where
-  abbrev cs : List ℕ
-  cs = take (length ks) values
-
   keys-left : i < length ks → drop i ks ≡ getD ks i 0 ∷ drop (i + 1) ks
   keys-left h = drop-cons ks i 0 h ∙ ap (λ (k : ℕ). getD ks i 0 ∷ drop k ks) (sym (add-one i))
 

@@ -9,17 +9,17 @@ use lib.ListN.{length, getD, set, take, drop}
 use lib.Seq.{length-take-le, take-length}
 use borrow.Author.Tests.{not-true, not-false}
 use Rattle.field.specs.Prime.{Prime}
-use Rattle.field.specs.Numbers.{NO_SOLUTION, SEVERAL_SOLUTIONS, DOES_NOT_DIVIDE}
+use Rattle.field.specs.Numbers.{DOES_NOT_DIVIDE}
 use Rattle.poly.specs.Room.{work-room, written, cleared}
 use Rattle.poly.specs.TrialDivision.{CanDivide, TrialDivision}
 use Rattle.poly.specs.Laws.RightLists.{RightList}
 use Rattle.poly.specs.Laws.Room.{zeroed-length, zeroed-beyond, zeroed-same}
 use Rattle.divisor.specs.declared.monic.Divisor.{Divisor}
-use Rattle.divisor.specs.declared.table.Kind.the-variants.{None, One, Several}
+use Rattle.divisor.specs.declared.table.Kind.the-variants.{One}
 use Rattle.divisor.specs.declared.table.Solved.{Solved}
 use Rattle.divisor.specs.declared.verdict.Verdict.{Verdict}
 use Rattle.divisor.specs.Models.Monic.{monic-terms, Monic}
-use Rattle.divisor.specs.Models.Verdict.{Both, CanDivideBoth, BothDivided, VerdictReady, Settled, Refused, only, none, several, rejected, accepted}
+use Rattle.divisor.specs.Models.Verdict.{Both, CanDivideBoth, BothDivided, VerdictReady, Settles, Settled, Refused, only, rejected, accepted}
 
 -- a room that is cleared is not shorter, and clearing it again changes nothing
 cleared-long : (work : List ℕ) → work-room ≤ length work → work-room ≤ length (cleared work)
@@ -125,17 +125,12 @@ module _ {p : ℕ} {A B ks values output work : List ℕ} (ready : VerdictReady 
       clears = divided .room;
     }
 
--- what the kind settles
-module _ {p : ℕ} {A B ks : List ℕ} {s : Solved} {output work work-after : List ℕ} {r : Verdict} where
-  pub settled-none : s .kind ≡ None → Refused NO_SOLUTION work work-after r → Settled p A B ks s output output work work-after r
-  settled-none e h =
-      subst (Settled p A B ks s output output work work-after) (sym (h .is))
-      (record { terms = []; settles = none e; count = refl; writes = refl; clears = h .clears })
-
-  pub settled-several : s .kind ≡ Several → Refused SEVERAL_SOLUTIONS work work-after r → Settled p A B ks s output output work work-after r
-  settled-several e h =
-      subst (Settled p A B ks s output output work work-after) (sym (h .is))
-      (record { terms = []; settles = several e; count = refl; writes = refl; clears = h .clears })
+-- a refusal is settled with its number
+pub settled-refused : {p : ℕ} {A B ks : List ℕ} {s : Solved} {output work work-after : List ℕ} {r : Verdict} {number : ℕ}
+    → Settles p A B ks s number [] → Refused number work work-after r → Settled p A B ks s output output work work-after r
+settled-refused {p} {A} {B} {ks} {s} {output} {work} {work-after} e h =
+    subst (Settled p A B ks s output output work work-after) (sym (h .is))
+    (record { terms = []; settles = e; count = refl; writes = refl; clears = h .clears })
 
 -- a solution whose kind is one is the values alone
 is-only : (s : Solved) → s .kind ≡ One → only (s .values) ≡ s
