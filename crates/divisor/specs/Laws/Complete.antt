@@ -65,7 +65,8 @@ module _ (K : Field) (A B : Polynomial K) (within : WithinX K (x-degree (K .ring
       multipliers = multipliers-of (value R C (k .point) d) (k ∷ ks);
     }
 
-    solution-holds : (monomials : List Exponents) → map (λ (t : Term R). t .exponents) C ≡ monomials → (k : Kept K) (ks : List (Kept K)) → Images K A B d (k ∷ ks)
+    solution-holds : (monomials : List Exponents) → map (λ (t : Term R). t .exponents) C ≡ monomials → (k : Kept K) (ks : List (Kept K))
+        → Images K A B d (k ∷ ks)
         → Solution K monomials (k ∷ ks) (solution-of k ks)
     unfolding solution-of multipliers-of
     solution-holds monomials e k ks h = record {

@@ -111,7 +111,9 @@ module _ (K : Field) where
     }
       where
         own : with-coefficients K es (coefficients (s .skeleton)) ≡ s .skeleton
-        own = subst (λ (ms : List Exponents). with-coefficients K ms (coefficients (s .skeleton)) ≡ s .skeleton) (h .proposed) (with-coefficients-own (s .skeleton))
+        own =
+            subst (λ (ms : List Exponents). with-coefficients K ms (coefficients (s .skeleton)) ≡ s .skeleton) (h .proposed)
+            (with-coefficients-own (s .skeleton))
 
         holds : Equations K (s .skeleton) (k ∷ ks) (𝟙 ∷ after-first K (s .multipliers))
         holds = subst (Equations K (s .skeleton) (k ∷ ks)) (first-and-after (s .multipliers) (h .one-first)) (h .holds)

@@ -47,13 +47,15 @@ array-read-if1 : tie.Need-array-read-if1 Inv-loop μ-loop
 array-read-if1 c = search needs
 
 -- one more point is kept of those that are left
-one-kept : (c : tie.Then1 Inv-loop μ-loop) → let a = c .before .before .before .before .before .before .before .args in let l = c .before .before .loop in let n = length (a .points .now) / 3 in
+one-kept : (c : tie.Then1 Inv-loop μ-loop)
+    → let a = c .before .before .before .before .before .before .before .args in let l = c .before .before .loop in let n = length (a .points .now) / 3 in
     alike (a .least) (drop (l .i) (take n (a .t4))) ≡ suc (alike (a .least) (drop (l .i + 1) (take n (a .t4))))
 one-kept c =
     let s = c .before .before .before .before .before .before .before in
     let a = s .args in
     let n = length (a .points .now) in
-    alike-same (a .t4) (n / 3) (c .before .before .loop .i) (a .least) (points-sized n (a .t4) (s .pre .few) (s .pre .count)) (c .before .loop-test .taken) (c .if1 .taken)
+    alike-same (a .t4) (n / 3) (c .before .before .loop .i) (a .least) (points-sized n (a .t4) (s .pre .few) (s .pre .count)) (c .before .loop-test .taken)
+    (c .if1 .taken)
 
 column-of-requires : tie.Need-column-of-requires Inv-loop μ-loop
 column-of-requires c κs =

@@ -57,7 +57,8 @@ seen-is c =
 
 size-requires : tie.Need-size-requires Inv-loop μ-loop
 size-requires c κs =
-    subst (λ (r : ImageRecord). r .degree < 8) (sym (seen-is c)) (look-small (c .before .before .before .before .before .before .before .before .pre) (c .before .before .before .loop .i))
+    subst (λ (r : ImageRecord). r .degree < 8) (sym (seen-is c))
+    (look-small (c .before .before .before .before .before .before .before .before .pre) (c .before .before .before .loop .i))
 
 mul-sizes : tie.Need-mul-sizes Inv-loop μ-loop
 mul-sizes c = search needs
