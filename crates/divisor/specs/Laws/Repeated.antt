@@ -66,7 +66,8 @@ module _ (K : Field) where
     abbrev Here : Kept K → Car → Type 0
     Here k m = (i : ℕ) → i < 8 → value (K .ring) f (k .point) i ≡ m * k .image i
 
-    put-holds : {k : Kept K} {ks ls : List (Kept K)} (a : Inserted k ks ls) (m : Car) (ms : List Car) → Here k m → Equations K f ks ms → Equations K f ls (put a m ms)
+    put-holds : {k : Kept K} {ks ls : List (Kept K)} (a : Inserted k ks ls) (m : Car) (ms : List Car) → Here k m → Equations K f ks ms
+        → Equations K f ls (put a m ms)
     put-holds here m ms h e = (h, e)
     put-holds (there a) m [] h e = absurd e
     put-holds (there a) m (n ∷ ms) h e = (e .0, put-holds a m ms h (e .1))
@@ -112,7 +113,8 @@ module _ (K : Field) where
 
   -- where solutions go over to solutions and back, with the same divisor, the verdict is the same
   module _ (A B : Polynomial K) (es : List Exponents) (ks ls : List (Kept K)) (to from : Unknowns K → Unknowns K)
-      (solves-to : (s : Unknowns K) → Solution K es ks s → Solution K es ls (to s)) (solves-from : (t : Unknowns K) → Solution K es ls t → Solution K es ks (from t))
+      (solves-to : (s : Unknowns K) → Solution K es ks s → Solution K es ls (to s))
+      (solves-from : (t : Unknowns K) → Solution K es ls t → Solution K es ks (from t))
       (from-to : (s : Unknowns K) → Solution K es ks s → from (to s) ≡ s) (to-from : (t : Unknowns K) → Solution K es ls t → to (from t) ≡ t)
       (same : (s : Unknowns K) → divisor K (to s) ≡ divisor K s) where
     only-to : (s : Unknowns K) → OnlySolution K es ks s → OnlySolution K es ls (to s)
@@ -132,7 +134,8 @@ module _ (K : Field) where
         subst (Verdict K A B es ls 0) (same s) (accepted (to s) (only-to s only) (subst (DividesBoth K A B) (sym (same s)) x))
 
   -- the verdict on the kept points is the same with a point that is kept once more
-  module _ (A B : Polynomial K) (es : List Exponents) {k : Kept K} {ks ls : List (Kept K)} (b : Again k ks ls) (d : ℕ) (small : d < 8) (one : k .image d ≡ 𝟙) where
+  module _ (A B : Polynomial K) (es : List Exponents) {k : Kept K} {ks ls : List (Kept K)} (b : Again k ks ls) (d : ℕ) (small : d < 8)
+      (one : k .image d ≡ 𝟙) where
     with-more : Unknowns K → Unknowns K
     with-more s = record { skeleton = s .skeleton; multipliers = more b (s .multipliers) }
 
