@@ -91,17 +91,17 @@ module _ (p : ℕ) (P : Prime p) (y z w : ℕ) where
     unfolding entries
     monomial-entries front [] e u h j l = refl
     monomial-entries front (k ∷ back) e u h j l =
-        ap₂ _∷_ (ap (el p) (h .monomials j (fits j l) ∙ ap (monomial-number p (powers p y) (powers p z) (powers p w) i) (there j l)) ∙ number-el i k)
-        (monomial-entries (front ++ (k ∷ [])) back (e ∙ sym (append-assoc front (k ∷ []) back)) u h (suc j) (length-append front (k ∷ []) ∙ one-more j l))
+        ap₂ _∷_ (ap (el p) (h .monomials j fits ∙ ap (monomial-number p (powers p y) (powers p z) (powers p w) i) there) ∙ number-el i k)
+        (monomial-entries (front ++ (k ∷ [])) back (e ∙ sym (append-assoc front (k ∷ []) back)) u h (suc j) (length-append front (k ∷ []) ∙ one-more))
       where
-        one-more : (j : ℕ) → length front ≡ j → length front + 1 ≡ suc j
-        one-more j l = omega arith
+        one-more : length front + 1 ≡ suc j
+        one-more = omega arith
 
-        fits : (j : ℕ) → length front ≡ j → j < length ks
-        fits j l = let a : length ks ≡ length (front ++ (k ∷ back)) = ap length e in let b = length-append front (k ∷ back) in omega arith
+        fits : j < length ks
+        fits = let a : length ks ≡ length (front ++ (k ∷ back)) = ap length e in let b = length-append front (k ∷ back) in omega arith
 
-        there : (j : ℕ) → length front ≡ j → getD ks j 0 ≡ k
-        there j l = ap (λ (q : List ℕ). getD q j 0) e ∙ getD-at front k back 0 j l
+        there : getD ks j 0 ≡ k
+        there = ap (λ (q : List ℕ). getD q j 0) e ∙ getD-at front k back 0 j l
 
     -- the part of the multipliers: u in its column and 0 elsewhere
     zero-entries : (u n j : ℕ) → IsEquation p (powers p y) (powers p z) (powers p w) ks i column u r → length ks ≤ j → column < j
