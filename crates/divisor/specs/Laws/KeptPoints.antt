@@ -56,7 +56,7 @@ module _ (c : Call) (pass : Passes (table c)) (after sizes : List ℕ)
   same-room = zeroed-same work-room after (c .work) (look .beyond)
 
   pub sizes-are : take (point-count c) sizes ≡ sizes-of (looks-of c)
-  sizes-are = sizes-seen (c .modulus) (c .first-list) (c .second-list) (c .points) (point-count c) (c .work) after sizes (few-points c pass) look
+  sizes-are = sizes-seen (few-points c pass) look
 
 module _ {c : Call} {after sizes : List ℕ} {m count : ℕ} (good : SomeGood c after sizes m count) where
   abbrev p : ℕ
@@ -119,7 +119,7 @@ module _ {c : Call} {after sizes : List ℕ} {m count : ℕ} (good : SomeGood c 
 
   kept-are : kept-before P m (c .points) sizes after n ≡ kept
   kept-are =
-      kept-seen p (c .first-list) (c .second-list) (c .points) n (c .work) after sizes (few-points c pass) (good .look) P m (right-points c pass .threes)
+      kept-seen (few-points c pass) (good .look) P m (right-points c pass .threes)
       ∙ ap (λ (s : ℕ). kept-of P s (lent-points c listed) (looks-of c)) (sym next)
 
   counted : count ≡ alike (suc d) (sizes-of (looks-of c))

@@ -81,6 +81,4 @@ module _ (c : Call) (pass : Passes (table c)) where
   look-ready = record { lists = lists-pass; threes = right-points .threes; few = right-points .few; below = right-points .below; room = work-fits }
 
   pub looked : (listed : Listed (c .modulus)) → Looked (prime c listed) (A c listed) (B c listed) (lent-points c listed) (looks-of c)
-  looked listed =
-      seen (c .modulus) (c .first-list) (c .second-list) (c .points) (c .work) look-ready (prime c listed) 0 (point-count c)
-      (let t = right-points .threes in omega arith)
+  looked listed = seen look-ready (prime c listed) 0 (point-count c) (let t = right-points .threes in omega arith)
