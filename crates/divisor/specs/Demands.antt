@@ -69,6 +69,7 @@ CommonDivisorComesOut c r =
     → Sorted (Numbers c listed) (A c listed) (B c listed) d (lent-points c listed) b u (k ∷ kept)
     → (s : Unknowns (Numbers c listed)) → OnlySolution (Numbers c listed) (monomials c listed) (k ∷ kept) s
     → (C : S4 (Numbers c listed .ring) .Car) → IsPolynomial (Numbers c listed) C
-    → Divides (Numbers c listed) C (polynomial (Numbers c listed .ring) (A c listed)) → Divides (Numbers c listed) C (polynomial (Numbers c listed .ring) (B c listed))
+    → Divides (Numbers c listed) C (polynomial (Numbers c listed .ring) (A c listed))
+    → Divides (Numbers c listed) C (polynomial (Numbers c listed .ring) (B c listed))
     → DegreeX (Numbers c listed) d C → OnlyProposed (Numbers c listed) (monomials c listed) C
     → (r .found .fault .number ≡ 0) × MadeMonic (Numbers c listed) C (handed-out c listed r)

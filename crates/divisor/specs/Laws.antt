@@ -13,6 +13,7 @@ pub mod RowValue
 pub mod Equations
 pub mod Solutions
 pub mod Repeated
+pub mod RepeatedPoint
 pub mod Sorting
 pub mod MonicTerms
 pub mod Turns

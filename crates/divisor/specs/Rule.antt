@@ -21,7 +21,7 @@ report number degree bad unlucky kept terms =
 
 module _ (K : Field) where
   open Field K using (ring as R)
-  open CommRing R using (Car, 𝟘, 𝟙, mul as _*_)
+  open CommRing R using (Car, 𝟙, mul as _*_)
 
   infixl 70 _*_
   -- a good point that is kept, with its image

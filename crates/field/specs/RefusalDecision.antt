@@ -1,5 +1,6 @@
 -- A computed check of each line decides a table. Assumes nothing.
 use mathlib.Core.Path.{_≡_, refl}
+use mathlib.Core.Logic.{_⊎_, inl, inr}
 use mathlib.Core.List.{List, [], _∷_}
 use Prim.Native.Nat.{ℕ, zero, suc, _+_, _≤_, _<_}
 use native.Mathlib.Decide.{decLt}
@@ -8,6 +9,12 @@ use lib.Dec.{T}
 use Rattle.field.specs.declared.Fault.{Fault}
 use Rattle.field.specs.Refusal.{Line, line, placed, first, fault, none, Passes, Tested}
 use Rattle.field.specs.RefusalLaws.{tested-line, tested-past, tested-end, numbered, tested-passes}
+
+-- the decision of one of two statements
+abbrev pub either-decided : {X Y : Type 0} → Dec X → Dec Y → Dec (X ⊎ Y)
+either-decided (yes x) y = yes (inl x)
+either-decided (no n) (yes y) = yes (inr y)
+either-decided (no n) (no m) = no (λ h. elim h [ inl x ↦ n x | inr y ↦ m y ])
 
 -- what a check of a line finds: the place at which it applies, or that it does not
 pub data Check (l : Line) : Type 0 where

@@ -9,7 +9,7 @@ use lib.ListN.{length, getD, length-map}
 use Rattle.field.specs.Numbers.{MODULUS, FIRST_COUNT, FIRST_TERM, SECOND_COUNT, SECOND_TERM, SKELETON_COUNT, SKELETON_KEY, POINTS_COUNT, POINT_NUMBER}
 use Rattle.field.specs.ModuliLaws.{listed-decided}
 use Rattle.field.specs.Refusal.{Line}
-use Rattle.field.specs.RefusalDecision.{Checks, placed-check, first-check}
+use Rattle.field.specs.RefusalDecision.{either-decided, Checks, placed-check, first-check}
 use Rattle.poly.specs.Keys.{keys}
 use Rattle.poly.specs.Terms.{key-of, coefficient-of}
 use Rattle.poly.specs.Lists.{most-terms, Count, WrongKey, above, not-below, wrong-key}
@@ -20,12 +20,7 @@ use Rattle.divisor.specs.Laws.Checks.{keys-beyond}
 use Rattle.divisor.specs.Candidate.{most-keys, most-point-numbers}
 use Rattle.divisor.specs.Models.Checks.{of-skeleton, of-points}
 
--- decisions of one of two statements, and of a statement that says the same as another
-abbrev pub either-decided : {X Y : Type 0} → Dec X → Dec Y → Dec (X ⊎ Y)
-either-decided (yes x) y = yes (inl x)
-either-decided (no n) (yes y) = yes (inr y)
-either-decided (no n) (no m) = no (λ h. elim h [ inl x ↦ n x | inr y ↦ m y ])
-
+-- the decision of a statement that says the same as another
 abbrev pub decided-as : {X Y : Type 0} → (X → Y) → (Y → X) → Dec X → Dec Y
 decided-as to from (yes x) = yes (to x)
 decided-as to from (no n) = no (λ y. n (from y))

@@ -64,7 +64,8 @@ returns c =
     let l = c .before .before .before .before .before .before .before .before in
     let m = c .before .before .before .before .before .least-size in
     let r = c .before .before .no-good-point in
-    nothing-good (question (start l)) (start l .pre) _ (l .look .result) (l .look .ensures) (sym (m .ensures) ∙ c .before .before .before .before .if1 .taken) _ (r .result) (r .ensures)
+    nothing-good (question (start l)) (start l .pre) _ (l .look .result) (l .look .ensures) (sym (m .ensures) ∙ c .before .before .before .before .if1 .taken) _
+    (r .result) (r .ensures)
 
 alike-requires : tie.Need-alike-requires
 alike-requires c κs =
@@ -112,7 +113,8 @@ same-length-2 c = search needs
 same-length-3 : tie.Need-same-length-3
 same-length-3 c =
     let l = c .before .before .before .before .before .before .before .before .before .before .before .before .before .before .before .before .before in
-    ap length (c .before .before .before .before .before .settle .ensures .clears) ∙ zeroed-length work-room _ (room-after (question (start l)) (start l .pre) _ (l .look .result) (l .look .ensures)) ∙ l .look .ensures .same-length
+    ap length (c .before .before .before .before .before .settle .ensures .clears)
+    ∙ zeroed-length work-room _ (room-after (question (start l)) (start l .pre) _ (l .look .result) (l .look .ensures)) ∙ l .look .ensures .same-length
 
 returns-2 : tie.Need-returns-2
 returns-2 c =
@@ -120,7 +122,8 @@ returns-2 c =
     let t = c .before .before .before .before .before .before .before .before .before .equations in
     let v = c .before .before .before .before .before .before .before .before .solution in
     let w = c .before .before .before .before .before .settle in
-    answered-so (good e) (t .result) (t .ensures) (v .result) (v .ensures) (e .before .alike .result) (e .before .alike .ensures) (w .result) (w .ensures) (c .at .result) (c .at .ensures)
+    answered-so (good e) (t .result) (t .ensures) (v .result) (v .ensures) (e .before .alike .result) (e .before .alike .ensures) (w .result) (w .ensures)
+    (c .at .result) (c .at .ensures)
 
 pub answer-spec : {M : Type 1} → statement M
 answer-spec =

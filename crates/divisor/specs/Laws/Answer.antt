@@ -136,9 +136,12 @@ module _ {c : Call} {after sizes : List ℕ} {m count : ℕ} (good : SomeGood c 
       settles : (number : ℕ) (terms : List ℕ) → Settles p (c .first-list) (c .second-list) (c .skeleton) s number terms
           → Candidate c (assembled.result c pass listed d (kept .at-least) k ks (kept .kept-is) number terms)
       settles number terms (none e) = assembled.answer-none c pass listed d (kept .at-least) k ks (kept .kept-is) (says-as None e)
-      settles number terms (several e) = let q = says-as Several e in assembled.answer-several c pass listed d (kept .at-least) k ks (kept .kept-is) (q .0) (q .1) (q .2)
-      settles number terms (rejected e h) = assembled.answer-rejected c pass listed d (kept .at-least) k ks (kept .kept-is) (s .values) (says-as One e) long first-below (h P)
-      settles number terms (accepted e h) = assembled.answer-accepted c pass listed d (kept .at-least) k ks (kept .kept-is) (s .values) (says-as One e) long first-below (h P)
+      settles number terms (several e) =
+          let q = says-as Several e in assembled.answer-several c pass listed d (kept .at-least) k ks (kept .kept-is) (q .0) (q .1) (q .2)
+      settles number terms (rejected e h) =
+          assembled.answer-rejected c pass listed d (kept .at-least) k ks (kept .kept-is) (s .values) (says-as One e) long first-below (h P)
+      settles number terms (accepted e h) =
+          assembled.answer-accepted c pass listed d (kept .at-least) k ks (kept .kept-is) (s .values) (says-as One e) long first-below (h P)
 
       pub answered-so : (bad : ℕ) → bad ≡ alike 0 (take (point-count c) sizes) → {output work : List ℕ} (v : Verdict)
           → Settled (c .modulus) (c .first-list) (c .second-list) (c .skeleton) s (c .output) output after work v

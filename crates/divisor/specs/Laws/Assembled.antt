@@ -29,7 +29,7 @@ use Rattle.divisor.specs.Models.Sorting.{sizes-of, alike, kept-of}
 use Rattle.divisor.specs.Models.Monic.{monic-terms}
 use Rattle.divisor.specs.Models.Verdict.{Both}
 use Rattle.divisor.specs.Laws.Determined.{counts-add-up}
-use Rattle.divisor.specs.Laws.Degree.{first-image}
+use Rattle.divisor.specs.Laws.Degree.{kept-images}
 use Rattle.divisor.specs.Laws.Solutions.{no-solution, only-solution, several-solutions}
 use Rattle.divisor.specs.Laws.Seen.{points-length}
 use Rattle.divisor.specs.Laws.Passed.{point-count, looks-of, skeleton-falls, looked}
@@ -42,7 +42,8 @@ use Rattle.divisor.specs.Laws.DivisorList.{GoodList, good-list}
 -- the first of the entries are the coefficients
 module _ (p : ℕ) (P : Prime p) where
   coefficients-first : (es : List Exponents) (values : List ℕ) (i m : ℕ) → i + length es ≤ length values
-      → with-coefficients (Modulo p P) es (entries p values i (length es + m)) ≡ with-coefficients (Modulo p P) es (map (el p) (take (length es) (drop i values)))
+      → with-coefficients (Modulo p P) es (entries p values i (length es + m))
+      ≡ with-coefficients (Modulo p P) es (map (el p) (take (length es) (drop i values)))
   unfolding entries
   coefficients-first [] values i m l = refl
   coefficients-first (e ∷ es) values i m l =
@@ -96,7 +97,8 @@ module _ (c : Call) (pass : Passes (table c)) (listed : Listed (c .modulus)) whe
       work = cleared (c .work);
     }
 
-    answer-verdict : (number : ℕ) (G : Polynomial (Numbers c listed)) → Verdict (Numbers c listed) (A c listed) (B c listed) (monomials c listed) (k ∷ ks) number G
+    answer-verdict : (number : ℕ) (G : Polynomial (Numbers c listed))
+        → Verdict (Numbers c listed) (A c listed) (B c listed) (monomials c listed) (k ∷ ks) number G
         → Candidate c (result number (numbers-of p P G))
     answer-verdict number G v = subst (Candidate c)
         (λ i. record {
@@ -108,7 +110,7 @@ module _ (c : Call) (pass : Passes (table c)) (listed : Listed (c .modulus)) whe
 
     -- the image at the first kept point has 1 beside x^d
     image : Image (Numbers c listed) (A c listed) (B c listed) (k .point) d (k .image)
-    image = first-image (Numbers c listed) (A c listed) (B c listed) d (lent-points c listed) bad-points (some .0) k ks (some .1)
+    image = kept-images (Numbers c listed) (A c listed) (B c listed) d (lent-points c listed) bad-points (some .0) (k ∷ ks) (some .1) .0
 
     -- as many unknowns as the skeleton has keys and there are kept points after the first
     abbrev pub unknowns : ℕ
@@ -163,14 +165,15 @@ module _ (c : Call) (pass : Passes (table c)) (listed : Listed (c .modulus)) whe
       list = good-list p P small (c .skeleton) cs sized below (skeleton-falls c pass) ks k (found .multipliers)
           (subst (Solution (Numbers c listed) (monomials c listed) (k ∷ ks)) found-is (only .0)) d (image .small) (image .monic .leads)
 
-      -- the divisor's polynomial is that of the list
+      -- the divisor is that of the skeleton polynomial, its polynomial that of the list, and its numbers are the list
+      divisor-is : divisor (Numbers c listed) found ≡ made-monic (Numbers c listed) (without-zeros (Numbers c listed) (skeleton-of p P (c .skeleton) cs))
+      divisor-is = ap (λ (f : Polynomial (Numbers c listed)). made-monic (Numbers c listed) (without-zeros (Numbers c listed) f)) same-skeleton
+
       of-list : polynomial (Numbers c listed .ring) (divisor (Numbers c listed) found) ≡ poly p P (monic-terms p (c .skeleton) cs)
-      of-list = ap (λ (f : Polynomial (Numbers c listed)). polynomial (Numbers c listed .ring) (made-monic (Numbers c listed) (without-zeros (Numbers c listed) f))) same-skeleton
-          ∙ ap (polynomial (Numbers c listed .ring)) (sym (list .reads))
+      of-list = ap (polynomial (Numbers c listed .ring)) (divisor-is ∙ sym (list .reads))
 
       of-numbers : numbers-of p P (divisor (Numbers c listed) found) ≡ monic-terms p (c .skeleton) cs
-      of-numbers = ap (λ (f : Polynomial (Numbers c listed)). numbers-of p P (made-monic (Numbers c listed) (without-zeros (Numbers c listed) f))) same-skeleton
-          ∙ divisor-numbers p P (c .skeleton) cs sized below
+      of-numbers = ap (numbers-of p P) divisor-is ∙ divisor-numbers p P (c .skeleton) cs sized below
 
       abbrev DividesBothLists : S4 (Numbers c listed .ring) .Car → Type 0
       DividesBothLists g = Divides (Numbers c listed) g (poly p P (c .first-list)) × Divides (Numbers c listed) g (poly p P (c .second-list))

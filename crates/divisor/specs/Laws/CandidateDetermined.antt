@@ -29,7 +29,8 @@ abbrev pub result-of : (c : Call) (listed : Listed (c .modulus)) → CandidateRe
 result-of c listed f G = record { found = f; output = written (numbers-of (c .modulus) (prime c listed) G) (c .output); work = cleared (c .work) }
 
 -- the evidence that the modulus is listed does not matter
-answered-determined : (c : Call) (listed listed′ : Listed (c .modulus)) (f g : CandidateRecord) (G : Polynomial (Numbers c listed)) (H : Polynomial (Numbers c listed′))
+answered-determined : (c : Call) (listed listed′ : Listed (c .modulus)) (f g : CandidateRecord) (G : Polynomial (Numbers c listed))
+    (H : Polynomial (Numbers c listed′))
     → answer-of c listed f G → answer-of c listed′ g H → result-of c listed f G ≡ result-of c listed′ g H
 answered-determined c listed listed′ f g G H x y =
     (subst (λ (l : Listed (c .modulus)). (H : Polynomial (Numbers c l)) → answer-of c l g H → result-of c listed f G ≡ result-of c l g H)

@@ -39,7 +39,8 @@ module _ (ks : List ℕ) where
   right-at : (i before : ℕ) → Before ks i before → before ≤ keys → getD ks i 0 < before → ¬ WrongKey ks i
   right-at i before b r h (above l m) = omega arith
   right-at i before start r h (not-below j e l m) = omega arith
-  right-at i before (after k) r h (not-below j e l m) = let q : k ≡ j = omega arith in let s : getD ks k 0 ≡ getD ks j 0 = ap (λ (n : ℕ). getD ks n 0) q in omega arith
+  right-at i before (after k) r h (not-below j e l m) =
+      let q : k ≡ j = omega arith in let s : getD ks k 0 ≡ getD ks j 0 = ap (λ (n : ℕ). getD ks n 0) q in omega arith
 
   pub keys-stop : (before i : ℕ) → KeysSo ks before i → i < length ks → before ≤ getD ks i 0 → Searched (WrongKey ks) (length ks) i
   keys-stop before i h l m = search-stops (h .searching) (wrong-at i before (h .before-is) l m)
@@ -77,7 +78,10 @@ module _ (p : ℕ) (points : List ℕ) (n : ¬ (length points ≡ 0)) (m : lengt
   well-counted (inr q) = q t
 
   pub points-wrong : place < length points → {f : Fault} → f ≡ fault POINT_NUMBER place → Tested (of-points p points) f
-  points-wrong l e = tested-past (placed-never well-counted) (tested-line place (searched-first (WrongNumber p points) (length points) (numbers-end p points) place s l) e)
+  points-wrong l e =
+      tested-past (placed-never well-counted) (tested-line place (searched-first (WrongNumber p points) (length points) (numbers-end p points) place s l) e)
 
   pub points-right : length points ≤ place → {f : Fault} → f ≡ none → Tested (of-points p points) f
-  points-right l e = tested-past (placed-never well-counted) (tested-past (searched-none (WrongNumber p points) (length points) (numbers-end p points) place s l) (tested-end e))
+  points-right l e =
+      tested-past (placed-never well-counted)
+      (tested-past (searched-none (WrongNumber p points) (length points) (numbers-end p points) place s l) (tested-end e))

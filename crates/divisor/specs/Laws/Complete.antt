@@ -18,17 +18,16 @@ use Rattle.poly.specs.Value.{Point, value, x-degree}
 use Rattle.poly.specs.Image.{Image}
 use Rattle.poly.specs.Laws.Image.{image-top}
 use Rattle.poly.specs.Laws.Value.{polynomial-finite, value-finite, value-of-polynomial, WithinX}
-use Rattle.divisor.specs.Rule.{report, DividesBoth, Kept, Sorted, done, bad, unlucky, keep, Unknowns, Equations, Solution, OnlySolution, without-zeros, divided-by, made-monic, divisor, Verdict, accepted, Answer, some-good}
+use Rattle.divisor.specs.Rule.{report, DividesBoth, Kept, Sorted, Unknowns, Equations, Solution, OnlySolution, without-zeros, divided-by, made-monic, divisor, Verdict, accepted, Answer, some-good}
 use Rattle.divisor.specs.Demands.{DegreeX}
 use Rattle.divisor.specs.Laws.MonicValue.{value-divided}
 use Rattle.divisor.specs.Laws.Monic.{monic-of-multiple, monic-divides, divided-monomials}
-use Rattle.divisor.specs.Laws.Degree.{divisor-at-good-point, value-divides-image}
+use Rattle.divisor.specs.Laws.Degree.{divisor-at-good-point, value-divides-image, Images, kept-images}
 
 module _ (K : Field) (A B : Polynomial K) (within : WithinX K (x-degree (K .ring) A) A) where
   open Field K using (ring as R)
-  open CommRing R using (Car, 𝟘, 𝟙, add as _+_, mul as _*_)
+  open CommRing R using (Car, mul as _*_)
 
-  infixl 60 _+_
   infixl 70 _*_
   module _ (C : Polynomial K) (both : DividesBoth K A B C) (d : ℕ) (degree : DegreeX K d (polynomial R C)) where
     -- at a kept point the value of C has the degree d
@@ -47,21 +46,11 @@ module _ (K : Field) (A B : Polynomial K) (within : WithinX K (x-degree (K .ring
         ∙ ring3 R (λ c e v. c ⊗ e ⊗ v ≗ e ⊗ (c ⊗ v)) tt (m .0) (value R C at d) (value R C at n) ∙ ap (value R C at d *_) (m .1 n)
 
     -- the kept points, with C over a number and its leading coefficients over the same number, meet the equations
-    abbrev Images : List (Kept K) → Type 0
-    Images [] = Unit {0}
-    Images (k ∷ ks) = Image K A B (k .point) d (k .image) × Images ks
-
-    sorted-images : (points : List (Point R)) (b u : ℕ) (ks : List (Kept K)) → Sorted K A B d points b u ks → Images ks
-    sorted-images points b u ks done = tt
-    sorted-images points b u ks (bad x s) = sorted-images _ _ u ks s
-    sorted-images points b u ks (unlucky e U i l s) = sorted-images _ b _ ks s
-    sorted-images points b u ks (keep U i s) = (i, sorted-images _ b u _ s)
-
     multipliers-of : Car → List (Kept K) → List Car
     multipliers-of c [] = []
     multipliers-of c (k ∷ ks) = value R C (k .point) d * K .inv c ∷ multipliers-of c ks
 
-    equations-hold : (c : Car) (ks : List (Kept K)) → Images ks → Equations K (divided-by K c C) ks (multipliers-of c ks)
+    equations-hold : (c : Car) (ks : List (Kept K)) → Images K A B d ks → Equations K (divided-by K c C) ks (multipliers-of c ks)
     unfolding multipliers-of
     equations-hold c [] h = tt
     equations-hold c (k ∷ ks) h = (
@@ -76,7 +65,8 @@ module _ (K : Field) (A B : Polynomial K) (within : WithinX K (x-degree (K .ring
       multipliers = multipliers-of (value R C (k .point) d) (k ∷ ks);
     }
 
-    solution-holds : (monomials : List Exponents) → map (λ (t : Term R). t .exponents) C ≡ monomials → (k : Kept K) (ks : List (Kept K)) → Images (k ∷ ks)
+    solution-holds : (monomials : List Exponents) → map (λ (t : Term R). t .exponents) C ≡ monomials → (k : Kept K) (ks : List (Kept K))
+        → Images K A B d (k ∷ ks)
         → Solution K monomials (k ∷ ks) (solution-of k ks)
     unfolding solution-of multipliers-of
     solution-holds monomials e k ks h = record {
@@ -95,8 +85,8 @@ module _ (K : Field) (A B : Polynomial K) (within : WithinX K (x-degree (K .ring
         some-good d b u k kept sorted 0 _ (subst (Verdict K A B monomials (k ∷ kept) 0) same
         (accepted s only (subst (DividesBoth K A B) (sym same) (monic-divides K C _ (both .0), monic-divides K C _ (both .1)))))
       where
-        images : Images (k ∷ kept)
-        images = sorted-images points b u (k ∷ kept) sorted
+        images : Images K A B d (k ∷ kept)
+        images = kept-images K A B d points b u (k ∷ kept) sorted
 
         same : divisor K s ≡ made-monic K (without-zeros K C)
         same = ap (divisor K) (sym (only .1 (solution-of k kept) (solution-holds monomials e k kept images)))

@@ -19,30 +19,24 @@ use Rattle.poly.specs.Value.{Point, value, x-degree}
 use Rattle.poly.specs.Image.{Divides, DividesX, Bad, Image}
 use Rattle.poly.specs.Laws.Value.{polynomial-finite, valued, value-of-polynomial, WithinX, polynomial-ends}
 use Rattle.divisor.specs.declared.CandidateRecord.{CandidateRecord}
-use Rattle.divisor.specs.Rule.{DividesBoth, Kept, Sorted, bad, unlucky, keep, First, Equations, Unknowns, Solution, without-zeros, divisor, Verdict, none, several, rejected, accepted, Answer, all-bad, some-good}
+use Rattle.divisor.specs.Rule.{DividesBoth, Kept, Sorted, done, bad, unlucky, keep, First, Equations, Unknowns, Solution, without-zeros, divisor, Verdict, none, several, rejected, accepted, Answer, all-bad, some-good}
 use Rattle.divisor.specs.Demands.{DegreeX, IsPolynomial, GreatestInX}
 use Rattle.divisor.specs.Laws.MonicValue.{value-without-zeros, without-zeros-nonzero, made-monic-nonzero}
 
 module _ (K : Field) where
   open Field K using (ring as R)
-  open CommRing R using (Car, 𝟘, 𝟙, add as _+_, mul as _*_)
+  open CommRing R using (Car, 𝟘, 𝟙, mul as _*_)
 
-  infixl 60 _+_
   infixl 70 _*_
-  -- where the x-leading coefficient of f is not 0, a divisor of f keeps its degree
-  divisor-keeps-degree-at : (f : Polynomial K) → WithinX K (x-degree R f) f → (at : Point R) → ¬ (value R f at (x-degree R f) ≡ 𝟘)
-      → (H : S4 R .Car) (fin : IsPolynomial K H) → Divides K H (polynomial R f) → (h : ℕ) → DegreeX K h H → Top R h (valued K at .fn H fin)
-  divisor-keeps-degree-at f within at nonzero H fin d h top =
-      divisor-keeps-degree (at-yzw R (domain K) (at .y) (at .z) (at .w) tt tt tt) (x-degree R f) h (polynomial R f) H (polynomial-finite K f) fin d
-      (polynomial-ends K (x-degree R f) f within)
-      (λ e. nonzero (sym (ap (λ (u : Seq R). u (x-degree R f)) (value-of-polynomial K f at (polynomial-finite K f))) ∙ e))
-      top
-
   module _ (A B : Polynomial K) (within : WithinX K (x-degree R A) A) where
-    -- at a good point a common divisor keeps its degree
+    -- at a good point a divisor of A keeps its degree
     pub divisor-at-good-point : (at : Point R) → ¬ Bad K A B at → (H : S4 R .Car) (fin : IsPolynomial K H)
         → Divides K H (polynomial R A) → (h : ℕ) → DegreeX K h H → Top R h (valued K at .fn H fin)
-    divisor-at-good-point at good H fin d h top = divisor-keeps-degree-at A within at good H fin d h top
+    divisor-at-good-point at good H fin d h top =
+        divisor-keeps-degree (at-yzw R (domain K) (at .y) (at .z) (at .w) tt tt tt) (x-degree R A) h (polynomial R A) H (polynomial-finite K A) fin d
+        (polynomial-ends K (x-degree R A) A within)
+        (λ e. good (sym (ap (λ (u : Seq R). u (x-degree R A)) (value-of-polynomial K A at (polynomial-finite K A))) ∙ e))
+        top
 
     -- the value of a common divisor divides the image
     pub value-divides-image : (at : Point R) (d : ℕ) (U : Seq R) → Image K A B at d U → (H : S4 R .Car) (fin : IsPolynomial K H)
@@ -50,7 +44,9 @@ module _ (K : Field) where
     value-divides-image at d U image H fin dA dB = image .greatest .most _ (valued K at .keeps H fin) (of-value A dA) (of-value B dB)
       where
         of-value : (f : Polynomial K) → Divides K H (polynomial R f) → DividesX K (valued K at .fn H fin) (value R f at)
-        of-value f q = div-to (SeriesR R) (SeriesD R (domain K)) _ _ _ (value-of-polynomial K f at (polynomial-finite K f)) (divides-value (valued K at) fin (polynomial-finite K f) q)
+        of-value f q =
+            div-to (SeriesR R) (SeriesD R (domain K)) _ _ _ (value-of-polynomial K f at (polynomial-finite K f))
+            (divides-value (valued K at) fin (polynomial-finite K f) q)
 
     -- no common divisor has a degree above an image's
     pub common-divisor-degree : (at : Point R) (d : ℕ) (U : Seq R) → Image K A B at d U
@@ -79,12 +75,16 @@ module _ (K : Field) where
       made-monic-nonzero K (without-zeros K (s .skeleton)) (k .point) d (without-zeros-nonzero K (s .skeleton))
       (λ e. K .one≢0 (sym (value-without-zeros K (s .skeleton) (k .point) d ∙ solution-at-first monomials k kept s solution d l ∙ one) ∙ e))
 
-  -- the image at the first kept point
-  pub first-image : (A B : Polynomial K) (d : ℕ) (points : List (Point R)) (b u : ℕ) (k : Kept K) (kept : List (Kept K))
-      → Sorted K A B d points b u (k ∷ kept) → Image K A B (k .point) d (k .image)
-  first-image A B d (at ∷ points) (suc b) u k kept (bad x rest) = first-image A B d points b u k kept rest
-  first-image A B d (at ∷ points) b (suc u) k kept (unlucky e U i l rest) = first-image A B d points b u k kept rest
-  first-image A B d (at ∷ points) b u k kept (keep U i rest) = i
+  -- the images at the kept points
+  abbrev pub Images : (A B : Polynomial K) → ℕ → List (Kept K) → Type 0
+  Images A B d [] = Unit {0}
+  Images A B d (k ∷ ks) = Image K A B (k .point) d (k .image) × Images A B d ks
+
+  pub kept-images : (A B : Polynomial K) (d : ℕ) (points : List (Point R)) (b u : ℕ) (ks : List (Kept K)) → Sorted K A B d points b u ks → Images A B d ks
+  kept-images A B d points b u ks done = tt
+  kept-images A B d points b u ks (bad x s) = kept-images A B d _ _ u ks s
+  kept-images A B d points b u ks (unlucky e U i l s) = kept-images A B d _ b _ ks s
+  kept-images A B d points b u ks (keep U i s) = (i, kept-images A B d _ b u _ s)
 
   -- G itself is a common divisor, so its degree is d
   accepted-degree : (A B : Polynomial K) (monomials : List Exponents) (points : List (Point R)) → WithinX K (x-degree R A) A
@@ -106,7 +106,7 @@ module _ (K : Field) where
       S3 = SeriesR S2
 
       image : Image K A B (k .point) d (k .image)
-      image = first-image A B d points b u k kept sorted
+      image = kept-images A B d points b u (k ∷ kept) sorted .0
 
       -- the coefficient beside x^d is not 0, since its value is not
       beside : ¬ (polynomial R (divisor K s) d ≡ S3 .𝟘)
@@ -117,7 +117,9 @@ module _ (K : Field) where
       top : ((n : ℕ) → polynomial R (divisor K s) n ≡ S3 .𝟘) ⊎ ((n : ℕ) × Top S3 n (polynomial R (divisor K s))) → DegreeX K d (polynomial R (divisor K s))
       top (inl z) = absurd (beside (z d))
       top (inr t) =
-          let l : t .0 ≤ d = common-divisor-degree A B w (k .point) d (k .image) image (polynomial R (divisor K s)) (polynomial-finite K (divisor K s)) (both .0) (both .1) (t .0) (t .1) in
+          let l : t .0 ≤ d =
+          common-divisor-degree A B w (k .point) d (k .image) image (polynomial R (divisor K s)) (polynomial-finite K (divisor K s)) (both .0) (both .1) (t .0)
+          (t .1) in
           let m : ¬ (suc (t .0) ≤ d) = λ h. beside (t .1 .ends d h) in
           let e : t .0 ≡ d = omega arith in
           subst (λ (n : ℕ). DegreeX K n (polynomial R (divisor K s))) e (t .1)

@@ -23,12 +23,13 @@ use Rattle.divisor.specs.Laws.Passed.{right-lists, skeleton-falls}
 use Rattle.divisor.specs.Laws.Monic.{monic-is-made-monic}
 use Rattle.divisor.specs.Laws.Degree.{accepted-greatest}
 use Rattle.divisor.specs.Laws.CandidateDetermined.{candidate-determined}
-use Rattle.divisor.specs.Laws.Proposed.{Under, Falling, terms-at, terms-at-monomials, polynomial-of-terms-at}
+use Rattle.divisor.specs.Laws.Proposed.{Under, FallingMonomials, terms-at, terms-at-monomials, polynomial-of-terms-at}
 use Rattle.divisor.specs.Laws.Complete.{common-divisor-found}
 use Rattle.divisor.specs.Laws.Output.{answered-output}
 
 -- no power of x in a first list that passes is above the first term's
-first-within : (c : Call) → Passes (table c) → (listed : Listed (c .modulus)) → WithinX (Numbers c listed) (x-degree (Numbers c listed .ring) (A c listed)) (A c listed)
+first-within : (c : Call) → Passes (table c) → (listed : Listed (c .modulus))
+    → WithinX (Numbers c listed) (x-degree (Numbers c listed .ring) (A c listed)) (A c listed)
 first-within c pass listed = falling-within (c .modulus) (prime c listed) keys (c .first-list) (right-lists c pass .first .falls)
 
 -- DEMAND 3, first half
@@ -42,22 +43,23 @@ accepted-is-greatest c r (answered pass listed f G x) e = (
 )
 
 -- keys that fall have monomials that fall
-under-of : (b k : ℕ) (ks : List ℕ) → b ≤ k → FallFrom b ks → Under (exponents k) (map exponents ks)
-under-of b k [] l h = tt
-under-of b k (j ∷ js) l h = (
+keys-under : (b k : ℕ) (ks : List ℕ) → b ≤ k → FallFrom b ks → Under (exponents k) (map exponents ks)
+keys-under b k [] l h = tt
+keys-under b k (j ∷ js) l h = (
   exponents-order j k (let m : j < b = h .0 in omega arith),
-  under-of j k js (let m : j < b = h .0 in omega arith) (h .1),
+  keys-under j k js (let m : j < b = h .0 in omega arith) (h .1),
 )
 
-falling-of : (b : ℕ) (ks : List ℕ) → FallFrom b ks → Falling (map exponents ks)
-falling-of b [] h = tt
-falling-of b (k ∷ ks) h = (under-of k k ks (omega arith) (h .1), falling-of k ks (h .1))
+keys-falling : (b : ℕ) (ks : List ℕ) → FallFrom b ks → FallingMonomials (map exponents ks)
+keys-falling b [] h = tt
+keys-falling b (k ∷ ks) h = (keys-under k k ks (omega arith) (h .1), keys-falling k ks (h .1))
 
 -- DEMAND 3, second half
 pub common-divisor-comes-out : (c : Call) (r : Result) → Candidate c r → CommonDivisorComesOut c r
 common-divisor-comes-out c r meets pass listed d b u k kept sorted s only C fin dA dB degree proposed =
     let answer = common-divisor-found F (A c listed) (B c listed) (first-within c pass listed)
-    L divides-both d (subst (DegreeX F d) (sym of-L) degree) (monomials c listed) (terms-at-monomials F (monomials c listed) C) (lent-points c listed) b u k kept sorted s only in
+    L divides-both d (subst (DegreeX F d) (sym of-L) degree) (monomials c listed) (terms-at-monomials F (monomials c listed) C)
+    (lent-points c listed) b u k kept sorted s only in
     let same = candidate-determined c _ r (answered pass listed _ _ answer) meets in
     subst (λ (q : Result). (q .found .fault .number ≡ 0) × MadeMonic F C (handed-out c listed q)) same (
       refl,
@@ -73,10 +75,12 @@ common-divisor-comes-out c r meets pass listed d b u k kept sorted s only C fin 
 
     of-L : polynomial (F .ring) L ≡ C
     of-L = polynomial-of-terms-at F (monomials c listed)
-        (falling-of keys (c .skeleton) (skeleton-falls c pass)) C proposed
+        (keys-falling keys (c .skeleton) (skeleton-falls c pass)) C proposed
 
     not-zero : ¬ (polynomial (F .ring) L ≡ S4 (F .ring) .𝟘)
     not-zero e = degree .nonzero (ap (λ (f : S4 (F .ring) .Car). f d) (sym of-L ∙ e))
 
-    divides-both : Divides F (polynomial (F .ring) L) (polynomial (F .ring) (A c listed)) × Divides F (polynomial (F .ring) L) (polynomial (F .ring) (B c listed))
-    divides-both = subst (λ (f : S4 (F .ring) .Car). Divides F f (polynomial (F .ring) (A c listed)) × Divides F f (polynomial (F .ring) (B c listed))) (sym of-L) (dA, dB)
+    divides-both : Divides F (polynomial (F .ring) L) (polynomial (F .ring) (A c listed))
+        × Divides F (polynomial (F .ring) L) (polynomial (F .ring) (B c listed))
+    divides-both =
+        subst (λ (f : S4 (F .ring) .Car). Divides F f (polynomial (F .ring) (A c listed)) × Divides F f (polynomial (F .ring) (B c listed))) (sym of-L) (dA, dB)

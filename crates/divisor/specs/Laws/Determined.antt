@@ -4,7 +4,6 @@ use mathlib.Core.List.{List, _∷_}
 use lib.ListN.{length}
 use Prim.Native.Nat.{ℕ, suc, _+_ as _+ₙ_, _≤_}
 use native.Mathlib.Omega.{arith}
-use Rattle.algebra.specs.Ring.{CommRing}
 use Rattle.algebra.specs.Series.{Seq}
 use Rattle.algebra.specs.Four.{Exponents}
 use Rattle.algebra.specs.Field.{Field}
@@ -12,25 +11,23 @@ use Rattle.poly.specs.Terms.{Polynomial}
 use Rattle.poly.specs.Value.{Point}
 use Rattle.poly.specs.Laws.Image.{image-unique}
 use Rattle.divisor.specs.declared.CandidateRecord.{CandidateRecord}
-use Rattle.divisor.specs.Rule.{report, DividesBoth, Kept, Sorted, done, bad, unlucky, keep, AllBad, Unknowns, divisor, Verdict, none, several, rejected, accepted, Answer, all-bad, some-good}
+use Rattle.divisor.specs.Rule.{report, DividesBoth, Kept, Sorted, done, bad, unlucky, keep, AllBad, Unknowns, OnlySolution, SeveralSolutions, divisor, Verdict, none, several, rejected, accepted, Answer, all-bad, some-good}
 
 module _ (K : Field) (A B : Polynomial K) where
   open Field K using (ring as R)
-  open CommRing R using (Car, 𝟘, 𝟙, mul as _*_)
 
-  infixl 70 _*_
   -- the least degree is least
-  pub least : (d e : ℕ) (points : List (Point R)) (b u b′ u′ : ℕ) (ks : List (Kept K)) (k : Kept K) (ls : List (Kept K))
+  pub least-degree : (d e : ℕ) (points : List (Point R)) (b u b′ u′ : ℕ) (ks : List (Kept K)) (k : Kept K) (ls : List (Kept K))
       → Sorted K A B d points b u ks → Sorted K A B e points b′ u′ (k ∷ ls) → d ≤ e
-  least d e points b u b′ u′ ks k ls (bad x s) (bad y t) = least d e _ _ u _ u′ ks k ls s t
-  least d e points b u b′ u′ ks k ls (bad x s) (unlucky f W j l t) = absurd (j .good x)
-  least d e points b u b′ u′ ks k ls (bad x s) (keep W j t) = absurd (j .good x)
-  least d e points b u b′ u′ ks k ls (unlucky g U i l s) (bad y t) = absurd (i .good y)
-  least d e points b u b′ u′ ks k ls (unlucky g U i l s) (unlucky f W j m t) = least d e _ b _ b′ _ ks k ls s t
-  least d e points b u b′ u′ ks k ls (unlucky {at = at} g U i l s) (keep W j t) = let q : g ≡ e = image-unique K A B at g e U W i j .0 in omega arith
-  least d e points b u b′ u′ ks k ls (keep U i s) (bad y t) = absurd (i .good y)
-  least d e points b u b′ u′ ks k ls (keep U i s) (unlucky f W j m t) = least d e _ b u b′ _ _ k ls s t
-  least d e points b u b′ u′ ks k ls (keep {at = at} U i s) (keep W j t) = let q : d ≡ e = image-unique K A B at d e U W i j .0 in omega arith
+  least-degree d e points b u b′ u′ ks k ls (bad x s) (bad y t) = least-degree d e _ _ u _ u′ ks k ls s t
+  least-degree d e points b u b′ u′ ks k ls (bad x s) (unlucky f W j l t) = absurd (j .good x)
+  least-degree d e points b u b′ u′ ks k ls (bad x s) (keep W j t) = absurd (j .good x)
+  least-degree d e points b u b′ u′ ks k ls (unlucky g U i l s) (bad y t) = absurd (i .good y)
+  least-degree d e points b u b′ u′ ks k ls (unlucky g U i l s) (unlucky f W j m t) = least-degree d e _ b _ b′ _ ks k ls s t
+  least-degree d e points b u b′ u′ ks k ls (unlucky {at = at} g U i l s) (keep W j t) = let q : g ≡ e = image-unique K A B at g e U W i j .0 in omega arith
+  least-degree d e points b u b′ u′ ks k ls (keep U i s) (bad y t) = absurd (i .good y)
+  least-degree d e points b u b′ u′ ks k ls (keep U i s) (unlucky f W j m t) = least-degree d e _ b u b′ _ _ k ls s t
+  least-degree d e points b u b′ u′ ks k ls (keep {at = at} U i s) (keep W j t) = let q : d ≡ e = image-unique K A B at d e U W i j .0 in omega arith
 
   pub sorted-determined : (d : ℕ) (points : List (Point R)) (b u b′ u′ : ℕ) (ks ls : List (Kept K))
       → Sorted K A B d points b u ks → Sorted K A B d points b′ u′ ls → (b ≡ b′) × (u ≡ u′) × (ks ≡ ls)
@@ -65,6 +62,10 @@ module _ (K : Field) (A B : Polynomial K) where
   not-all-bad d points b u k ks (unlucky e U i l s) all = i .good (all .0)
   not-all-bad d points b u k ks (keep U i s) all = i .good (all .0)
 
+  -- several solutions rule out an only one
+  not-several : (monomials : List Exponents) (kept : List (Kept K)) (s : Unknowns K) → OnlySolution K monomials kept s → ¬ SeveralSolutions K monomials kept
+  not-several monomials kept s only t = t .4 (only .1 (t .0) (t .2) ∙ sym (only .1 (t .1) (t .3)))
+
   verdict-determined : (monomials : List Exponents) (kept : List (Kept K)) (n m : ℕ) (G H : Polynomial K)
       → Verdict K A B monomials kept n G → Verdict K A B monomials kept m H → (n ≡ m) × (G ≡ H)
   verdict-determined monomials kept n m G H (none z) (none y) = (refl, refl)
@@ -73,15 +74,15 @@ module _ (K : Field) (A B : Polynomial K) where
   verdict-determined monomials kept n m G H (none z) (accepted t only x) = absurd (z t (only .0))
   verdict-determined monomials kept n m G H (several s) (none z) = absurd (z (s .0) (s .2))
   verdict-determined monomials kept n m G H (several s) (several t) = (refl, refl)
-  verdict-determined monomials kept n m G H (several s) (rejected t only x) = absurd (s .4 (only .1 (s .0) (s .2) ∙ sym (only .1 (s .1) (s .3))))
-  verdict-determined monomials kept n m G H (several s) (accepted t only x) = absurd (s .4 (only .1 (s .0) (s .2) ∙ sym (only .1 (s .1) (s .3))))
+  verdict-determined monomials kept n m G H (several s) (rejected t only x) = absurd (not-several monomials kept t only s)
+  verdict-determined monomials kept n m G H (several s) (accepted t only x) = absurd (not-several monomials kept t only s)
   verdict-determined monomials kept n m G H (rejected s only x) (none z) = absurd (z s (only .0))
-  verdict-determined monomials kept n m G H (rejected s only x) (several t) = absurd (t .4 (only .1 (t .0) (t .2) ∙ sym (only .1 (t .1) (t .3))))
+  verdict-determined monomials kept n m G H (rejected s only x) (several t) = absurd (not-several monomials kept s only t)
   verdict-determined monomials kept n m G H (rejected s only x) (rejected t only′ y) = (refl, refl)
   verdict-determined monomials kept n m G H (rejected s only x) (accepted t only′ y) =
       absurd (x (subst (λ (v : Unknowns K). DividesBoth K A B (divisor K v)) (only .1 t (only′ .0)) y))
   verdict-determined monomials kept n m G H (accepted s only x) (none z) = absurd (z s (only .0))
-  verdict-determined monomials kept n m G H (accepted s only x) (several t) = absurd (t .4 (only .1 (t .0) (t .2) ∙ sym (only .1 (t .1) (t .3))))
+  verdict-determined monomials kept n m G H (accepted s only x) (several t) = absurd (not-several monomials kept s only t)
   verdict-determined monomials kept n m G H (accepted s only x) (rejected t only′ y) =
       absurd (y (subst (λ (v : Unknowns K). DividesBoth K A B (divisor K v)) (only′ .1 s (only .0)) x))
   verdict-determined monomials kept n m G H (accepted s only x) (accepted t only′ y) = (refl, ap (divisor K) (only′ .1 s (only .0)))
@@ -92,8 +93,8 @@ module _ (K : Field) (A B : Polynomial K) where
   answer-determined monomials points r q G H (all-bad all) (some-good d b u k ks s n I x) = absurd (not-all-bad d points b u k ks s all)
   answer-determined monomials points r q G H (some-good d b u k ks s n I x) (all-bad all) = absurd (not-all-bad d points b u k ks s all)
   answer-determined monomials points r q G H (some-good d b u k ks s n I x) (some-good e c w l ls t m J y) =
-      let le : d ≤ e = least d e points b u c w (k ∷ ks) l ls s t in
-      let ge : e ≤ d = least e d points c w b u (l ∷ ls) k ks t s in
+      let le : d ≤ e = least-degree d e points b u c w (k ∷ ks) l ls s t in
+      let ge : e ≤ d = least-degree e d points c w b u (l ∷ ls) k ks t s in
       let same : d ≡ e = omega arith in
       let sorted = sorted-determined e points b u c w (k ∷ ks) (l ∷ ls) (subst (λ (f : ℕ). Sorted K A B f points b u (k ∷ ks)) same s) t in
       let v = verdict-determined monomials (l ∷ ls) n m I J (subst (λ (ms : List (Kept K)). Verdict K A B monomials ms n I) (sorted .2) x) y in

@@ -53,7 +53,8 @@ module _ (p : ℕ) (P : Prime p) (small : p < coefficient-limit) where
       wider i j (t ∷ ts) l q = (let m : key-of t < i = q .0 in omega arith, q .1, q .2, q .3)
 
       go : Dec (c ≡ 0) → ((n : ℕ) → FallFrom n ks → Falling p n (scaled-terms p f ks cs)) → Falling p b (scaled-terms p f (k ∷ ks) (c ∷ cs))
-      go (yes e) later = subst (Falling p b) (sym (scaled-zero p f k c ks cs e)) (wider k b (scaled-terms p f ks cs) (let m : k < b = h .0 in omega arith) (later k (h .1)))
+      go (yes e) later =
+          subst (Falling p b) (sym (scaled-zero p f k c ks cs e)) (wider k b (scaled-terms p f ks cs) (let m : k < b = h .0 in omega arith) (later k (h .1)))
       go (no n) later =
           let v = (c * f) % p in
           let lv : v < p = mod-lt (c * f) (prime-positive P) in

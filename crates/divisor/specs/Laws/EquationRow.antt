@@ -78,31 +78,34 @@ module _ (p : ℕ) (P : Prime p) (y z w : ℕ) where
           ∙ ap₂ mul (product-el p (getD (powers p y) (exponents k .y) 0) (getD (powers p z) (exponents k .z) 0)
           ∙ ap₂ mul (powers-el p (prime-positive P) y (exponents k .y) (omega arith)) (powers-el p (prime-positive P) z (exponents k .z) (omega arith)))
           (powers-el p (prime-positive P) w (exponents k .w) (omega arith))
-          ∙ ring3 R (λ a b c. a ⊗ b ⊗ c ≗ k1 ⊗ a ⊗ b ⊗ c) tt (pow R (el p y) (exponents k .y)) (pow R (el p z) (exponents k .z)) (pow R (el p w) (exponents k .w))
+          ∙ ring3 R (λ a b c. a ⊗ b ⊗ c ≗ k1 ⊗ a ⊗ b ⊗ c) tt (pow R (el p y) (exponents k .y)) (pow R (el p z) (exponents k .z))
+          (pow R (el p w) (exponents k .w))
           ∙ sym (mono-at R (exponents k .x) _) ∙ ap (λ (n : ℕ). monomial-at K (at-numbers p P y z w) n (exponents k)) q
       go (no q) = ap (el p) (number-there p (powers p y) (powers p z) (powers p w) i k q) ∙ sym (mono-off R (exponents k .x) _ i q)
 
   module _ (ks : List ℕ) (i column : ℕ) (r : Row) where
     -- the part of the keys, from the key at j on
-    monomial-entries : (front back : List ℕ) → ks ≡ front ++ back → (u : ℕ) → IsEquation p (powers p y) (powers p z) (powers p w) ks i column u r → (j : ℕ) → length front ≡ j
+    monomial-entries : (front back : List ℕ) → ks ≡ front ++ back → (u : ℕ) → IsEquation p (powers p y) (powers p z) (powers p w) ks i column u r → (j : ℕ)
+        → length front ≡ j
         → entries p (r .cells) j (length back) ≡ map (monomial-at K (at-numbers p P y z w) i) (map exponents back)
     unfolding entries
     monomial-entries front [] e u h j l = refl
     monomial-entries front (k ∷ back) e u h j l =
-        ap₂ _∷_ (ap (el p) (h .monomials j (fits j l) ∙ ap (monomial-number p (powers p y) (powers p z) (powers p w) i) (there j l)) ∙ number-el i k)
-        (monomial-entries (front ++ (k ∷ [])) back (e ∙ sym (append-assoc front (k ∷ []) back)) u h (suc j) (length-append front (k ∷ []) ∙ one-more j l))
+        ap₂ _∷_ (ap (el p) (h .monomials j fits ∙ ap (monomial-number p (powers p y) (powers p z) (powers p w) i) there) ∙ number-el i k)
+        (monomial-entries (front ++ (k ∷ [])) back (e ∙ sym (append-assoc front (k ∷ []) back)) u h (suc j) (length-append front (k ∷ []) ∙ one-more))
       where
-        one-more : (j : ℕ) → length front ≡ j → length front + 1 ≡ suc j
-        one-more j l = omega arith
+        one-more : length front + 1 ≡ suc j
+        one-more = omega arith
 
-        fits : (j : ℕ) → length front ≡ j → j < length ks
-        fits j l = let a : length ks ≡ length (front ++ (k ∷ back)) = ap length e in let b = length-append front (k ∷ back) in omega arith
+        fits : j < length ks
+        fits = let a : length ks ≡ length (front ++ (k ∷ back)) = ap length e in let b = length-append front (k ∷ back) in omega arith
 
-        there : (j : ℕ) → length front ≡ j → getD ks j 0 ≡ k
-        there j l = ap (λ (q : List ℕ). getD q j 0) e ∙ getD-at front k back 0 j l
+        there : getD ks j 0 ≡ k
+        there = ap (λ (q : List ℕ). getD q j 0) e ∙ getD-at front k back 0 j l
 
     -- the part of the multipliers: u in its column and 0 elsewhere
-    zero-entries : (u n j : ℕ) → IsEquation p (powers p y) (powers p z) (powers p w) ks i column u r → length ks ≤ j → column < j → entries p (r .cells) j n ≡ replicate n (el p 0)
+    zero-entries : (u n j : ℕ) → IsEquation p (powers p y) (powers p z) (powers p w) ks i column u r → length ks ≤ j → column < j
+        → entries p (r .cells) j n ≡ replicate n (el p 0)
     unfolding entries
     zero-entries u zero j h l m = refl
     zero-entries u (suc n) j h l m = ap₂ _∷_ (ap (el p) (h .others j l (λ e. omega arith))) (zero-entries u n (suc j) h (omega arith) (omega arith))
@@ -118,7 +121,8 @@ module _ (p : ℕ) (P : Prime p) (y z w : ℕ) where
         ap₂ _∷_ (ap (el p) (h .others j l (λ q. omega arith))) (multiplier-entries u n m (suc j) h (omega arith) (omega arith) (omega arith))
 
     -- the row of the equation
-    pub equation-row : (u c n m : ℕ) → IsEquation p (powers p y) (powers p z) (powers p w) ks i column u r → column ≡ length ks + m → m < n → suc c ≡ length ks + n
+    pub equation-row : (u c n m : ℕ) → IsEquation p (powers p y) (powers p z) (powers p w) ks i column u r → column ≡ length ks + m → m < n
+        → suc c ≡ length ks + n
         → (U : ℕ → Fp p) → el p u ≡ neg (U i)
         → row-of p c r ≡ row K (map exponents ks) n m (record { point = at-numbers p P y z w; image = U }) i
     equation-row u c n m h e b l U q =

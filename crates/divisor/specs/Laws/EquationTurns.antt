@@ -7,10 +7,10 @@ use native.Mathlib.Omega.{arith}
 use lib.ListN.{length, getD, set, replicate, length-set, length-replicate}
 use lib.Seq.{getD-set-same, getD-set-other}
 use Rattle.poly.specs.Keys.{exponents}
+use Rattle.poly.specs.Laws.Places.{replicate-all}
 use Rattle.divisor.specs.declared.table.Row.{Row}
 use Rattle.divisor.specs.Models.Table.{COLUMNS, cell}
 use Rattle.divisor.specs.Models.Equation.{monomial-number, IsEquation}
-use Rattle.divisor.specs.Laws.TableRows.{replicate-all}
 use Rattle.divisor.specs.Laws.EquationRow.{number-here, number-there}
 
 -- the keys before j have their numbers, and all other cells are 0
@@ -39,7 +39,8 @@ module _ (p : ℕ) (ys zs ws ks : List ℕ) (i : ℕ) where
     }
       where
         go : (k : ℕ) → k < j + 1 → Dec (k ≡ j) → cell r k ≡ monomial-number p ys zs ws i (getD ks k 0)
-        go k l (yes e) = h .left k (omega arith) ∙ sym (ap (λ (m : ℕ). monomial-number p ys zs ws i (getD ks m 0)) e ∙ number-there p ys zs ws i (getD ks j 0) n)
+        go k l (yes e) =
+            h .left k (omega arith) ∙ sym (ap (λ (m : ℕ). monomial-number p ys zs ws i (getD ks m 0)) e ∙ number-there p ys zs ws i (getD ks j 0) n)
         go k l (no e) = h .done k (omega arith)
 
     pub equation-taken : (v : ℕ) → exponents (getD ks j 0) .x ≡ i → j < COLUMNS
@@ -57,7 +58,8 @@ module _ (p : ℕ) (ys zs ws ks : List ℕ) (i : ℕ) where
             ∙ sym (ap (λ (m : ℕ). monomial-number p ys zs ws i (getD ks m 0)) z ∙ number-here p ys zs ws i (getD ks j 0) e)
         go k l (no z) = getD-set-other (r .cells) j k v 0 z ∙ h .done k (omega arith)
 
-    pub equation-end : (column u : ℕ) → length ks ≤ j → j ≤ length ks → length ks ≤ column → column < COLUMNS → IsEquation p ys zs ws ks i column u (with-cell r column u)
+    pub equation-end : (column u : ℕ) → length ks ≤ j → j ≤ length ks → length ks ≤ column → column < COLUMNS
+        → IsEquation p ys zs ws ks i column u (with-cell r column u)
     equation-end column u l m b c = record {
       size = length-set (r .cells) column u ∙ h .size;
       monomials = λ k a. getD-set-other (r .cells) column k u 0 (λ z. omega arith) ∙ h .done k (omega arith);

@@ -14,8 +14,7 @@ use Rattle.divisor.specs.Models.Rows.{rows-at, rows-from, kept-rows, all
 use Rattle.divisor.specs.Laws.RowValue.{multiplier, point-says, say-point}
 
 module _ (K : Field) where
-  open Field K using (ring as R)
-  open CommRing R using (Car, 𝟙)
+  open CommRing (K .ring) using (Car, 𝟙)
 
   solves-append : (v : List Car) (xs ys : List (List Car)) → SolvesAll K v xs → SolvesAll K v ys → SolvesAll K v (xs ++ ys)
   solves-append v [] ys h k = k

@@ -56,7 +56,7 @@ module _ (c : Call) (pass : Passes (table c)) (after sizes : List ℕ)
   same-room = zeroed-same work-room after (c .work) (look .beyond)
 
   pub sizes-are : take (point-count c) sizes ≡ sizes-of (looks-of c)
-  sizes-are = sizes-seen (c .modulus) (c .first-list) (c .second-list) (c .points) (point-count c) (c .work) after sizes (few-points c pass) look
+  sizes-are = sizes-seen (few-points c pass) look
 
 module _ {c : Call} {after sizes : List ℕ} {m count : ℕ} (good : SomeGood c after sizes m count) where
   abbrev p : ℕ
@@ -90,7 +90,8 @@ module _ {c : Call} {after sizes : List ℕ} {m count : ℕ} (good : SomeGood c 
   counts-fit bad is-bad = let l = alike-two 0 m (λ e. good .some (sym e)) (take n sizes) in let e = sized in let i = good .is-count in omega arith
 
   pub columns-fit : Columns (length (c .skeleton) + count)
-  columns-fit = record { some = let k = some-kept in let i = good .is-count in omega arith; most = let k = count-small in let s = keys-most c pass in omega arith }
+  columns-fit =
+      record { some = let k = some-kept in let i = good .is-count in omega arith; most = let k = count-small in let s = keys-most c pass in omega arith }
 
   pub ready-equations : EquationsReady (c .modulus) (c .skeleton) (c .points) sizes after m (length (c .skeleton) + count)
   ready-equations = record {
@@ -100,7 +101,7 @@ module _ {c : Call} {after sizes : List ℕ} {m count : ℕ} (good : SomeGood c 
     few = right-points c pass .few;
     count = good .look .count;
     room = room-after c pass after sizes (good .look);
-    images = λ i l. subst (Eight p) (sym (good .look .images i l)) (look-eight p (c .first-list) (c .second-list) (c .points) (c .work) (look-ready c pass) i);
+    images = λ i l. subst (Eight p) (sym (good .look .images i l)) (look-eight (look-ready c pass) i);
     some = some-kept;
     columns-are = ap (length (c .skeleton) +_) (good .is-count);
     most = columns-fit .most;
@@ -118,7 +119,7 @@ module _ {c : Call} {after sizes : List ℕ} {m count : ℕ} (good : SomeGood c 
 
   kept-are : kept-before P m (c .points) sizes after n ≡ kept
   kept-are =
-      kept-seen p (c .first-list) (c .second-list) (c .points) n (c .work) after sizes (few-points c pass) (good .look) P m (right-points c pass .threes)
+      kept-seen (few-points c pass) (good .look) P m (right-points c pass .threes)
       ∙ ap (λ (s : ℕ). kept-of P s (lent-points c listed) (looks-of c)) (sym next)
 
   counted : count ≡ alike (suc d) (sizes-of (looks-of c))

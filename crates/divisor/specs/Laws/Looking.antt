@@ -21,15 +21,17 @@ use Rattle.divisor.specs.Models.Looks.{point-at, look-at, LookReady}
 use Rattle.divisor.specs.Laws.Parts.{part-length, part-at}
 
 -- an answer's degree is below 8, and it has eight numbers below p
-answer-small : (p : ℕ) (P : Prime p) (A B : Polynomial (Modulo p P)) (at : Point (Modulo p P .ring)) (r : ImageRecord) → PointAnswer p P A B at r → r .degree < 8
+answer-small : (p : ℕ) (P : Prime p) (A B : Polynomial (Modulo p P)) (at : Point (Modulo p P .ring)) (r : ImageRecord) → PointAnswer p P A B at r
+    → r .degree < 8
 answer-small p P A B at r (bad x) = omega arith
 answer-small p P A B at r (good d cs e i) = i .small
 
-answer-eight : (p : ℕ) (P : Prime p) (A B : Polynomial (Modulo p P)) (at : Point (Modulo p P .ring)) (r : ImageRecord) → PointAnswer p P A B at r → Eight p (r .coefficients)
+answer-eight : (p : ℕ) (P : Prime p) (A B : Polynomial (Modulo p P)) (at : Point (Modulo p P .ring)) (r : ImageRecord) → PointAnswer p P A B at r
+    → Eight p (r .coefficients)
 answer-eight p P A B at r (bad x) = zeros-eight p (prime-positive P)
 answer-eight p P A B at r (good d cs e i) = e
 
-module _ (p : ℕ) (A B points work : List ℕ) (h : LookReady p A B points work) where
+module _ {p : ℕ} {A B points work : List ℕ} (h : LookReady p A B points work) where
   right : RightLists p A B
   right = lists-are-right p A B (h .lists)
 

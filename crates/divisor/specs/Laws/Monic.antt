@@ -37,7 +37,8 @@ module _ (K : Field) where
   unfolding monomial
   constant-one =
       ap (λ (u : SeriesR (SeriesR (SeriesR R)) .Car). mono (SeriesR (SeriesR (SeriesR R))) zero u)
-      (ap (λ (u : SeriesR (SeriesR R) .Car). mono (SeriesR (SeriesR R)) zero u) (ap (λ (u : SeriesR R .Car). mono (SeriesR R) zero u) (mono-zero-one R) ∙ mono-zero-one (SeriesR R)) ∙ mono-zero-one (SeriesR (SeriesR R)))
+      (ap (λ (u : SeriesR (SeriesR R) .Car). mono (SeriesR (SeriesR R)) zero u)
+      (ap (λ (u : SeriesR R .Car). mono (SeriesR R) zero u) (mono-zero-one R) ∙ mono-zero-one (SeriesR R)) ∙ mono-zero-one (SeriesR (SeriesR R)))
       ∙ mono-zero-one (SeriesR (SeriesR (SeriesR R)))
 
   -- a number goes into the coefficient
@@ -57,8 +58,11 @@ module _ (K : Field) where
   polynomial-without-zeros (t ∷ ts) = go (K .decide (t .coefficient)) (polynomial-without-zeros ts)
     where
       go : (z : Dec (t .coefficient ≡ 𝟘)) → polynomial R (without-zeros K ts) ≡ polynomial R ts
-          → polynomial R (elim z [ yes e ↦ without-zeros K ts | no q ↦ t ∷ without-zeros K ts ]) ≡ S4 R .add (monomial R (t .exponents) (t .coefficient)) (polynomial R ts)
-      go (yes e) h = h ∙ sym (ap (λ (u : S4 R .Car). S4 R .add u (polynomial R ts)) (ap (monomial R (t .exponents)) e ∙ monomial-zero R (t .exponents)) ∙ zero-add (S4 R) _)
+          → polynomial R (elim z [ yes e ↦ without-zeros K ts | no q ↦ t ∷ without-zeros K ts ])
+          ≡ S4 R .add (monomial R (t .exponents) (t .coefficient)) (polynomial R ts)
+      go (yes e) h =
+          let z = ap (monomial R (t .exponents)) e ∙ monomial-zero R (t .exponents) in
+          h ∙ sym (ap (λ (u : S4 R .Car). S4 R .add u (polynomial R ts)) z ∙ zero-add (S4 R) _)
       go (no q) h = ap (S4 R .add (monomial R (t .exponents) (t .coefficient))) h
 
   -- a polynomial over a number that is not 0 divides what it divides

@@ -2,11 +2,10 @@
 use mathlib.Core.Path.{_≡_, refl, sym, _∙_, ap, ap₂, subst}
 use mathlib.Core.List.{List, [], _∷_, map}
 use Prim.Native.Nat.{ℕ, zero, suc, _*_, _%_, _<_}
-use native.Mathlib.Decide.{ℕ-discrete, decLt}
+use native.Mathlib.Decide.{ℕ-discrete}
 use native.Mathlib.Nat.{mod-mod}
 use native.Mathlib.Omega.{arith}
-use lib.ListN.{length, getD, take, length-take, List·getD-eq-default}
-use lib.Seq.{getD-take}
+use lib.ListN.{length, getD, take}
 use borrow.Author.Tests.{eq-eqb, ne-eqb}
 use Rattle.algebra.specs.Ring.{CommRing}
 use Rattle.algebra.specs.Monomial.{Term}
@@ -38,25 +37,21 @@ pub leading-zero : (c : ℕ) (cs : List ℕ) → c ≡ 0 → leading (c ∷ cs) 
 unfolding leading
 leading-zero c cs e = rw (eq-eqb c 0 e, leading)
 
-leading-here : (c : ℕ) (cs : List ℕ) → ¬ (c ≡ 0) → leading (c ∷ cs) ≡ c
+pub leading-here : (c : ℕ) (cs : List ℕ) → ¬ (c ≡ 0) → leading (c ∷ cs) ≡ c
 unfolding leading
 leading-here c cs n = rw (ne-eqb c 0 n, leading)
 
--- the leading coefficient is one of them
-leading-of : (p : ℕ) → 0 < p → (cs : List ℕ) → ((i : ℕ) → getD cs i 0 < p) → leading cs < p
-leading-of p pos [] h = (unfold leading in pos)
-leading-of p pos (c ∷ cs) h = go (ℕ-discrete c 0) (leading-of p pos cs (λ i. h (suc i)))
+-- the leading coefficient is one of them, or 0
+leading-within : (p : ℕ) → 0 < p → (cs : List ℕ) → AllBelow p cs → leading cs < p
+leading-within p pos [] h = (unfold leading in pos)
+leading-within p pos (c ∷ cs) h = go (ℕ-discrete c 0) (leading-within p pos cs (h .1))
   where
     go : Dec (c ≡ 0) → leading cs < p → leading (c ∷ cs) < p
     go (yes e) l = subst (λ (n : ℕ). n < p) (sym (leading-zero c cs e)) l
-    go (no n) l = subst (λ (n : ℕ). n < p) (sym (leading-here c cs n)) (h 0)
+    go (no n) l = subst (λ (n : ℕ). n < p) (sym (leading-here c cs n)) (h .0)
 
 pub leading-below : (p : ℕ) → 0 < p → (n : ℕ) (values : List ℕ) → ((i : ℕ) → getD values i 0 < p) → leading (take n values) < p
-leading-below p pos n values h = leading-of p pos (take n values) (λ i. go i (decLt i n))
-  where
-    go : (i : ℕ) → Dec (i < n) → getD (take n values) i 0 < p
-    go i (yes l) = subst (λ (m : ℕ). m < p) (sym (getD-take n values i 0 l)) (h i)
-    go i (no l) = subst (λ (m : ℕ). m < p) (sym (List·getD-eq-default (take n values) 0 (let k = length-take n values in omega arith))) pos
+leading-below p pos n values h = leading-within p pos (take n values) (all-below p n values h)
 
 pub scaled-zero : (p f k c : ℕ) (ks cs : List ℕ) → c ≡ 0 → scaled-terms p f (k ∷ ks) (c ∷ cs) ≡ scaled-terms p f ks cs
 unfolding scaled-terms
@@ -89,7 +84,8 @@ module _ (p : ℕ) (P : Prime p) where
 
   number-divided : (k c : ℕ) (u : Fp p) → keyed (key (exponents k)) (mul (el p c) u .val) ≡ keyed k ((c * u .val) % p)
   number-divided k c u = ap₂ keyed (key-of-exponents k)
-      (ap (λ (x : Fp p). mul (el p c) x .val) (sym (el-val u)) ∙ ap (λ (x : Fp p). x .val) (sym (product-el p c (u .val))) ∙ val-of-el p ((c * u .val) % p) ∙ mod-mod (c * u .val) p)
+      (ap (λ (x : Fp p). mul (el p c) x .val) (sym (el-val u)) ∙ ap (λ (x : Fp p). x .val) (sym (product-el p c (u .val)))
+      ∙ val-of-el p ((c * u .val) % p) ∙ mod-mod (c * u .val) p)
 
   -- zeros dropped and all divided by a number
   divided-numbers : (a : Fp p) (ks cs : List ℕ) → length cs ≡ length ks → AllBelow p cs
@@ -148,4 +144,5 @@ module _ (p : ℕ) (P : Prime p) where
       go (no-term w z) r =
           ap (numbers-of p P) (ap (made-monic K) w ∙ monic-none ∙ sym (ap (divided-by K (el p (leading cs))) w ∙ divided-none (el p (leading cs)))) ∙ r
       go (first-left t ts w q n b) r =
-          ap (numbers-of p P) (ap (made-monic K) w ∙ monic-first t ts ∙ ap (λ (a : Fp p). divided-by K a (t ∷ ts)) q ∙ ap (divided-by K (el p (leading cs))) (sym w)) ∙ r
+          ap (numbers-of p P)
+          (ap (made-monic K) w ∙ monic-first t ts ∙ ap (λ (a : Fp p). divided-by K a (t ∷ ts)) q ∙ ap (divided-by K (el p (leading cs))) (sym w)) ∙ r

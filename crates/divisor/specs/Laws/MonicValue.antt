@@ -51,7 +51,8 @@ module _ (K : Field) where
       let e = t .exponents in
       ap₂ _+_
       (ap (λ (u : Car). mono R (e .x) u n)
-      (ring5 R (λ u i a b c. u ⊗ i ⊗ a ⊗ b ⊗ c ≗ u ⊗ a ⊗ b ⊗ c ⊗ i) tt (t .coefficient) (K .inv c) (pow R (at .y) (e .y)) (pow R (at .z) (e .z)) (pow R (at .w) (e .w)))
+      (ring5 R (λ u i a b c. u ⊗ i ⊗ a ⊗ b ⊗ c ≗ u ⊗ a ⊗ b ⊗ c ⊗ i) tt
+      (t .coefficient) (K .inv c) (pow R (at .y) (e .y)) (pow R (at .z) (e .z)) (pow R (at .w) (e .w)))
       ∙ mono-times R (e .x) (number-at R at t) (K .inv c) n)
       (value-divided c ts at n)
       ∙ sym (R .distrib _ _ _)
@@ -69,8 +70,11 @@ module _ (K : Field) where
   value-without-zeros (t ∷ ts) at n = go (K .decide (t .coefficient)) (value-without-zeros ts at n)
     where
       go : (z : Dec (t .coefficient ≡ 𝟘)) → value R (without-zeros K ts) at n ≡ value R ts at n
-          → value R (elim z [ yes e ↦ without-zeros K ts | no q ↦ t ∷ without-zeros K ts ]) at n ≡ mono R (t .exponents .x) (number-at R at t) n + value R ts at n
-      go (yes e) h = h ∙ sym (ap (_+ value R ts at n) (ap (λ (u : Car). mono R (t .exponents .x) u n) (number-null at t e) ∙ mono-null R (t .exponents .x) n) ∙ zero-add R _)
+          → value R (elim z [ yes e ↦ without-zeros K ts | no q ↦ t ∷ without-zeros K ts ]) at n
+          ≡ mono R (t .exponents .x) (number-at R at t) n + value R ts at n
+      go (yes e) h =
+          let z = ap (λ (u : Car). mono R (t .exponents .x) u n) (number-null at t e) ∙ mono-null R (t .exponents .x) n in
+          h ∙ sym (ap (_+ value R ts at n) z ∙ zero-add R _)
       go (no q) h = ap (mono R (t .exponents .x) (number-at R at t) n +_) h
 
   -- made monic, a value that was not 0 is not 0

@@ -33,32 +33,32 @@ module _ (K : Field) where
   Keyed (t ∷ ts) = Digits (t .exponents) × Keyed ts
 
   -- dropping zeros and dividing leave as many terms at most, with the same monomials
-  pub record Within (f : Polynomial K) (n : ℕ) : Type 0 where
+  pub record KeyedWithin (f : Polynomial K) (n : ℕ) : Type 0 where
     pub keyed : Keyed f
     pub count : length f ≤ n
 
-  without-zeros-within : (f : Polynomial K) → Keyed f → Within (without-zeros K f) (length f)
+  without-zeros-within : (f : Polynomial K) → Keyed f → KeyedWithin (without-zeros K f) (length f)
   unfolding without-zeros
   without-zeros-within [] h = record { keyed = tt; count = omega arith }
   without-zeros-within (t ∷ ts) h = go (K .decide (t .coefficient)) (without-zeros-within ts (h .1))
     where
-      go : (z : Dec (t .coefficient ≡ R .𝟘)) → Within (without-zeros K ts) (length ts)
-          → Within (elim z [ yes e ↦ without-zeros K ts | no q ↦ t ∷ without-zeros K ts ]) (suc (length ts))
+      go : (z : Dec (t .coefficient ≡ R .𝟘)) → KeyedWithin (without-zeros K ts) (length ts)
+          → KeyedWithin (elim z [ yes e ↦ without-zeros K ts | no q ↦ t ∷ without-zeros K ts ]) (suc (length ts))
       go (yes e) w = record { keyed = w .keyed; count = let l = w .count in omega arith }
       go (no q) w = record { keyed = (h .0, w .keyed); count = let l = w .count in omega arith }
 
-  divided-within : (c : R .Car) (f : Polynomial K) → Keyed f → Within (divided-by K c f) (length f)
+  divided-within : (c : R .Car) (f : Polynomial K) → Keyed f → KeyedWithin (divided-by K c f) (length f)
   unfolding divided-by
   divided-within c [] h = record { keyed = tt; count = omega arith }
   divided-within c (t ∷ ts) h =
       let w = divided-within c ts (h .1) in record { keyed = (h .0, w .keyed); count = let l = w .count in omega arith }
 
-  made-monic-within : (f : Polynomial K) → Keyed f → Within (made-monic K f) (length f)
+  made-monic-within : (f : Polynomial K) → Keyed f → KeyedWithin (made-monic K f) (length f)
   unfolding made-monic
   made-monic-within [] h = record { keyed = tt; count = omega arith }
   made-monic-within (t ∷ ts) h = divided-within (t .coefficient) (t ∷ ts) h
 
-  proposed-within : (f : Polynomial K) (keys : List ℕ) → map (λ (t : Term R). t .exponents) f ≡ map exponents keys → Within f (length keys)
+  proposed-within : (f : Polynomial K) (keys : List ℕ) → map (λ (t : Term R). t .exponents) f ≡ map exponents keys → KeyedWithin f (length keys)
   proposed-within [] [] e = record { keyed = tt; count = omega arith }
   proposed-within [] (k ∷ ks) e = absurd (let z : _≡_ {A = ℕ} 0 (suc (length (map exponents ks))) = ap length e in omega arith)
   proposed-within (t ∷ ts) [] e = absurd (let z : suc (length (map (λ (t : Term R). t .exponents) ts)) ≡ 0 = ap length e in omega arith)
@@ -69,7 +69,8 @@ module _ (K : Field) where
       record { keyed = (subst Digits (sym q) (digits-of k), w .keyed); count = let l = w .count in omega arith }
 
   -- G has at most as many terms as the skeleton, and their monomials have keys
-  pub divisor-within : (keys : List ℕ) (kept : List (Kept K)) (s : Unknowns K) → Solution K (map exponents keys) kept s → Within (divisor K s) (length keys)
+  pub divisor-within : (keys : List ℕ) (kept : List (Kept K)) (s : Unknowns K) → Solution K (map exponents keys) kept s
+      → KeyedWithin (divisor K s) (length keys)
   divisor-within keys kept s h =
       let a = proposed-within (s .skeleton) keys (h .proposed) in
       let b = without-zeros-within (s .skeleton) (a .keyed) in
@@ -110,7 +111,8 @@ answer-counts : (c : Call) (listed : Listed (c .modulus)) (r : CandidateRecord) 
 answer-counts c listed r G (all-bad all) = (tt, refl)
 answer-counts c listed r G (some-good d b u k kept sorted n H v) = (go n H v, refl)
   where
-    go : (n : ℕ) (H : Polynomial (Numbers c listed)) → Verdict (Numbers c listed) (A c listed) (B c listed) (monomials c listed) (k ∷ kept) n H → Keyed (Numbers c listed) H
+    go : (n : ℕ) (H : Polynomial (Numbers c listed)) → Verdict (Numbers c listed) (A c listed) (B c listed) (monomials c listed) (k ∷ kept) n H
+        → Keyed (Numbers c listed) H
     go n H (none x) = tt
     go n H (several x) = tt
     go n H (rejected s x y) = tt

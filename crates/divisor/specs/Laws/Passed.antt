@@ -46,7 +46,8 @@ looks-of c = looks-from (c .modulus) (c .first-list) (c .second-list) (c .points
 
 module _ (c : Call) (pass : Passes (table c)) where
   -- the lines behind those of the lists
-  abbrev rest : Passes (of-skeleton (c .skeleton) ++ (of-points (c .modulus) (c .points) ++ of-rooms (length (c .output)) (length (c .skeleton)) (length (c .work))))
+  abbrev rest : Passes
+      (of-skeleton (c .skeleton) ++ (of-points (c .modulus) (c .points) ++ of-rooms (length (c .output)) (length (c .skeleton)) (length (c .work))))
   rest = pass .1 .1 .1 .1 .1
 
   lists-pass : Passes (of-lists (c .modulus) (c .first-list) (c .second-list))
@@ -80,4 +81,4 @@ module _ (c : Call) (pass : Passes (table c)) where
   look-ready = record { lists = lists-pass; threes = right-points .threes; few = right-points .few; below = right-points .below; room = work-fits }
 
   pub looked : (listed : Listed (c .modulus)) → Looked (prime c listed) (A c listed) (B c listed) (lent-points c listed) (looks-of c)
-  looked listed = seen (c .modulus) (c .first-list) (c .second-list) (c .points) (c .work) look-ready (prime c listed) 0 (point-count c) (let t = right-points .threes in omega arith)
+  looked listed = seen look-ready (prime c listed) 0 (point-count c) (let t = right-points .threes in omega arith)

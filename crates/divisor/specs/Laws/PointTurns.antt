@@ -26,7 +26,8 @@ use Rattle.divisor.specs.Models.Equation.{IsEquation, Equations-to, kept
 use Rattle.divisor.specs.Laws.EquationRow.{equation-ready, equation-row}
 
 -- one more row at the end
-rows-at-more : (K : Field) (es : List Exponents) (n m : ℕ) (k : Kept K) (i j a : ℕ) → a ≡ i + j → rows-at K es n m k i (suc j) ≡ rows-at K es n m k i j ++ (row K es n m k a ∷ [])
+rows-at-more : (K : Field) (es : List Exponents) (n m : ℕ) (k : Kept K) (i j a : ℕ) → a ≡ i + j
+    → rows-at K es n m k i (suc j) ≡ rows-at K es n m k i j ++ (row K es n m k a ∷ [])
 rows-at-more K es n m k i zero a e = let q : i ≡ a = omega arith in ap (λ (b : ℕ). row K es n m k b ∷ []) q
 rows-at-more K es n m k i (suc j) a e = ap (row K es n m k i ∷_) (rows-at-more K es n m k (suc i) j a (omega arith))
 
@@ -39,7 +40,8 @@ record Tables : Type 0 where
 -- an equation where the tables of powers are known
 pub equation-with : {p : ℕ} {ys zs ws ys′ zs′ ws′ ks : List ℕ} {i column u : ℕ} {r : Row} → ys ≡ ys′ → zs ≡ zs′ → ws ≡ ws′
     → IsEquation p ys zs ws ks i column u r → IsEquation p ys′ zs′ ws′ ks i column u r
-equation-with {p} {ks = ks} {i} {column} {u} {r} a b c h = subst (λ (t : Tables). IsEquation p (t .ys) (t .zs) (t .ws) ks i column u r) (λ j. record { ys = a j; zs = b j; ws = c j }) h
+equation-with {p} {ks = ks} {i} {column} {u} {r} a b c h =
+    subst (λ (t : Tables). IsEquation p (t .ys) (t .zs) (t .ws) ks i column u r) (λ j. record { ys = a j; zs = b j; ws = c j }) h
 
 module _ (p : ℕ) (t : Table) (ks point image : List ℕ) (column : ℕ) where
   pub point-start : Equations-to 0 p t ks point image column t

@@ -1,12 +1,13 @@
 -- A polynomial with only proposed monomials is a list of terms with these monomials. Assumes nothing.
 use mathlib.Core.Path.{_≡_, refl, sym, _∙_, ap, ap₂, subst}
-use mathlib.Core.Logic.{_⊎_, inl, inr}
+use mathlib.Core.Logic.{inl, inr}
 use mathlib.Core.List.{List, [], _∷_, map}
 use Rattle.algebra.specs.Ring.{CommRing, zero-add}
 use Rattle.algebra.specs.Series.{S4}
 use Rattle.algebra.specs.Four.{Exponents, _≺_, same-exponents, below-irreflexive, coef}
 use Rattle.algebra.specs.Field.{Field}
 use Rattle.algebra.specs.Monomial.{Term, polynomial, monomial-at, monomial-off, coef-ext}
+use Rattle.field.specs.RefusalDecision.{either-decided}
 use Rattle.poly.specs.Terms.{Polynomial}
 use Rattle.divisor.specs.Demands.{Proposed, OnlyProposed}
 
@@ -16,23 +17,17 @@ Under m [] = Unit {0}
 Under m (e ∷ es) = (e ≺ m) × Under m es
 
 -- the monomials fall
-abbrev pub Falling : List Exponents → Type 0
-Falling [] = Unit {0}
-Falling (m ∷ ms) = Under m ms × Falling ms
+abbrev pub FallingMonomials : List Exponents → Type 0
+FallingMonomials [] = Unit {0}
+FallingMonomials (m ∷ ms) = Under m ms × FallingMonomials ms
 
 module _ (K : Field) where
   open Field K using (ring as R)
-  open CommRing R using (Car, 𝟘, add as _+_)
+  open CommRing R using (𝟘, add as _+_)
 
-  infixl 60 _+_
   proposed? : (ms : List Exponents) (e : Exponents) → Dec (Proposed K ms e)
   proposed? [] e = no λ p. p
-  proposed? (m ∷ ms) e = go (same-exponents m e) (proposed? ms e)
-    where
-      go : Dec (m ≡ e) → Dec (Proposed K ms e) → Dec ((m ≡ e) ⊎ Proposed K ms e)
-      go (yes q) t = yes (inl q)
-      go (no q) (yes p) = yes (inr p)
-      go (no q) (no n) = no λ s. elim s [ inl e ↦ q e | inr p ↦ n p ]
+  proposed? (m ∷ ms) e = either-decided (same-exponents m e) (proposed? ms e)
 
   -- a monomial is not among those under it
   not-under : (m : Exponents) (ms : List Exponents) → Under m ms → ¬ Proposed K ms m
@@ -55,7 +50,8 @@ module _ (K : Field) where
   at-other [] f e n = refl
   at-other (m ∷ ms) f e n = ap₂ _+_ (monomial-off R m e _ (λ q. n (inl q))) (at-other ms f e (λ p. n (inr p))) ∙ R .add-zero _
 
-  at-proposed : (ms : List Exponents) → Falling ms → (f : S4 R .Car) (e : Exponents) → Proposed K ms e → coef R (polynomial R (terms-at ms f)) e ≡ coef R f e
+  at-proposed : (ms : List Exponents) → FallingMonomials ms → (f : S4 R .Car) (e : Exponents) → Proposed K ms e
+      → coef R (polynomial R (terms-at ms f)) e ≡ coef R f e
   unfolding polynomial terms-at
   at-proposed [] h f e p = absurd p
   at-proposed (m ∷ ms) h f e (inl q) =
@@ -65,7 +61,7 @@ module _ (K : Field) where
       ap₂ _+_ (monomial-off R m e _ (λ q. not-under m ms (h .0) (subst (Proposed K ms) (sym q) p))) (at-proposed ms (h .1) f e p) ∙ zero-add R _
 
   -- such a polynomial is its list
-  pub polynomial-of-terms-at : (ms : List Exponents) → Falling ms → (f : S4 R .Car) → OnlyProposed K ms f → polynomial R (terms-at ms f) ≡ f
+  pub polynomial-of-terms-at : (ms : List Exponents) → FallingMonomials ms → (f : S4 R .Car) → OnlyProposed K ms f → polynomial R (terms-at ms f) ≡ f
   polynomial-of-terms-at ms falling f only = coef-ext R _ f λ e. go e (proposed? ms e) (K .decide (coef R f e))
     where
       go : (e : Exponents) → Dec (Proposed K ms e) → Dec (coef R f e ≡ 𝟘) → coef R (polynomial R (terms-at ms f)) e ≡ coef R f e

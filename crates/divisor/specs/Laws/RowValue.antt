@@ -22,10 +22,12 @@ module _ (K : Field) where
   infixl 60 _+_
   infixl 70 _*_
   -- a row at numbers: the part of the monomials is the value of the skeleton polynomial, and the rest follows
-  term-at : (at : Point R) (i : ℕ) (e : Exponents) (c : Car) → monomial-at K at i e * c ≡ mono R (e .x) (number-at R at (record { exponents = e; coefficient = c })) i
+  term-at : (at : Point R) (i : ℕ) (e : Exponents) (c : Car)
+      → monomial-at K at i e * c ≡ mono R (e .x) (number-at R at (record { exponents = e; coefficient = c })) i
   term-at at i e c =
       sym (mono-times R (e .x) (number-at R at (record { exponents = e; coefficient = 𝟙 })) c i)
-      ∙ ap (λ (u : Car). mono R (e .x) u i) (ring4 R (λ c y z w. k1 ⊗ y ⊗ z ⊗ w ⊗ c ≗ c ⊗ y ⊗ z ⊗ w) tt c (pow R (at .y) (e .y)) (pow R (at .z) (e .z)) (pow R (at .w) (e .w)))
+      ∙ ap (λ (u : Car). mono R (e .x) u i)
+      (ring4 R (λ c y z w. k1 ⊗ y ⊗ z ⊗ w ⊗ c ≗ c ⊗ y ⊗ z ⊗ w) tt c (pow R (at .y) (e .y)) (pow R (at .z) (e .z)) (pow R (at .w) (e .w)))
 
   eval-monomials : (at : Point R) (i : ℕ) (es : List Exponents) (cs r v : List Car) → length cs ≡ length es
       → eval K (map (monomial-at K at i) es ++ r) (cs ++ v) ≡ value R (with-coefficients K es cs) at i + eval K r v

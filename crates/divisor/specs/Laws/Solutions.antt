@@ -17,7 +17,7 @@ use Rattle.divisor.specs.Laws.Equations.{rows-say, say-rows}
 
 module _ (K : Field) where
   open Field K using (ring as R)
-  open CommRing R using (Car, 𝟘, 𝟙)
+  open CommRing R using (Car, 𝟙)
 
   abbrev coefficients : Polynomial K → List Car
   coefficients f = map (λ (t : Term R). t .coefficient) f
@@ -107,9 +107,14 @@ module _ (K : Field) where
       unknowns = length-append (coefficients (s .skeleton)) (after-first K (s .multipliers)) ∙ ap₂ _+ₙ_ sized left;
       solves = say-rows K es (coefficients (s .skeleton)) sized (after-first K (s .multipliers)) k ks left
           (subst (λ (f : Polynomial K). Equations K f (k ∷ ks) (𝟙 ∷ after-first K (s .multipliers)))
-          (sym (subst (λ (ms : List Exponents). with-coefficients K ms (coefficients (s .skeleton)) ≡ s .skeleton) (h .proposed) (with-coefficients-own (s .skeleton)))) holds);
+          (sym own) holds);
     }
       where
+        own : with-coefficients K es (coefficients (s .skeleton)) ≡ s .skeleton
+        own =
+            subst (λ (ms : List Exponents). with-coefficients K ms (coefficients (s .skeleton)) ≡ s .skeleton) (h .proposed)
+            (with-coefficients-own (s .skeleton))
+
         holds : Equations K (s .skeleton) (k ∷ ks) (𝟙 ∷ after-first K (s .multipliers))
         holds = subst (Equations K (s .skeleton) (k ∷ ks)) (first-and-after (s .multipliers) (h .one-first)) (h .holds)
 
@@ -123,10 +128,14 @@ module _ (K : Field) where
     unknowns-of-vector s h = λ i. record { skeleton = same i; multipliers = (ap (𝟙 ∷_) later ∙ sym (first-and-after (s .multipliers) (h .one-first))) i }
       where
         same : with-coefficients K es (vector-of K s) ≡ s .skeleton
-        same = subst (λ (ms : List Exponents). with-coefficients K ms (vector-of K s) ≡ s .skeleton) (h .proposed) (with-own (s .skeleton) (after-first K (s .multipliers)))
+        same =
+            subst (λ (ms : List Exponents). with-coefficients K ms (vector-of K s) ≡ s .skeleton) (h .proposed)
+            (with-own (s .skeleton) (after-first K (s .multipliers)))
 
         later : behind K es (vector-of K s) ≡ after-first K (s .multipliers)
-        later = subst (λ (ms : List Exponents). behind K ms (vector-of K s) ≡ after-first K (s .multipliers)) (h .proposed) (behind-own (s .skeleton) (after-first K (s .multipliers)))
+        later =
+            subst (λ (ms : List Exponents). behind K ms (vector-of K s) ≡ after-first K (s .multipliers)) (h .proposed)
+            (behind-own (s .skeleton) (after-first K (s .multipliers)))
 
     vector-of-unknowns : (v : List Car) → SolvesRows v → vector-of K (unknowns-of K es v) ≡ v
     vector-of-unknowns v h =

@@ -94,7 +94,8 @@ least-is a (s ∷ sizes) = go (lesser a s) (lesser-is a s) (least-from (lesser a
     go : (b : ℕ) → Lesser a s b → (m : ℕ) → Least b sizes m → Least a (s ∷ sizes) m
     go b (first h) m l = record {
       below-first = l .below-first;
-      below = (elim h [ inl e ↦ inl e | inr q ↦ elim (l .below-first) [ inl e ↦ absurd (q .0 e) | inr k ↦ inr (let c : a ≤ s = q .1 in omega arith) ] ], l .below);
+      below =
+          (elim h [ inl e ↦ inl e | inr q ↦ elim (l .below-first) [ inl e ↦ absurd (q .0 e) | inr k ↦ inr (let c : a ≤ s = q .1 in omega arith) ] ], l .below);
       zero-first = l .zero-first;
       zero = λ e. (elim h [ inl z ↦ z | inr q ↦ absurd (q .0 (l .zero-first e)) ], l .zero e);
       reached = elim (l .reached) [ inl e ↦ inl e | inr k ↦ inr (alike-later m s sizes k) ];
@@ -115,22 +116,27 @@ module _ {p : ℕ} (P : Prime p) (A B : Polynomial (Modulo p P)) where
         → PointAnswer p P A B at r → Looked points looks → Looked (at ∷ points) (r ∷ looks)
 
   -- all sizes 0: all points bad
-  pub all-bad : (points : List (Point (Modulo p P .ring))) (looks : List ImageRecord) → Looked points looks → AllZero (sizes-of looks) → AllBad (Modulo p P) A B points
+  pub all-bad : (points : List (Point (Modulo p P .ring))) (looks : List ImageRecord) → Looked points looks → AllZero (sizes-of looks)
+      → AllBad (Modulo p P) A B points
   unfolding size-of
   all-bad points looks none h = tt
   all-bad points looks (one (bad x) rest) h = (x, all-bad _ _ rest (h .1))
   all-bad points looks (one (good degree cs e i) rest) h = absurd (let z : suc degree ≡ 0 = h .0 in omega arith)
 
-  -- one more point, by the tests of its size
   abbrev Kepts : Type 0
   Kepts = List (Kept (Modulo p P))
 
+  -- a point with its image, if it is kept
+  abbrev kept-here : Point (Modulo p P .ring) → ImageRecord → Kept (Modulo p P)
+  kept-here at r = record { point = at; image = series p (r .coefficients) }
+
+  -- one more point, by the tests of its size
   module _ (d : ℕ) (at : Point (Modulo p P .ring)) (points : List (Point (Modulo p P .ring))) (r : ImageRecord) (looks : List ImageRecord) where
     abbrev SortedBy : Bool → Bool → Type 0
     SortedBy zero-size same-size =
         (u : ℕ) × Sorted (Modulo p P) A B d (at ∷ points)
         (elim zero-size as (λ _. ℕ) [ true ↦ suc (alike 0 (sizes-of looks)) | false ↦ alike 0 (sizes-of looks) ]) u
-        (elim same-size as (λ _. Kepts) [ true ↦ record { point = at; image = series p (r .coefficients) } ∷ kept-of P (suc d) points looks | false ↦ kept-of P (suc d) points looks ])
+        (elim same-size as (λ _. Kepts) [ true ↦ kept-here at r ∷ kept-of P (suc d) points looks | false ↦ kept-of P (suc d) points looks ])
 
     sorted-by : (s : ℕ) → size-of r ≡ s → SortedBy (eqb s 0) (eqb s (suc d))
         → (u : ℕ) × Sorted (Modulo p P) A B d (at ∷ points) (alike 0 (sizes-of (r ∷ looks))) u (kept-of P (suc d) (at ∷ points) (r ∷ looks))
@@ -157,13 +163,14 @@ module _ {p : ℕ} (P : Prime p) (A B : Polynomial (Modulo p P)) where
           (suc (s .0), unlucky degree (series p cs) i (elim l [ inl z ↦ absurd (omega arith) | inr k ↦ omega arith ]) (s .1))
 
   -- as many are kept as have the size
-  pub kept-count : (m : ℕ) (points : List (Point (Modulo p P .ring))) (looks : List ImageRecord) → Looked points looks → length (kept-of P m points looks) ≡ alike m (sizes-of looks)
+  pub kept-count : (m : ℕ) (points : List (Point (Modulo p P .ring))) (looks : List ImageRecord) → Looked points looks
+      → length (kept-of P m points looks) ≡ alike m (sizes-of looks)
   unfolding alike kept-of
   kept-count m points looks none = refl
   kept-count m (at ∷ points) (r ∷ looks) (one a rest) = go (eqb (size-of r) m) (kept-count m points looks rest)
     where
       go : (b : Bool) → length (kept-of P m points looks) ≡ alike m (sizes-of looks)
-          → length {A = Kept (Modulo p P)} (elim b as (λ _. Kepts) [ true ↦ record { point = at; image = series p (r .coefficients) } ∷ kept-of P m points looks | false ↦ kept-of P m points looks ])
+          → length {A = Kept (Modulo p P)} (elim b as (λ _. Kepts) [ true ↦ kept-here at r ∷ kept-of P m points looks | false ↦ kept-of P m points looks ])
           ≡ elim b as (λ _. ℕ) [ true ↦ suc (alike m (sizes-of looks)) | false ↦ alike m (sizes-of looks) ]
       go true h = ap suc h
       go false h = h

@@ -18,7 +18,8 @@ module _ {numbers : List ℕ} {at : ℕ} {before : List ℕ} where
   pub stored-start : Stored 0 numbers at before before
   stored-start = record { same-length = refl; stored = λ j l. absurd (omega arith); others = λ k h. refl }
 
-  pub stored-next : {n : ℕ} {after : List ℕ} → at + n < length after → Stored n numbers at before after → Stored (n + 1) numbers at before (set after (at + n) (getD numbers n 0))
+  pub stored-next : {n : ℕ} {after : List ℕ} → at + n < length after → Stored n numbers at before after
+      → Stored (n + 1) numbers at before (set after (at + n) (getD numbers n 0))
   stored-next {n} {after} l h = record {
     same-length = length-set after (at + n) (getD numbers n 0) ∙ h .same-length;
     stored = λ j b. go j b (ℕ-discrete j n);
@@ -27,7 +28,8 @@ module _ {numbers : List ℕ} {at : ℕ} {before : List ℕ} where
     where
       go : (j : ℕ) → j < n + 1 → Dec (j ≡ n) → getD (set after (at + n) (getD numbers n 0)) (at + j) 0 ≡ getD numbers j 0
       go j b (yes e) =
-          ap (λ (i : ℕ). getD (set after (at + n) (getD numbers n 0)) (at + i) 0) e ∙ getD-set-same after (at + n) (getD numbers n 0) 0 l ∙ ap (λ (i : ℕ). getD numbers i 0) (sym e)
+          ap (λ (i : ℕ). getD (set after (at + n) (getD numbers n 0)) (at + i) 0) e ∙ getD-set-same after (at + n) (getD numbers n 0) 0 l
+          ∙ ap (λ (i : ℕ). getD numbers i 0) (sym e)
       go j b (no q) = getD-set-other after (at + n) (at + j) (getD numbers n 0) 0 (λ e. q (omega arith)) ∙ h .stored j (omega arith)
 
       away : (k : ℕ) → (k < at) ⊎ (at + (n + 1) ≤ k) → ¬ (k ≡ at + n)
@@ -54,10 +56,17 @@ image-same before after i k e l o h =
 
 module _ {p : ℕ} {A B points before : List ℕ} where
   pub looks-start : Looks 0 p A B points before before (replicate most-points 0)
-  looks-start = record { count = length-replicate {A = ℕ} most-points 0; sized = λ i l. absurd (omega arith); same-length = refl; images = λ i l. absurd (omega arith); beyond = refl }
+  looks-start = record {
+    count = length-replicate {A = ℕ} most-points 0;
+    sized = λ i l. absurd (omega arith);
+    same-length = refl;
+    images = λ i l. absurd (omega arith);
+    beyond = refl;
+  }
 
   -- one more point
-  pub looks-next : {n : ℕ} {work after sizes : List ℕ} {seen : ImageRecord} {s : ℕ} → n < most-points → work-room ≤ length before → Looks n p A B points before work sizes
+  pub looks-next : {n : ℕ} {work after sizes : List ℕ} {seen : ImageRecord} {s : ℕ} → n < most-points → work-room ≤ length before
+      → Looks n p A B points before work sizes
       → seen ≡ look-at p A B points n → length (seen .coefficients) ≡ 8 → s ≡ size-of seen → Stored 8 (seen .coefficients) (8 * n) work after
       → Looks (n + 1) p A B points before after (set sizes n s)
   looks-next {n} {work} {after} {sizes} {seen} {s} small room h e eight es st = record {
@@ -65,14 +74,19 @@ module _ {p : ℕ} {A B points before : List ℕ} where
     sized = λ i l. go i l (ℕ-discrete i n);
     same-length = st .same-length ∙ h .same-length;
     images = λ i l. image i l (ℕ-discrete i n);
-    beyond = ext-getD 0 (drop work-room after) (drop work-room work) far (λ j l. getD-drop work-room after j 0 ∙ st .others (work-room + j) (inr (omega arith)) ∙ sym (getD-drop work-room work j 0)) ∙ h .beyond;
+    beyond = ext-getD 0 (drop work-room after) (drop work-room work) far each ∙ h .beyond;
   }
     where
+      each : (j : ℕ) → j < length (drop work-room after) → getD (drop work-room after) j 0 ≡ getD (drop work-room work) j 0
+      each j l = getD-drop work-room after j 0 ∙ st .others (work-room + j) (inr (omega arith)) ∙ sym (getD-drop work-room work j 0)
+
       far : length (drop work-room after) ≡ length (drop work-room work)
       far = length-drop work-room after ∙ ap (λ (m : ℕ). m - work-room) (st .same-length) ∙ sym (length-drop work-room work)
 
       go : (i : ℕ) → i < n + 1 → Dec (i ≡ n) → getD (set sizes n s) i 0 ≡ size-of (look-at p A B points i)
-      go i l (yes q) = ap (λ (k : ℕ). getD (set sizes n s) k 0) q ∙ getD-set-same sizes n s 0 (let c = h .count in omega arith) ∙ es ∙ ap size-of e ∙ ap (λ (k : ℕ). size-of (look-at p A B points k)) (sym q)
+      go i l (yes q) =
+          ap (λ (k : ℕ). getD (set sizes n s) k 0) q ∙ getD-set-same sizes n s 0 (let c = h .count in omega arith) ∙ es ∙ ap size-of e
+          ∙ ap (λ (k : ℕ). size-of (look-at p A B points k)) (sym q)
       go i l (no q) = getD-set-other sizes n i s 0 q ∙ h .sized i (omega arith)
 
       long : 8 * most-points ≤ length work

@@ -14,6 +14,7 @@ use Rattle.field.specs.ModuliLaws.{listed-positive}
 use Rattle.field.specs.Prime.{Prime}
 use Rattle.field.specs.Fp.{Fp, el}
 use Rattle.field.specs.Modulo.{Modulo}
+use Rattle.poly.specs.Laws.Places.{replicate-all}
 use Rattle.divisor.specs.declared.table.Row.{Row}
 use Rattle.divisor.specs.declared.table.Table.{Table}
 use Rattle.divisor.specs.declared.table.Kind.{Kind}
@@ -25,7 +26,6 @@ use Rattle.divisor.specs.Laws.TableColumns.{empty-columns, kind-as, full
 use Rattle.divisor.specs.Laws.TableStep.{table-step}
 use Rattle.divisor.specs.Laws.TableKept.{empty-ready, with-row-ready, with-row-columns}
 use Rattle.divisor.specs.Laws.TableSolution.{values-solve, values-below}
-use Rattle.divisor.specs.Laws.TableRows.{replicate-all}
 
 module _ (p : ℕ) (P : Prime p) where
   abbrev K : Field
@@ -42,7 +42,8 @@ module _ (p : ℕ) (P : Prime p) where
       T = table-of p n t
 
       go : (b f : Bool) → has-free T ≡ f
-          → Meets K n (rows-of p n es) (elim b [ true ↦ none | false ↦ elim f [ false ↦ one (solution K (el p 0) T) | true ↦ several (solution K (el p 0) T) (solution K (el p 1) T) ] ])
+          → Meets K n (rows-of p n es)
+          (elim b [ true ↦ none | false ↦ elim f [ false ↦ one (solution K (el p 0) T) | true ↦ several (solution K (el p 0) T) (solution K (el p 1) T) ] ])
           → Says p P n (rows-of p n es) (solved-as (kind-as b f) p t .kind) (solved-as (kind-as b f) p t .values)
       go true f e m = m
       go false true e m = (solution K (el p 0) T, solution K (el p 1) T, m)

@@ -7,10 +7,11 @@ use lib.Dec.{eqb}
 use lib.ListN.{length-set}
 use Rattle.field.specs.Moduli.{Listed}
 use Rattle.field.specs.ModuliLaws.{listed-positive}
+use Rattle.poly.specs.Laws.Places.{replicate-all, set-all}
 use Rattle.divisor.specs.declared.table.Row.{Row}
 use Rattle.divisor.specs.declared.table.Table.{Table}
 use Rattle.divisor.specs.Models.Table.{COLUMNS, no-row, row-at, cell, diagonal, zeros, empty-table, minus, scaled-row, kept, insert, with-row, Columns, RowReady, TableReady}
-use Rattle.divisor.specs.Laws.TableRows.{replicate-all, set-all, minus-ready, scaled-below}
+use Rattle.divisor.specs.Laws.TableRows.{minus-ready, scaled-below}
 
 -- every cell of the empty table is 0
 pub empty-cell : (columns i k : ℕ) → cell (row-at (empty-table columns) i) k ≡ 0

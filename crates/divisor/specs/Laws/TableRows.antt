@@ -1,26 +1,15 @@
 -- Rows that are altered from a column on, cell by cell: each altered place has its new number, and all numbers stay below p. Assumes nothing.
 use mathlib.Core.Path.{_≡_, refl, sym, ap, _∙_}
-use mathlib.Core.List.{List, [], _∷_}
+use mathlib.Core.List.{List}
 use Prim.Native.Nat.{ℕ, zero, suc, _+_, _-_, _<_, _≤_}
 use native.Mathlib.Decide.{ℕ-discrete}
 use native.Mathlib.Nat.{mod-lt}
 use native.Mathlib.Omega.{arith}
-use lib.ListN.{length, getD, set, replicate, length-set}
+use lib.ListN.{length, getD, set, length-set}
 use lib.Seq.{getD-set-same, getD-set-other}
+use Rattle.poly.specs.Laws.Places.{set-all}
 use Rattle.divisor.specs.declared.table.Row.{Row}
 use Rattle.divisor.specs.Models.Table.{cell, altered, minus, scaled-row, RowReady}
-
-pub set-all : {A : Type 0} (P : A → Type 0) (l : List A) (i k : ℕ) (a d : A) → P a → P (getD l k d) → P (getD (set l i a) k d)
-set-all P [] i k a d new old = old
-set-all P (x ∷ l) zero zero a d new old = new
-set-all P (x ∷ l) zero (suc k) a d new old = old
-set-all P (x ∷ l) (suc i) zero a d new old = old
-set-all P (x ∷ l) (suc i) (suc k) a d new old = set-all P l i k a d new old
-
-pub replicate-all : {A : Type 0} (P : A → Type 0) (n i : ℕ) (a d : A) → P a → P d → P (getD (replicate n a) i d)
-replicate-all P zero i a d pa pd = pd
-replicate-all P (suc n) zero a d pa pd = pa
-replicate-all P (suc n) (suc i) a d pa pd = replicate-all P n i a d pa pd
 
 module _ (g : ℕ → ℕ → ℕ) where
   altered-length : (i n : ℕ) (l : List ℕ) → length (altered g i n l) ≡ length l

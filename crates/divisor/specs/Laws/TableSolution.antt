@@ -19,11 +19,11 @@ use Rattle.field.specs.Fp.{el, add, neg}
 use Rattle.field.specs.FpLaws.{el-mod}
 use Rattle.field.specs.Link.{plus-times-el, opposite-el}
 use Rattle.field.specs.Modulo.{Modulo}
+use Rattle.poly.specs.Laws.Places.{replicate-all, set-all}
 use Rattle.divisor.specs.declared.table.Row.{Row}
 use Rattle.divisor.specs.declared.table.Table.{Table}
 use Rattle.divisor.specs.Models.Table.{COLUMNS, row-at, cell, diagonal, total, value, back, values, zeros, TableReady}
 use Rattle.divisor.specs.Laws.TableEntries.{entries-set}
-use Rattle.divisor.specs.Laws.TableRows.{replicate-all, set-all}
 use Rattle.divisor.specs.Models.TableMeaning.{entries, last-column, columns-of, table-of}
 use Rattle.divisor.specs.Laws.TableColumns.{column-pivot}
 
@@ -62,7 +62,8 @@ module _ (p : ℕ) (P : Prime p) where
         let left : n - (j + 1) ≡ k = omega arith in
         ap (λ m. el p (value p (row-at t j) v j m)) last
         ∙ el-mod p _
-        ∙ opposite-el p _ (prime-positive P) (le-of-lt (total-below p (prime-positive P) (n - (j + 1)) (j + 1) (row-at t j) v (cell (row-at t j) n) (ready .below j n)))
+        ∙ opposite-el p _ (prime-positive P)
+        (le-of-lt (total-below p (prime-positive P) (n - (j + 1)) (j + 1) (row-at t j) v (cell (row-at t j) n) (ready .below j n)))
         ∙ ap neg
         (ap₂ (λ m i. el p (total m i p (row-at t j) v (cell (row-at t j) n))) left (add-one j) ∙ total-is-value (row-at t j) v n k (suc j) h)
 

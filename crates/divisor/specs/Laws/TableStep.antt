@@ -124,7 +124,8 @@ module _ (p : ℕ) (P : Prime p) where
         at-kept : ¬ (diagonal t i ≡ 0) → Goal (insert (suc n) (suc i) p t (minus p e (row-at t i) i (t .columns)))
         at-kept y =
             let f = minus p e (row-at t i) i (t .columns) in
-            same-row p t (insert (suc n) (suc i) p t f) i n _ (insert-before (suc n) (suc i) p t f i (omega arith)) (later f (minus-ready p e (row-at t i) i (t .columns) ok))
+            same-row p t (insert (suc n) (suc i) p t f) i n _ (insert-before (suc n) (suc i) p t f i (omega arith))
+            (later f (minus-ready p e (row-at t i) i (t .columns) ok))
             ∙ ap (λ b. column b q (step K T (entries p (f .cells) (suc i) (suc n)))) (ne-eqb (diagonal t i) 0 y)
             ∙ ap (λ s. pivot q (step K T s))
             (minus-entries p P e i (t .columns) (ok .size) most (row-at t i) (ok .below i) (suc i) (suc n) (omega arith) (omega arith))

@@ -84,8 +84,10 @@ insert-blank : (p : ℕ) (t : Table) (e : Row) (n j : ℕ) → ((k : ℕ) → k 
 insert-blank p t e zero j z = (unfold insert in refl)
 insert-blank p t e (suc n) j z = insert-at-zero p t e j n (z j (omega arith)) ∙ insert-blank p t e n (suc j) (λ k l. z k (omega arith))
 
-pub blank-adds-nothing : (p : ℕ) (t : Table) (e : Row) → t .columns ≤ COLUMNS → (place : ℕ) → COLUMNS ≤ place → Searched (Entry e) COLUMNS place → with-row p t e ≡ t
-blank-adds-nothing p t e most place past searched = insert-blank p t e (t .columns) 0 (λ k l. elim (ℕ-discrete (cell e k) 0) [ yes q ↦ q | no q ↦ absurd (searched .before k (omega arith) q) ])
+pub blank-adds-nothing : (p : ℕ) (t : Table) (e : Row) → t .columns ≤ COLUMNS → (place : ℕ) → COLUMNS ≤ place → Searched (Entry e) COLUMNS place
+    → with-row p t e ≡ t
+blank-adds-nothing p t e most place past searched =
+    insert-blank p t e (t .columns) 0 (λ k l. elim (ℕ-discrete (cell e k) 0) [ yes q ↦ q | no q ↦ absurd (searched .before k (omega arith) q) ])
 
 module _ (t : Table) where
   pub kind-none : ¬ (diagonal t (t .columns - 1) ≡ 0) → kind t ≡ None

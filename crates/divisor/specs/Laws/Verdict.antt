@@ -9,18 +9,17 @@ use lib.ListN.{length, getD, set, take, drop}
 use lib.Seq.{length-take-le, take-length}
 use borrow.Author.Tests.{not-true, not-false}
 use Rattle.field.specs.Prime.{Prime}
-use Rattle.field.specs.Numbers.{NO_SOLUTION, SEVERAL_SOLUTIONS, DOES_NOT_DIVIDE}
+use Rattle.field.specs.Numbers.{DOES_NOT_DIVIDE}
 use Rattle.poly.specs.Room.{work-room, written, cleared}
 use Rattle.poly.specs.TrialDivision.{CanDivide, TrialDivision}
-use Rattle.poly.specs.Keys.{keys}
-use Rattle.poly.specs.Lists.{Falling}
+use Rattle.poly.specs.Laws.RightLists.{RightList}
 use Rattle.poly.specs.Laws.Room.{zeroed-length, zeroed-beyond, zeroed-same}
 use Rattle.divisor.specs.declared.monic.Divisor.{Divisor}
-use Rattle.divisor.specs.declared.table.Kind.the-variants.{None, One, Several}
+use Rattle.divisor.specs.declared.table.Kind.the-variants.{One}
 use Rattle.divisor.specs.declared.table.Solved.{Solved}
 use Rattle.divisor.specs.declared.verdict.Verdict.{Verdict}
 use Rattle.divisor.specs.Models.Monic.{monic-terms, Monic}
-use Rattle.divisor.specs.Models.Verdict.{Both, CanDivideBoth, BothDivided, VerdictReady, Settled, Refused, only, none, several, rejected, accepted}
+use Rattle.divisor.specs.Models.Verdict.{Both, CanDivideBoth, BothDivided, VerdictReady, Settles, Settled, Refused, only, rejected, accepted}
 
 -- a room that is cleared is not shorter, and clearing it again changes nothing
 cleared-long : (work : List ℕ) → work-room ≤ length work → work-room ≤ length (cleared work)
@@ -46,7 +45,8 @@ not-both b n y = true≢false (sym y ∙ not-true b n)
 
 module _ {p : ℕ} {A B G work after : List ℕ} {first : Bool} (divided : TrialDivision p A G work after first) where
   pub first-fails : not first ≡ true → BothDivided p A B G work after false
-  first-fails n = record { says = λ P. (λ e. absurd (true≢false (sym e)), λ both. absurd (not-both first n (divided .says P .1 (both .0)))); room = divided .room }
+  first-fails n =
+      record { says = λ P. (λ e. absurd (true≢false (sym e)), λ both. absurd (not-both first n (divided .says P .1 (both .0)))); room = divided .room }
 
   pub then-second : {end : List ℕ} {second : Bool} → not first ≡ false → TrialDivision p B G after end second → BothDivided p A B G work end second
   then-second n later = record {
@@ -61,8 +61,10 @@ copy-suc i (x ∷ new) [] l m = absurd (omega arith)
 copy-suc zero (x ∷ new) (y ∷ old) l m = refl
 copy-suc (suc i) (x ∷ new) (y ∷ old) l m = ap (x ∷_) (copy-suc i new old (omega arith) (omega arith))
 
-pub copy-more : (i : ℕ) (new old : List ℕ) → i < length new → i < length old → set (take i new ++ drop i old) i (getD new i 0) ≡ take (i + 1) new ++ drop (i + 1) old
-copy-more i new old l m = subst (λ (k : ℕ). set (take i new ++ drop i old) i (getD new i 0) ≡ take k new ++ drop k old) (sym (add-one i)) (copy-suc i new old l m)
+pub copy-more : (i : ℕ) (new old : List ℕ) → i < length new → i < length old
+    → set (take i new ++ drop i old) i (getD new i 0) ≡ take (i + 1) new ++ drop (i + 1) old
+copy-more i new old l m =
+    subst (λ (k : ℕ). set (take i new ++ drop i old) i (getD new i 0) ≡ take k new ++ drop k old) (sym (add-one i)) (copy-suc i new old l m)
 
 pub copy-all : (i : ℕ) (new old : List ℕ) → i ≡ length new → take i new ++ drop i old ≡ written new old
 copy-all i new old e = ap (λ (k : ℕ). take k new ++ drop k old) e ∙ ap (λ (l : List ℕ). l ++ drop (length new) old) (take-length new)
@@ -84,13 +86,14 @@ module _ {p : ℕ} {A B ks values output work : List ℕ} (ready : VerdictReady 
       sym (length-take-le (r .count) (r .terms) (omega arith)) ∙ ap length (made .terms)
 
   pub can-divide : CanDivideBoth p A B G work
-  can-divide = subst (λ (g : List ℕ). CanDivideBoth p A B g work) (sym same) (record { first = can A (ready .lists .first .some) (ready .lists .first .falls); second = can B (ready .lists .second .some) (ready .lists .second .falls) })
+  can-divide =
+      subst (λ (g : List ℕ). CanDivideBoth p A B g work) (sym same) (record { first = can A (ready .lists .first); second = can B (ready .lists .second) })
     where
-      can : (F : List ℕ) → 0 < length F → Falling p keys F → CanDivide p F terms work
-      can F some falls = record {
+      can : (F : List ℕ) → RightList p F → CanDivide p F terms work
+      can F right = record {
         is-listed = ready .lists .is-listed;
-        some-dividend = some;
-        dividend-falls = falls;
+        some-dividend = right .some;
+        dividend-falls = right .falls;
         some-divisor = ready .one refl .some;
         divisor-falls = ready .one refl .falls;
         room = ready .room;
@@ -122,13 +125,12 @@ module _ {p : ℕ} {A B ks values output work : List ℕ} (ready : VerdictReady 
       clears = divided .room;
     }
 
--- what the kind settles
-module _ {p : ℕ} {A B ks : List ℕ} {s : Solved} {output work work-after : List ℕ} {r : Verdict} where
-  pub settled-none : s .kind ≡ None → Refused NO_SOLUTION work work-after r → Settled p A B ks s output output work work-after r
-  settled-none e h = subst (Settled p A B ks s output output work work-after) (sym (h .is)) (record { terms = []; settles = none e; count = refl; writes = refl; clears = h .clears })
-
-  pub settled-several : s .kind ≡ Several → Refused SEVERAL_SOLUTIONS work work-after r → Settled p A B ks s output output work work-after r
-  settled-several e h = subst (Settled p A B ks s output output work work-after) (sym (h .is)) (record { terms = []; settles = several e; count = refl; writes = refl; clears = h .clears })
+-- a refusal is settled with its number
+pub settled-refused : {p : ℕ} {A B ks : List ℕ} {s : Solved} {output work work-after : List ℕ} {r : Verdict} {number : ℕ}
+    → Settles p A B ks s number [] → Refused number work work-after r → Settled p A B ks s output output work work-after r
+settled-refused {p} {A} {B} {ks} {s} {output} {work} {work-after} e h =
+    subst (Settled p A B ks s output output work work-after) (sym (h .is))
+    (record { terms = []; settles = e; count = refl; writes = refl; clears = h .clears })
 
 -- a solution whose kind is one is the values alone
 is-only : (s : Solved) → s .kind ≡ One → only (s .values) ≡ s
@@ -138,5 +140,6 @@ module _ {p : ℕ} {A B ks : List ℕ} (s : Solved) {output work : List ℕ} (e 
   pub only-ready : VerdictReady p A B ks s output work → VerdictReady p A B ks (only (s .values)) output work
   only-ready = subst (λ (v : Solved). VerdictReady p A B ks v output work) (sym (is-only s e))
 
-  pub settled-only : {output-after work-after : List ℕ} {r : Verdict} → Settled p A B ks (only (s .values)) output output-after work work-after r → Settled p A B ks s output output-after work work-after r
+  pub settled-only : {output-after work-after : List ℕ} {r : Verdict} → Settled p A B ks (only (s .values)) output output-after work work-after r
+      → Settled p A B ks s output output-after work work-after r
   settled-only {output-after} {work-after} {r} = subst (λ (v : Solved). Settled p A B ks v output output-after work work-after r) (is-only s e)

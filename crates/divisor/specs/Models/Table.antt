@@ -1,4 +1,4 @@
--- The equation table in plain numbers, as the code goes through it, and what its functions ask for. A model, which nobody has to believe: TableMeaning says what it means.
+-- The equation table in plain numbers, as the code goes through it, and what its functions ask for. TableMeaning says what it means.
 use mathlib.Core.Path.{_≡_}
 use mathlib.Core.Bool.{true, false}
 use mathlib.Core.List.{List, []}

@@ -77,7 +77,8 @@ returns-4 : tie.Need-returns-4
 returns-4 c =
     let s = start (c .before .before .before .before .before .before .before .before .before) in
     let r = c .before .before .before .points-fault in
-    past-keys (c .before .before .before .before) (tested-goes-on (of-numbers s) (of-last s) (r .result) (r .ensures) tt (c .before .if3 .left) (c .rooms-fault .ensures))
+    past-keys (c .before .before .before .before)
+    (tested-goes-on (of-numbers s) (of-last s) (r .result) (r .ensures) tt (c .before .if3 .left) (c .rooms-fault .ensures))
 
 pub candidate-fault-spec : {M : Type 1} → statement M
 candidate-fault-spec =

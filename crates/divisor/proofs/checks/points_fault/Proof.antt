@@ -34,7 +34,8 @@ at-requires-4 c κs = search needs
 returns-4 : tie.Need-returns-4
 returns-4 c =
     let else3 = c .before .before .before in
-    points-wrong _ _ (else3 .before .before .if1 .left) (else3 .before .if2 .left) (else3 .if3 .left) _ (c .before .before .first-large .ensures) (c .before .if4 .taken) (c .at4 .ensures)
+    points-wrong _ _ (else3 .before .before .if1 .left) (else3 .before .if2 .left) (else3 .if3 .left) _ (c .before .before .first-large .ensures)
+    (c .before .if4 .taken) (c .at4 .ensures)
 
 none-requires : tie.Need-none-requires
 none-requires c κs = search needs
@@ -42,7 +43,8 @@ none-requires c κs = search needs
 returns-5 : tie.Need-returns-5
 returns-5 c =
     let else3 = c .before .before .before in
-    points-right _ _ (else3 .before .before .if1 .left) (else3 .before .if2 .left) (else3 .if3 .left) _ (c .before .before .first-large .ensures) (c .before .if4 .left) (c .none .ensures)
+    points-right _ _ (else3 .before .before .if1 .left) (else3 .before .if2 .left) (else3 .if3 .left) _ (c .before .before .first-large .ensures)
+    (c .before .if4 .left) (c .none .ensures)
 
 pub points-fault-spec : {M : Type 1} → statement M
 points-fault-spec =

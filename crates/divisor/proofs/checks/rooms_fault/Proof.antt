@@ -16,7 +16,8 @@ at-requires-2 : tie.Need-at-requires-2
 at-requires-2 c κs = search needs
 
 returns-2 : tie.Need-returns-2
-returns-2 c = tested-past (placed-never (λ l. let m = c .before .before .if1 .left in omega arith)) (tested-line 0 (c .before .if2 .taken, refl) (c .at2 .ensures))
+returns-2 c =
+    tested-past (placed-never (λ l. let m = c .before .before .if1 .left in omega arith)) (tested-line 0 (c .before .if2 .taken, refl) (c .at2 .ensures))
 
 none-requires : tie.Need-none-requires
 none-requires c κs = search needs

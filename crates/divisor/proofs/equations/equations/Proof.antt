@@ -3,7 +3,7 @@
 use borrow.Author.Needs.{needs}
 use mathlib.Core.Path.{_≡_, sym, _∙_, ap, subst}
 use mathlib.Core.Logic.{⊎-elim}
-use Prim.Native.Nat.{ℕ, _+_, _-_, _/_, _≤_, _<_}
+use Prim.Native.Nat.{ℕ, suc, _+_, _-_, _/_, _≤_, _<_}
 use native.Mathlib.Omega.{arith}
 use lib.ListN.{length, take, drop}
 use Rattle.field.specs.Prime.{Prime}
@@ -46,16 +46,25 @@ mul-if1 c = search needs
 array-read-if1 : tie.Need-array-read-if1 Inv-loop μ-loop
 array-read-if1 c = search needs
 
+-- one more point is kept of those that are left
+one-kept : (c : tie.Then1 Inv-loop μ-loop)
+    → let a = c .before .before .before .before .before .before .before .args in let l = c .before .before .loop in let n = length (a .points .now) / 3 in
+    alike (a .least) (drop (l .i) (take n (a .t4))) ≡ suc (alike (a .least) (drop (l .i + 1) (take n (a .t4))))
+one-kept c =
+    let s = c .before .before .before .before .before .before .before in
+    let a = s .args in
+    let n = length (a .points .now) in
+    alike-same (a .t4) (n / 3) (c .before .before .loop .i) (a .least) (points-sized n (a .t4) (s .pre .few) (s .pre .count)) (c .before .loop-test .taken)
+    (c .if1 .taken)
+
 column-of-requires : tie.Need-column-of-requires Inv-loop μ-loop
 column-of-requires c κs =
     let s = c .before .before .before .before .before .before .before in
-    let a = s .args in
     let l = c .before .before .loop in
-    let left = alike-same (a .t4) (length (a .points .now) / 3) (l .i) (a .least) (points-sized (length (a .points .now)) (a .t4) (s .pre .few) (s .pre .count)) (c .before .loop-test .taken) (c .if1 .taken) in
     record {
       behind = omega (arith, s .pre .columns-are, s .pre .some);
       most = s .pre .most;
-      left = omega (arith, s .pre .columns-are, l .inv .1, left);
+      left = omega (arith, s .pre .columns-are, l .inv .1, one-kept c);
     }
 
 mul-at : tie.Need-mul-at Inv-loop μ-loop
@@ -100,7 +109,7 @@ point-equations-requires c κs =
     let a = s .args in
     let l = c .before .before .before .before .before .loop in
     let e = c .before .before .column-of .ensures in
-    let left = alike-same (a .t4) (length (a .points .now) / 3) (l .i) (a .least) (points-sized (length (a .points .now)) (a .t4) (s .pre .few) (s .pre .count)) (c .before .before .before .before .loop-test .taken) (c .before .before .before .if1 .taken) in
+    let left = one-kept (c .before .before .before) in
     let i : l .i < length (a .points .now) / 3 = c .before .before .before .before .loop-test .taken in
     let fits = next-fits (a .columns - length (a .skeleton .now) - 1) (l .kept) (omega (arith, s .pre .columns-are, l .inv .1, left)) in
     let columns = equations-columns (l .inv .2) in

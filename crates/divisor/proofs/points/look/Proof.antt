@@ -46,15 +46,19 @@ image-at-requires c κs =
     let a = s .args in
     let i = c .before .before .loop .i in
     subst (Fine (a .p) (a .first .now) (a .second .now)) (sym (part-is 3 i (a .points .now)))
-    (point-fine (a .p) (a .first .now) (a .second .now) (a .points .now) (a .work .now) (s .pre) i (c .before .loop-test .taken))
+    (point-fine (s .pre) i (c .before .loop-test .taken))
+
+-- what is seen at a point is its record
+seen-is : (c : tie.After-image-at Inv-loop μ-loop) → let a = c .before .before .before .before .before .before .before .before .args in
+    c .image-at .result ≡ look-at (a .p) (a .first .now) (a .second .now) (a .points .now) (c .before .before .before .loop .i)
+seen-is c =
+    let a = c .before .before .before .before .before .before .before .before .args in
+    c .image-at .ensures ∙ ap (image-of (a .p) (a .first .now) (a .second .now)) (part-is 3 (c .before .before .before .loop .i) (a .points .now))
 
 size-requires : tie.Need-size-requires Inv-loop μ-loop
 size-requires c κs =
-    let s = c .before .before .before .before .before .before .before .before in
-    let a = s .args in
-    let i = c .before .before .before .loop .i in
-    let e : c .image-at .result ≡ look-at (a .p) (a .first .now) (a .second .now) (a .points .now) i = c .image-at .ensures ∙ ap (image-of (a .p) (a .first .now) (a .second .now)) (part-is 3 i (a .points .now)) in
-    subst (λ (r : ImageRecord). r .degree < 8) (sym e) (look-small (a .p) (a .first .now) (a .second .now) (a .points .now) (a .work .now) (s .pre) i)
+    subst (λ (r : ImageRecord). r .degree < 8) (sym (seen-is c))
+    (look-small (c .before .before .before .before .before .before .before .before .pre) (c .before .before .before .loop .i))
 
 mul-sizes : tie.Need-mul-sizes Inv-loop μ-loop
 mul-sizes c = search needs
@@ -80,13 +84,11 @@ loop-less c = search needs
 loop-again : tie.Need-loop-again Inv-loop μ-loop
 loop-again c =
     let s = c .before .before .before .before .before .before .before .before .before .before .before .before .before .before in
-    let a = s .args in
     let l = c .before .before .before .before .before .before .before .before .before .loop in
-    let seen = c .before .before .before .before .before .before .image-at in
-    let e : seen .result ≡ look-at (a .p) (a .first .now) (a .second .now) (a .points .now) (l .i) = seen .ensures ∙ ap (image-of (a .p) (a .first .now) (a .second .now)) (part-is 3 (l .i) (a .points .now)) in (
+    let e = seen-is (c .before .before .before .before .before .before) in (
       omega arith,
-      looks-next (omega (arith, s .pre .few)) (s .pre .room) (l .inv .1)
-          e (ap (λ (r : ImageRecord). length (r .coefficients)) e ∙ look-eight (a .p) (a .first .now) (a .second .now) (a .points .now) (a .work .now) (s .pre) (l .i) .eight)
+      looks-next (omega (arith, s .pre .few)) (s .pre .room) (l .inv .1) e
+          (ap (λ (r : ImageRecord). length (r .coefficients)) e ∙ look-eight (s .pre) (l .i) .eight)
           (c .before .before .before .before .before .size .ensures) (c .before .before .store .ensures),
     )
 

@@ -8,7 +8,8 @@ use Rattle.divisor.proofs.table.solution.Statement.{statement}
 use Rattle.divisor.proofs.table.solution.Tie as tie
 
 -- the answer by the kind that was found
-told : (c : tie.After-kind-of) {k : Kind} → c .kind-of .result ≡ k → solved-as k (c .before .args .p) (c .before .args .t) ≡ solved (c .before .args .p) (c .before .args .t)
+told : (c : tie.After-kind-of) {k : Kind} → c .kind-of .result ≡ k
+    → solved-as k (c .before .args .p) (c .before .args .t) ≡ solved (c .before .args .p) (c .before .args .t)
 told c e = ap (λ k. solved-as k (c .before .args .p) (c .before .args .t)) (sym e ∙ c .kind-of .ensures)
 
 kind-of-requires : tie.Need-kind-of-requires

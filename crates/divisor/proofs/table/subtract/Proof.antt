@@ -10,7 +10,9 @@ use Rattle.divisor.proofs.table.subtract.Statement.{statement}
 use Rattle.divisor.proofs.table.subtract.Tie as tie
 
 abbrev Inv-loop : tie.InvT-loop
-Inv-loop row₀ j columns p pivot factor i₀ row i = (i ≤ columns) × (altered (λ k a. (a + factor * cell pivot k) % p) i (columns - i) row ≡ altered (λ k a. (a + factor * cell pivot k) % p) j (columns - j) row₀)
+Inv-loop row₀ j columns p pivot factor i₀ row i =
+    (i ≤ columns)
+    × (altered (λ k a. (a + factor * cell pivot k) % p) i (columns - i) row ≡ altered (λ k a. (a + factor * cell pivot k) % p) j (columns - j) row₀)
 
 abbrev μ-loop : tie.MeasureT-loop
 μ-loop row₀ j columns p pivot factor i₀ row i = columns - i

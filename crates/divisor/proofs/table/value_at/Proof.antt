@@ -11,7 +11,8 @@ use Rattle.divisor.proofs.table.value_at.Statement.{statement}
 use Rattle.divisor.proofs.table.value_at.Tie as tie
 
 abbrev Inv-loop : tie.InvT-loop
-Inv-loop j last p row values sum₀ k₀ sum k = (k ≤ last) × ((sum < p) × (total (last - k) k p row values sum ≡ total (last - (j + 1)) (j + 1) p row values (cell row last)))
+Inv-loop j last p row values sum₀ k₀ sum k =
+    (k ≤ last) × ((sum < p) × (total (last - k) k p row values sum ≡ total (last - (j + 1)) (j + 1) p row values (cell row last)))
 
 abbrev μ-loop : tie.MeasureT-loop
 μ-loop j last p row values sum₀ k₀ sum k = last - k

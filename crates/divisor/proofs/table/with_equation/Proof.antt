@@ -21,7 +21,8 @@ abbrev μ-loop : tie.MeasureT-loop
 μ-loop p columns t row₀ j₀ s row j = columns - j
 
 -- at an entry that is not 0 the row can be worked on
-column : (c : tie.Then1 Inv-loop μ-loop) → let at = c .before .before .before in Column (at .before .args .p) (at .loop .row) (at .loop .j) (at .before .args .t .columns)
+column : (c : tie.Then1 Inv-loop μ-loop)
+    → let at = c .before .before .before in Column (at .before .args .p) (at .loop .row) (at .loop .j) (at .before .args .t .columns)
 column c =
     let at = c .before .before .before in
     record {
@@ -109,7 +110,8 @@ loop-again c =
           (λ w. (
             λ k. subst (λ x. cell x k < a .p) (sym (w .1)) (at .loop .inv .1 .0 k),
             (
-              ap (λ x. insert left (j + 1) (a .p) (a .t) x) (w .1) ∙ sym (insert-skip (a .p) (a .t) (at .loop .row) j within (w .0 .left)) ∙ at .loop .inv .1 .1 .0,
+              ap (λ x. insert left (j + 1) (a .p) (a .t) x) (w .1) ∙ sym (insert-skip (a .p) (a .t) (at .loop .row) j within (w .0 .left))
+                  ∙ at .loop .inv .1 .1 .0,
               same,
             ),
           ))

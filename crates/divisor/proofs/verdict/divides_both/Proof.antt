@@ -14,13 +14,17 @@ returns : tie.Need-returns
 returns c = first-fails (c .before .before .before .divides .ensures) (c .if1 .taken)
 
 divides-requires-2 : tie.Need-divides-requires-2
-divides-requires-2 c κs = divide-again (c .before .before .before .before .divides .ensures .room) (c .before .before .before .before .before .before .before .before .before .before .pre .second)
+divides-requires-2 c κs =
+    divide-again (c .before .before .before .before .divides .ensures .room)
+    (c .before .before .before .before .before .before .before .before .before .before .pre .second)
 
 same-length-2 : tie.Need-same-length-2
 same-length-2 c = search needs
 
 returns-2 : tie.Need-returns-2
-returns-2 c = then-second (c .before .before .before .before .before .before .before .divides .ensures) (c .before .before .before .before .if1 .left) (c .before .before .divides2 .ensures)
+returns-2 c =
+    then-second (c .before .before .before .before .before .before .before .divides .ensures) (c .before .before .before .before .if1 .left)
+    (c .before .before .divides2 .ensures)
 
 pub divides-both-spec : {M : Type 1} → statement M
 divides-both-spec =

@@ -1,5 +1,6 @@
 -- `divisor::verdict::settle` meets its contract, by the kind of the solution. Assumes nothing.
-use Rattle.divisor.specs.Laws.Verdict.{settled-none, settled-several, only-ready, settled-only}
+use Rattle.divisor.specs.Models.Verdict.{none, several}
+use Rattle.divisor.specs.Laws.Verdict.{settled-refused, only-ready, settled-only}
 use borrow.Author.Needs.{needs}
 use Rattle.divisor.proofs.verdict.settle.Statement.{statement}
 use Rattle.divisor.proofs.verdict.settle.Tie as tie
@@ -29,14 +30,14 @@ same-length c = search needs
 
 returns : tie.Need-returns
 returns c =
-    settled-none (c .before .before .before .before .enum-told .given .1) (c .before .before .refused .ensures)
+    settled-refused (none (c .before .before .before .before .enum-told .given .1)) (c .before .before .refused .ensures)
 
 same-length-2 : tie.Need-same-length-2
 same-length-2 c = search needs
 
 returns-2 : tie.Need-returns-2
 returns-2 c =
-    settled-several (c .before .before .before .before .enum-told2 .given .1) (c .before .before .refused2 .ensures)
+    settled-refused (several (c .before .before .before .before .enum-told2 .given .1)) (c .before .before .refused2 .ensures)
 
 same-length-3 : tie.Need-same-length-3
 same-length-3 c = search needs
@@ -47,7 +48,8 @@ same-length-4 c = search needs
 returns-3 : tie.Need-returns-3
 returns-3 c =
     let a = c .before .before .before .before .before .before .before .before .before .before .before .before .before .before .before .args in
-    settled-only (a .solved) (c .before .before .before .before .before .before .before .enum-told3 .given .1) (c .before .before .before .before .divided .ensures)
+    settled-only (a .solved) (c .before .before .before .before .before .before .before .enum-told3 .given .1)
+    (c .before .before .before .before .divided .ensures)
 
 pub settle-spec : {M : Type 1} → statement M
 settle-spec =

@@ -43,7 +43,8 @@ loop-again c =
     let old = a .before .args .output .now in
     let l : a .loop .i < length terms = c .before .loop-test .taken in
     let h : a .loop .i < length old = omega (arith, a .before .pre, l) in
-    (omega arith, simp length-set (a .loop .inv .1), ap (λ (o : List ℕ). set o (a .loop .i) (getD terms (a .loop .i) 0)) (a .loop .inv .2) ∙ copy-more (a .loop .i) terms old l h)
+    let step = ap (λ (o : List ℕ). set o (a .loop .i) (getD terms (a .loop .i) 0)) (a .loop .inv .2) ∙ copy-more (a .loop .i) terms old l h in
+    (omega arith, simp length-set (a .loop .inv .1), step)
 
 same-length : tie.Need-same-length Inv-loop μ-loop
 same-length c = search needs
