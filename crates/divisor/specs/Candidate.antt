@@ -3,7 +3,7 @@ use mathlib.Core.Path.{_≡_}
 use mathlib.Core.Logic.{_⊎_}
 use mathlib.Core.List.{List, [], _∷_, _++_, map}
 use lib.ListN.{length, take}
-use Prim.Native.Nat.{ℕ, _*_, _%_, _<_}
+use Prim.Native.Nat.{ℕ, _*_, _%_}
 use Rattle.algebra.specs.Field.{Field}
 use Rattle.algebra.specs.Four.{Exponents}
 use Rattle.field.specs.Fp.{el}
@@ -11,14 +11,14 @@ use Rattle.field.specs.Prime.{Prime}
 use Rattle.field.specs.Moduli.{Listed}
 use Rattle.field.specs.ModuliLaws.{listed-prime}
 use Rattle.field.specs.Modulo.{Modulo}
-use Rattle.field.specs.Numbers.{SKELETON_COUNT, SKELETON_KEY, POINTS_COUNT, POINT_NUMBER, OUTPUT_SHORT, WORK_SHORT}
+use Rattle.field.specs.Numbers.{SKELETON_COUNT, SKELETON_KEY, POINTS_COUNT, POINT_NUMBER}
 use Rattle.field.specs.Refusal.{Line, line, whole, first, Refuses, Passes}
 use Rattle.field.specs.declared.Fault.{Fault}
 use Rattle.poly.specs.Keys.{exponents}
 use Rattle.poly.specs.Terms.{Polynomial, terms-of, numbers-of}
 use Rattle.poly.specs.Value.{Point}
 use Rattle.poly.specs.Lists.{Count, WrongKey, WrongNumber, of-lists}
-use Rattle.poly.specs.Room.{work-room, written, cleared}
+use Rattle.poly.specs.Room.{of-rooms, written, cleared}
 use Rattle.divisor.specs.declared.CandidateRecord.{CandidateRecord}
 use Rattle.divisor.specs.Rule.{Answer}
 
@@ -46,17 +46,20 @@ most-points = 32
 abbrev pub most-point-numbers : ℕ
 most-point-numbers = 3 * most-points
 
--- the refusals of the inputs, tested in this order
+-- the lines of the skeleton, and of the points
+abbrev pub of-skeleton : List ℕ → List Line
+of-skeleton ks = line SKELETON_COUNT (whole (Count most-keys ks)) ∷ line SKELETON_KEY (first (WrongKey ks)) ∷ []
+
+abbrev pub of-points : ℕ → List ℕ → List Line
+of-points p points =
+    line POINTS_COUNT (whole (Count most-point-numbers points ⊎ (¬ (length points % 3 ≡ 0)))) ∷ line POINT_NUMBER (first (WrongNumber p points)) ∷ []
+
+-- the refusals of the inputs, tested in this order; of the two rooms only the lengths matter
+abbrev pub of-call : ℕ → List ℕ → List ℕ → List ℕ → List ℕ → ℕ → ℕ → List Line
+of-call p A B ks points output work = of-lists p A B ++ (of-skeleton ks ++ (of-points p points ++ of-rooms output (length ks) work))
+
 abbrev pub table : Call → List Line
-table c =
-    of-lists (c .modulus) (c .first-list) (c .second-list)
-    ++ (line SKELETON_COUNT (whole (Count most-keys (c .skeleton)))
-    ∷ line SKELETON_KEY (first (WrongKey (c .skeleton)))
-    ∷ line POINTS_COUNT (whole (Count most-point-numbers (c .points) ⊎ (¬ (length (c .points) % 3 ≡ 0))))
-    ∷ line POINT_NUMBER (first (WrongNumber (c .modulus) (c .points)))
-    ∷ line OUTPUT_SHORT (whole (length (c .output) < length (c .skeleton)))
-    ∷ line WORK_SHORT (whole (length (c .work) < work-room))
-    ∷ [])
+table c = of-call (c .modulus) (c .first-list) (c .second-list) (c .skeleton) (c .points) (length (c .output)) (length (c .work))
 
 -- what the point numbers mean modulo p
 module _ (p : ℕ) (P : Prime p) where

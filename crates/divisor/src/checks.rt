@@ -3,12 +3,11 @@ ghost use lib.ListN.{length};
 ghost use Rattle.field.specs.Refusal.{Tested};
 ghost use Rattle.poly.specs.Lists.{WrongKey};
 ghost use Rattle.poly.specs.Models.Search.{Searched};
-ghost use Rattle.divisor.specs.Models.Checks.{of-skeleton, of-points, of-rooms, of-call};
+ghost use Rattle.divisor.specs.Candidate.{of-skeleton, of-points, of-call};
 use field::Fault;
 use field::Number;
 use poly::COORDINATES;
 use poly::Term;
-use poly::division::WORK_ROOM;
 use poly::key::Key;
 
 // The most keys of a skeleton, the most points, and the most point numbers.
@@ -34,6 +33,7 @@ fn first_wrong_key(skeleton: &[Number]) -> usize
     i
 }
 
+// The refusals 6 and 7.
 fn skeleton_fault(skeleton: &[Number]) -> Fault
     ensures { λ r. ⌜ Tested (of-skeleton (now (skeleton .entry))) r ⌝ }
 {
@@ -50,6 +50,7 @@ fn skeleton_fault(skeleton: &[Number]) -> Fault
     Fault::none()
 }
 
+// The refusals 8 and 9.
 fn points_fault(p: Number, points: &[Number]) -> Fault
     ensures { λ r. ⌜ Tested (of-points p (now (points .entry))) r ⌝ }
 {
@@ -69,19 +70,7 @@ fn points_fault(p: Number, points: &[Number]) -> Fault
     Fault::none()
 }
 
-// The room that is lent: `output` terms, where the skeleton has `keys`, and `work` numbers.
-fn rooms_fault(output: usize, keys: usize, work: usize) -> Fault
-    ensures { λ r. ⌜ Tested (of-rooms output keys work) r ⌝ }
-{
-    if output < keys {
-        return Fault::at(Fault::OUTPUT_SHORT, 0);
-    }
-    if work < WORK_ROOM {
-        return Fault::at(Fault::WORK_SHORT, 0);
-    }
-    Fault::none()
-}
-
+// All of them; 10 and 11 by the lengths of the rooms that are lent.
 pub(crate) fn candidate_fault(
     p: Number,
     first: &[Term],
@@ -105,5 +94,5 @@ pub(crate) fn candidate_fault(
     if numbers.number != 0 {
         return numbers;
     }
-    rooms_fault(output, skeleton.len(), work)
+    poly::division::rooms_fault(output, skeleton.len(), work)
 }

@@ -1,7 +1,9 @@
 // The divisor of a solution: zero coefficients dropped, the others divided by the leading one, as terms.
 ghost use mathlib.Core.Path.{_≡_};
 ghost use lib.ListN.{take};
-ghost use Rattle.divisor.specs.Models.Monic.{leading as leading-of, Counted, Solvable, Monic};
+ghost use Rattle.divisor.specs.Models.Monic.{leading as leading-of, Solvable, Monic};
+ghost use Rattle.divisor.specs.Models.Parts.{Within};
+ghost use Rattle.divisor.specs.Models.Table.{COLUMNS as columns-most};
 use crate::checks::KEYS;
 use crate::table::Cells;
 use field::Element;
@@ -19,7 +21,7 @@ pub(crate) struct Divisor {
 
 // The first of n coefficients that is not 0, or 0.
 fn leading(values: Cells, n: usize) -> Number
-    requires { ⌜ Counted n values ⌝ }
+    requires { ⌜ Within columns-most n values ⌝ }
     ensures { λ r. ⌜ r ≡ leading-of (take n values) ⌝ }
 {
     let mut i: usize = 0;

@@ -1,11 +1,13 @@
 // Sorting the points by the sizes of their images: 0 for a bad point, else one more than the image's degree.
 ghost use mathlib.Core.Path.{_≡_};
 ghost use lib.ListN.{take};
-ghost use Rattle.divisor.specs.Models.Sorting.{Within, lesser as lesser-of, least, alike as alike-of};
+ghost use Rattle.divisor.specs.Candidate.{most-points};
+ghost use Rattle.divisor.specs.Models.Parts.{Within};
+ghost use Rattle.divisor.specs.Models.Sorting.{lesser as lesser-of, least, alike as alike-of};
 use crate::checks::POINTS;
 use field::Number;
 
-// A size for each of at most 32 points.
+// A size for each point that can be lent.
 pub(crate) type Sizes = [Number; POINTS];
 
 // The less of two sizes, of which 0 is none.
@@ -23,7 +25,7 @@ fn lesser(a: Number, b: Number) -> Number
 
 // The least size but 0 of the first n, or 0.
 pub(crate) fn least_size(sizes: Sizes, n: usize) -> Number
-    requires { ⌜ Within n sizes ⌝ }
+    requires { ⌜ Within most-points n sizes ⌝ }
     ensures { λ r. ⌜ r ≡ least (take n sizes) ⌝ }
 {
     let mut m: Number = 0;
@@ -37,7 +39,7 @@ pub(crate) fn least_size(sizes: Sizes, n: usize) -> Number
 
 // How many of the first n sizes are m.
 pub(crate) fn alike(sizes: Sizes, n: usize, m: Number) -> usize
-    requires { ⌜ Within n sizes ⌝ }
+    requires { ⌜ Within most-points n sizes ⌝ }
     ensures { λ r. ⌜ r ≡ alike-of m (take n sizes) ⌝ }
 {
     let mut count: usize = 0;

@@ -1,4 +1,4 @@
-// The equation table: at most 63 unknowns and a last one that is fixed at 1, so 64 columns. A row that is kept stands at the index of its pivot column,
+// The equation table: a column for each unknown, and a last one for the multiplier that is fixed at 1. A row that is kept stands at the index of its pivot column,
 // where its cell is 1; where no row is kept the cell on the diagonal is 0. A row kept in the last column says 1 = 0: there is no solution.
 ghost use mathlib.Core.Path.{_≡_};
 ghost use Rattle.poly.specs.Models.Search.{Searched};
@@ -23,6 +23,7 @@ pub(crate) struct Table {
     pub columns: usize,
 }
 
+// How many solutions the equations have.
 pub(crate) enum Kind {
     None,
     One,
@@ -36,6 +37,7 @@ pub(crate) struct Solved {
 }
 
 impl Table {
+    // No row is kept.
     pub(crate) fn empty(columns: usize) -> Table
         ensures { λ r. ⌜ r ≡ empty-table columns ⌝ }
     {
@@ -139,6 +141,7 @@ pub(crate) fn with_added(t: Table, e: Row, p: Number) -> Table
     s
 }
 
+// None where a row is kept in the last column; several where a column of an unknown has none.
 fn kind_of(t: Table) -> Kind
     requires { ⌜ Columns (t .columns) ⌝ }
     ensures { λ r. ⌜ r ≡ kind t ⌝ }
@@ -189,6 +192,7 @@ fn values_of(t: Table, p: Number) -> Cells
     values
 }
 
+// How many solutions the equations have, and the values of the only one.
 pub(crate) fn solution(t: Table, p: Number) -> Solved
     requires { ⌜ TableReady p t ⌝ }
     ensures { λ r. ⌜ r ≡ solved p t ⌝ }

@@ -86,6 +86,7 @@ fn divided(
     }
 }
 
+// The number, and the terms written, that the solution of the equations brings about.
 pub(crate) fn settle(
     p: Number,
     first: &[Term],

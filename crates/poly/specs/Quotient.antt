@@ -1,22 +1,22 @@
 -- The quotient service: what is lent, the refusals in table order, and what is answered and left behind in every case.
 use mathlib.Core.Path.{_≡_}
-use mathlib.Core.List.{List, [], _∷_, _++_}
+use mathlib.Core.List.{List, _++_}
 use lib.ListN.{length}
-use Prim.Native.Nat.{ℕ, _<_}
+use Prim.Native.Nat.{ℕ}
 use Rattle.algebra.specs.Series.{S4}
 use Rattle.field.specs.Prime.{Prime}
 use Rattle.field.specs.Moduli.{Listed}
 use Rattle.field.specs.ModuliLaws.{listed-prime}
 use Rattle.field.specs.Modulo.{Modulo}
-use Rattle.field.specs.Numbers.{OUTPUT_SHORT, WORK_SHORT, DOES_NOT_DIVIDE}
-use Rattle.field.specs.Refusal.{Line, line, whole, fault, none, Refuses, Passes}
+use Rattle.field.specs.Numbers.{DOES_NOT_DIVIDE}
+use Rattle.field.specs.Refusal.{Line, fault, none, Refuses, Passes}
 use Rattle.field.specs.declared.Fault.{Fault}
 use Rattle.poly.specs.declared.QuotientRecord.{QuotientRecord}
 use Rattle.poly.specs.Keys.{keys}
 use Rattle.poly.specs.Terms.{poly}
 use Rattle.poly.specs.Image.{Divides}
 use Rattle.poly.specs.Lists.{WrongModulo, of-lists}
-use Rattle.poly.specs.Room.{work-room, written, cleared}
+use Rattle.poly.specs.Room.{of-rooms, written, cleared}
 
 -- what the service is lent
 pub record QuotientCall : Type 0 where
@@ -33,10 +33,7 @@ quotient-call p A B output work = record { modulus = p; first-list = A; second-l
 -- the refusals of the inputs, tested in this order; a quotient has at most as many terms as there are keys
 abbrev pub quotient-table : QuotientCall → List Line
 quotient-table c =
-    of-lists (c .modulus) (c .first-list) (c .second-list)
-    ++ (line OUTPUT_SHORT (whole (length (c .output) < keys))
-    ∷ line WORK_SHORT (whole (length (c .work) < work-room))
-    ∷ [])
+    of-lists (c .modulus) (c .first-list) (c .second-list) ++ of-rooms (length (c .output)) keys (length (c .work))
 
 -- the list qs is A over B, exactly: none of its terms is wrong, and B times it is A, as polynomials
 pub record IsQuotient (p : ℕ) (P : Prime p) (A B qs : List ℕ) : Type 0 where

@@ -1,10 +1,17 @@
--- What is lent: an output that is written first and left beyond, and a work room of which the first 8,192 numbers are cleared.
-use mathlib.Core.List.{List, _++_}
-use Prim.Native.Nat.{ℕ}
+-- What is lent: an output that is written first and left beyond, and a work room of which the first 8,192 numbers are cleared; the lines 10 and 11 of
+-- the table.
+use mathlib.Core.List.{List, [], _∷_, _++_}
+use Prim.Native.Nat.{ℕ, _<_}
 use lib.ListN.{length, drop, replicate}
+use Rattle.field.specs.Numbers.{OUTPUT_SHORT, WORK_SHORT}
+use Rattle.field.specs.Refusal.{Line, line, whole}
 
 abbrev pub work-room : ℕ
 work-room = 8192
+
+-- the lines of the two rooms, by their lengths and what the output needs
+abbrev pub of-rooms : ℕ → ℕ → ℕ → List Line
+of-rooms output needed work = line OUTPUT_SHORT (whole (output < needed)) ∷ line WORK_SHORT (whole (work < work-room)) ∷ []
 
 -- numbers written first in a list, which leaves the rest
 abbrev pub written : List ℕ → List ℕ → List ℕ

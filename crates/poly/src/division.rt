@@ -2,8 +2,9 @@
 ghost use mathlib.Core.Path.{_≡_};
 ghost use Prim.Native.Nat.{min, max};
 ghost use lib.ListN.{length};
+ghost use Rattle.field.specs.Refusal.{Tested};
 ghost use Rattle.poly.specs.Keys.{keys};
-ghost use Rattle.poly.specs.Room.{zeroed};
+ghost use Rattle.poly.specs.Room.{of-rooms, zeroed};
 ghost use Rattle.poly.specs.TrialDivision.{CanDivide, TrialDivision};
 ghost use Rattle.poly.specs.Models.Spread.{spread as spread-over};
 ghost use Rattle.poly.specs.Models.Division.{KeysBelow, most-key, at-most, fits-in, less-product};
@@ -11,6 +12,7 @@ ghost use Rattle.poly.specs.Models.WorkRoom.{CanSubtract, CanStep, Stepp
 use crate::Term;
 use crate::key::Key;
 use field::Element;
+use field::Fault;
 use field::Number;
 
 // A number for each key.
@@ -18,6 +20,19 @@ pub const KEYS: usize = Key::LIMIT as usize;
 
 // The numbers of the work room that a division uses.
 pub const WORK_ROOM: usize = 2 * KEYS;
+
+// The refusals 10 and 11: of the rooms that are lent only the lengths matter, and how many terms the output needs.
+pub fn rooms_fault(output: usize, needed: usize, work: usize) -> Fault
+    ensures { λ r. ⌜ Tested (of-rooms output needed work) r ⌝ }
+{
+    if output < needed {
+        return Fault::at(Fault::OUTPUT_SHORT, 0);
+    }
+    if work < WORK_ROOM {
+        return Fault::at(Fault::WORK_SHORT, 0);
+    }
+    Fault::none()
+}
 
 fn larger(a: u16, b: u16) -> u16
     ensures { λ r. ⌜ r ≡ max a b ⌝ }

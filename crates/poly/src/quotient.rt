@@ -1,9 +1,11 @@
 // The quotient service: one list over another, exactly. The quotient's terms are written first in the lent output.
 ghost use mathlib.Core.List.{_++_};
 ghost use Rattle.field.specs.Refusal.{Passes, Tested};
+ghost use Rattle.poly.specs.Keys.{keys};
 ghost use Rattle.poly.specs.Lists.{of-lists};
+ghost use Rattle.poly.specs.Room.{of-rooms};
 ghost use Rattle.poly.specs.Quotient.{quotient-call, quotient-result, quotient-table, Quotient};
-ghost use Rattle.poly.specs.Models.WorkRoom.{CanGather, Gathered, of-rooms};
+ghost use Rattle.poly.specs.Models.WorkRoom.{CanGather, Gathered};
 use crate::QuotientRecord;
 use crate::Term;
 use crate::division::KEYS;
@@ -31,19 +33,13 @@ fn gather(cells: &[Number], out: &mut [Term]) -> usize
 
 // The refusals of the inputs, 1 to 5, 10 and 11; of the two rooms only the lengths matter.
 fn quotient_fault(p: Number, first: &[Term], second: &[Term], output: usize, work: usize) -> Fault
-    ensures { λ r. ⌜ Tested (of-lists p (now (first .entry)) (now (second .entry)) ++ of-rooms output work) r ⌝ }
+    ensures { λ r. ⌜ Tested (of-lists p (now (first .entry)) (now (second .entry)) ++ of-rooms output keys work) r ⌝ }
 {
     let fault = crate::list::lists_fault(p, first, second);
     if fault.number != 0 {
         return fault;
     }
-    if output < KEYS {
-        return Fault::at(Fault::OUTPUT_SHORT, 0);
-    }
-    if work < WORK_ROOM {
-        return Fault::at(Fault::WORK_SHORT, 0);
-    }
-    Fault::none()
+    crate::division::rooms_fault(output, KEYS, work)
 }
 
 // The quotient of inputs that pass, or 15. The work room is left cleared.

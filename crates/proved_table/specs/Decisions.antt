@@ -17,8 +17,7 @@ use Rattle.poly.specs.Lists.{coefficient-zero, WrongModulo, wrong-term, coeffic
 use Rattle.poly.specs.ImageCall.{ImageCall, of-point, image-table}
 use Rattle.poly.specs.Laws.PointCheck.{numbers-end}
 use Rattle.divisor.specs.Laws.Checks.{keys-beyond}
-use Rattle.divisor.specs.Candidate.{most-keys, most-point-numbers}
-use Rattle.divisor.specs.Models.Checks.{of-skeleton, of-points}
+use Rattle.divisor.specs.Candidate.{most-keys, most-point-numbers, of-skeleton, of-points}
 
 -- the decision of a statement that says the same as another
 abbrev pub decided-as : {X Y : Type 0} → (X → Y) → (Y → X) → Dec X → Dec Y

@@ -17,12 +17,11 @@ use Rattle.field.specs.RefusalDecision.{decided-tested, decided-passes}
 use Rattle.poly.specs.declared.ImageRecord.{ImageRecord}
 use Rattle.poly.specs.Terms.{Polynomial, terms-of}
 use Rattle.poly.specs.ImageCall.{image-table}
-use Rattle.poly.specs.Room.{work-room, written, cleared}
+use Rattle.poly.specs.Room.{of-rooms, work-room, written, cleared}
 use Rattle.poly.specs.Laws.ImageCall.{image-answered}
 use Rattle.divisor.specs.declared.CandidateRecord.{CandidateRecord}
 use Rattle.divisor.specs.Rule.{report}
 use Rattle.divisor.specs.Candidate.{Call, table, Candidate}
-use Rattle.divisor.specs.Models.Checks.{of-rooms}
 use Rattle.proved_table.specs.Row.{Row, call, result, Holds, ImageRow, Shows, Product, Multiplies, Each}
 use Rattle.proved_table.specs.TermDivisionLaws.{nothing-left-means}
 use Rattle.proved_table.specs.Decisions.{image-checks}

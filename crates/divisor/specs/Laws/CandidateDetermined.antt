@@ -7,12 +7,11 @@ use Rattle.field.specs.ModuliLaws.{listed-unique}
 use Rattle.field.specs.RefusalLaws.{OnePlaceEach, whole-one-place, first-one-place, one-place-append, refuses-determined, not-passes-and-refuses}
 use Rattle.poly.specs.Terms.{Polynomial, numbers-of}
 use Rattle.poly.specs.Lists.{of-lists}
-use Rattle.poly.specs.Room.{written, cleared}
+use Rattle.poly.specs.Room.{of-rooms, written, cleared}
 use Rattle.poly.specs.Laws.ListCheck.{lists-one-place}
 use Rattle.divisor.specs.declared.CandidateRecord.{CandidateRecord}
 use Rattle.divisor.specs.Rule.{Answer}
-use Rattle.divisor.specs.Candidate.{Call, table, prime, Numbers, A, B, monomials, lent-points, refusal, Result, Candidate, refused, answered}
-use Rattle.divisor.specs.Models.Checks.{of-skeleton, of-points, of-rooms}
+use Rattle.divisor.specs.Candidate.{Call, table, prime, Numbers, A, B, monomials, lent-points, refusal, Result, Candidate, refused, answered, of-skeleton, of-points}
 use Rattle.divisor.specs.Laws.Determined.{answer-determined}
 
 table-one-place : (c : Call) → OnePlaceEach (table c)

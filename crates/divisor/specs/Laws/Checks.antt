@@ -14,8 +14,7 @@ use Rattle.poly.specs.Lists.{Count, WrongKey, above, not-below, WrongNumber}
 use Rattle.poly.specs.Models.Search.{Searching, Searched}
 use Rattle.poly.specs.Laws.Search.{search-begins, search-goes-on, search-stops, search-ends, searched-first, searched-none}
 use Rattle.poly.specs.Laws.PointCheck.{numbers-end}
-use Rattle.divisor.specs.Candidate.{most-keys, most-point-numbers}
-use Rattle.divisor.specs.Models.Checks.{of-skeleton, of-points}
+use Rattle.divisor.specs.Candidate.{most-keys, most-point-numbers, of-skeleton, of-points}
 
 -- the key before place i: above every key at the start
 pub data Before (ks : List ℕ) : ℕ → ℕ → Type 0 where

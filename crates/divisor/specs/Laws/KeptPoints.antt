@@ -15,7 +15,8 @@ use Rattle.poly.specs.Laws.Room.{zeroed-same}
 use Rattle.divisor.specs.Rule.{Kept}
 use Rattle.divisor.specs.Candidate.{most-points, Call, table, prime, Numbers, A, B, lent-points}
 use Rattle.divisor.specs.Models.Table.{Columns}
-use Rattle.divisor.specs.Models.Sorting.{Within, sizes-of, least, alike, kept-of}
+use Rattle.divisor.specs.Models.Parts.{Within}
+use Rattle.divisor.specs.Models.Sorting.{sizes-of, least, alike, kept-of}
 use Rattle.divisor.specs.Models.Looks.{Looks, kept-before, EquationsReady}
 use Rattle.divisor.specs.Laws.Passed.{point-count, looks-of, right-lists, keys-most, keys-small, right-points, few-points, work-fits, look-ready, looked}
 use Rattle.divisor.specs.Laws.Sorting.{alike-most, alike-two, Least, AtLeast, least-is, kept-count}
@@ -46,7 +47,7 @@ pub record KeptPoints (c : Call) (listed : Listed (c .modulus)) (after sizes : L
 
 module _ (c : Call) (pass : Passes (table c)) (after sizes : List ℕ)
     (look : Looks (point-count c) (c .modulus) (c .first-list) (c .second-list) (c .points) (c .work) after sizes) where
-  pub within : Within (point-count c) sizes
+  pub within : Within most-points (point-count c) sizes
   within = record { within = let e = look .count in let f = few-points c pass in omega arith; few = few-points c pass }
 
   pub room-after : work-room ≤ length after

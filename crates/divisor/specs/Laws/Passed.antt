@@ -12,12 +12,11 @@ use Rattle.field.specs.RefusalLaws.{never-placed}
 use Rattle.poly.specs.declared.ImageRecord.{ImageRecord}
 use Rattle.poly.specs.Keys.{keys}
 use Rattle.poly.specs.Lists.{Count, WrongKey, above, WrongNumber, of-lists}
-use Rattle.poly.specs.Room.{work-room}
+use Rattle.poly.specs.Room.{of-rooms, work-room}
 use Rattle.poly.specs.Laws.Lists.{none-wrong, FallFrom, keys-fall}
 use Rattle.poly.specs.Laws.PointCheck.{numbers-below}
 use Rattle.poly.specs.Laws.RightLists.{RightLists, lists-are-right}
-use Rattle.divisor.specs.Candidate.{most-keys, most-points, most-point-numbers, Call, table, prime, A, B, lent-points}
-use Rattle.divisor.specs.Models.Checks.{of-skeleton, of-points, of-rooms}
+use Rattle.divisor.specs.Candidate.{most-keys, most-points, most-point-numbers, Call, table, prime, A, B, lent-points, of-skeleton, of-points}
 use Rattle.divisor.specs.Models.Looks.{LookReady}
 use Rattle.divisor.specs.Laws.Sorting.{Looked}
 use Rattle.divisor.specs.Laws.Seen.{looks-from, seen}

@@ -10,7 +10,6 @@ use Rattle.field.specs.Fp.{el, inv}
 use Rattle.poly.specs.Terms.{keyed}
 use Rattle.divisor.specs.declared.monic.Divisor.{Divisor}
 use Rattle.divisor.specs.Candidate.{most-keys}
-use Rattle.divisor.specs.Models.Table.{COLUMNS}
 
 -- the first coefficient but 0, or 0
 unfoldable pub leading : List ℕ → ℕ
@@ -27,11 +26,6 @@ scaled-terms p f (k ∷ ks) (c ∷ cs) =
 -- all divided by the leading coefficient
 abbrev pub monic-terms : ℕ → List ℕ → List ℕ → List ℕ
 monic-terms p ks cs = scaled-terms p (inv (el p (leading cs)) .val) ks cs
-
--- the first n of the values
-pub record Counted (n : ℕ) (values : List ℕ) : Type 0 where
-  pub within : n ≤ length values
-  pub most : n ≤ COLUMNS
 
 -- what making the divisor asks for: coefficients of the skeleton, below p, not all 0
 pub record Solvable (p : ℕ) (ks values : List ℕ) : Type 0 where

@@ -1,21 +1,14 @@
 -- Sorting the points by the sizes of their images: 0 for a bad point, else one more than the image's degree.
 use mathlib.Core.Bool.{true, false}
 use mathlib.Core.List.{List, [], _∷_, map}
-use Prim.Native.Nat.{ℕ, suc, _≤_}
+use Prim.Native.Nat.{ℕ, suc}
 use lib.Dec.{eqb, ltb}
-use lib.ListN.{length}
 use Rattle.field.specs.Prime.{Prime}
 use Rattle.field.specs.Modulo.{Modulo}
 use Rattle.poly.specs.declared.ImageRecord.{ImageRecord}
 use Rattle.poly.specs.Value.{Point}
 use Rattle.poly.specs.Coefficients.{series}
 use Rattle.divisor.specs.Rule.{Kept}
-use Rattle.divisor.specs.Candidate.{most-points}
-
--- the first n of the sizes
-pub record Within (n : ℕ) (sizes : List ℕ) : Type 0 where
-  pub within : n ≤ length sizes
-  pub few : n ≤ most-points
 
 unfoldable pub size-of : ImageRecord → ℕ
 size-of r = elim (eqb (r .fault .number) 0) [ true ↦ suc (r .degree) | false ↦ 0 ]

@@ -9,14 +9,14 @@ use Rattle.field.specs.Prime.{Prime}
 use Rattle.field.specs.Modulo.{Modulo}
 use Rattle.field.specs.Numbers.{NO_GOOD_POINT, NO_SOLUTION, SEVERAL_SOLUTIONS, DOES_NOT_DIVIDE}
 use Rattle.poly.specs.Keys.{keys}
-use Rattle.poly.specs.Terms.{poly}
+use Rattle.poly.specs.Terms.{terms-of}
 use Rattle.poly.specs.Image.{Divides}
 use Rattle.poly.specs.Room.{work-room, written, cleared}
 use Rattle.poly.specs.TrialDivision.{CanDivide}
 use Rattle.poly.specs.Lists.{Falling}
 use Rattle.poly.specs.Laws.RightLists.{RightLists}
 use Rattle.divisor.specs.declared.CandidateRecord.{CandidateRecord}
-use Rattle.divisor.specs.Rule.{report}
+use Rattle.divisor.specs.Rule.{report, DividesBoth}
 use Rattle.divisor.specs.Candidate.{most-keys}
 use Rattle.divisor.specs.declared.table.Kind.the-variants.{None, One, Several}
 use Rattle.divisor.specs.declared.table.Solved.{Solved}
@@ -25,7 +25,7 @@ use Rattle.divisor.specs.Models.Monic.{leading, monic-terms}
 
 -- the list G divides the lists A and B, as polynomials
 abbrev pub Both : (p : ℕ) → Prime p → List ℕ → List ℕ → List ℕ → Type 0
-Both p P A B G = Divides (Modulo p P) (poly p P G) (poly p P A) × Divides (Modulo p P) (poly p P G) (poly p P B)
+Both p P A B G = DividesBoth (Modulo p P) (terms-of p P A) (terms-of p P B) (terms-of p P G)
 
 pub record CanDivideBoth (p : ℕ) (A B G work : List ℕ) : Type 0 where
   pub first : CanDivide p A G work

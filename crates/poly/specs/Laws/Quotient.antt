@@ -19,12 +19,11 @@ use Rattle.poly.specs.Keys.{exponents, keys}
 use Rattle.poly.specs.Terms.{key-of, poly}
 use Rattle.poly.specs.Image.{Divides}
 use Rattle.poly.specs.Lists.{of-lists, Falling}
-use Rattle.poly.specs.Room.{written, cleared}
+use Rattle.poly.specs.Room.{of-rooms, written, cleared}
 use Rattle.poly.specs.Quotient.{QuotientCall, quotient-table, IsQuotient, QuotientResult, Quotient, refused, no-quotient, quotient}
 use Rattle.poly.specs.TrialDivision.{CanDivide}
 use Rattle.poly.specs.Laws.ListCheck.{lists-one-place}
 use Rattle.poly.specs.Laws.RightLists.{lists-are-right}
-use Rattle.poly.specs.Models.WorkRoom.{of-rooms}
 use Rattle.poly.specs.Laws.Terms.{poly-finite, poly-lead, right-lists-equal}
 
 module _ (p : ℕ) (P : Prime p) where
@@ -46,7 +45,7 @@ module _ (c : QuotientCall) where
   lists = of-lists (c .modulus) (c .first-list) (c .second-list)
 
   abbrev rooms : List Line
-  rooms = of-rooms (length (c .output)) (length (c .work))
+  rooms = of-rooms (length (c .output)) keys (length (c .work))
 
   quotient-one-place : OnePlaceEach (quotient-table c)
   quotient-one-place =

@@ -2,11 +2,10 @@
 -- what the functions of the division and the quotient ask for and promise.
 use mathlib.Core.Path.{_≡_}
 use mathlib.Core.Bool.{Bool}
-use mathlib.Core.List.{List, [], _∷_}
+use mathlib.Core.List.{List}
 use Prim.Native.Nat.{ℕ, _≤_, _<_}
 use lib.ListN.{length, getD, take, drop}
-use Rattle.field.specs.Numbers.{OUTPUT_SHORT, WORK_SHORT}
-use Rattle.field.specs.Refusal.{Line, line, whole}
+use Rattle.field.specs.Refusal.{whole}
 use Rattle.poly.specs.Keys.{keys}
 use Rattle.poly.specs.Terms.{key-of}
 use Rattle.poly.specs.Room.{work-room, written}
@@ -61,7 +60,3 @@ pub record CanGather (cells out : List ℕ) : Type 0 where
 pub record Gathered (cells before after : List ℕ) (n : ℕ) : Type 0 where
   pub count : n ≡ length (gathered (length cells) cells)
   pub output : after ≡ written (gathered (length cells) cells) before
-
--- the refusals of the output and of the work room, by their lengths
-abbrev pub of-rooms : ℕ → ℕ → List Line
-of-rooms output work = line OUTPUT_SHORT (whole (output < keys)) ∷ line WORK_SHORT (whole (work < work-room)) ∷ []

@@ -5,7 +5,8 @@ use Rattle.field.specs.Refusal.{Line, Tested}
 use Rattle.field.specs.declared.Fault.{Fault}
 use Rattle.field.specs.RefusalLaws.{tested-stops, tested-goes-on}
 use Rattle.poly.specs.Lists.{of-lists}
-use Rattle.divisor.specs.Models.Checks.{of-skeleton, of-points, of-rooms}
+use Rattle.poly.specs.Room.{of-rooms}
+use Rattle.divisor.specs.Candidate.{of-skeleton, of-points}
 use borrow.Author.Needs.{needs}
 use Rattle.divisor.proofs.checks.candidate_fault.Statement.{statement}
 use Rattle.divisor.proofs.checks.candidate_fault.Tie as tie

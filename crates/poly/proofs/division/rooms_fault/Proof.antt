@@ -1,10 +1,10 @@
--- `divisor::checks::rooms_fault` meets its contract: each way out is an answer of the check. Assumes nothing.
+-- `poly::division::rooms_fault` meets its contract: each way out is an answer of the check. Assumes nothing.
 use mathlib.Core.Path.{refl}
 use native.Mathlib.Omega.{arith}
 use Rattle.field.specs.RefusalLaws.{placed-never, tested-line, tested-past, tested-end}
 use borrow.Author.Needs.{needs}
-use Rattle.divisor.proofs.checks.rooms_fault.Statement.{statement}
-use Rattle.divisor.proofs.checks.rooms_fault.Tie as tie
+use Rattle.poly.proofs.division.rooms_fault.Statement.{statement}
+use Rattle.poly.proofs.division.rooms_fault.Tie as tie
 
 at-requires : tie.Need-at-requires
 at-requires c κs = search needs
