@@ -1,4 +1,4 @@
--- The first n numbers of a list set to 0, one after the other; what stands where then. Assumes nothing.
+-- The check of the rooms settles its fault; the first n numbers of a list set to 0, one after the other, and what stands where then. Assumes nothing.
 use mathlib.Core.Path.{_≡_, sym, _∙_, ap}
 use mathlib.Core.List.{List, _++_}
 use Prim.Native.Nat.{ℕ, _+_, _-_, _≤_, _<_, min}
@@ -6,7 +6,14 @@ use native.Mathlib.Omega.{arith}
 use borrow.Author.Fill.{fill-none, fill-more}
 use lib.ListN.{length, getD, set, drop, replicate, length-append, length-drop, length-replicate, getD-replicate, List·getD-append}
 use lib.Seq.{drop-at, drop-drop}
-use Rattle.poly.specs.Room.{zeroed}
+use Rattle.field.specs.Refusal.{Tested}
+use Rattle.field.specs.RefusalLaws.{whole-one-place, tested-determined}
+use Rattle.field.specs.declared.Fault.{Fault}
+use Rattle.poly.specs.Room.{of-rooms, zeroed}
+
+pub rooms-check-determined : (output needed work : ℕ) (f g : Fault) → Tested (of-rooms output needed work) f → Tested (of-rooms output needed work) g → f ≡ g
+rooms-check-determined output needed work =
+    tested-determined (of-rooms output needed work) (whole-one-place _, (whole-one-place _, tt))
 
 pub zeroed-none : (l : List ℕ) → l ≡ zeroed 0 l
 unfolding zeroed
