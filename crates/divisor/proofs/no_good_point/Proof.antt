@@ -17,10 +17,12 @@ same-length : tie.Need-same-length
 same-length c = search needs
 
 returns : tie.Need-returns
-returns c = record {
-  is = ap (λ (f : Fault). record { fault = f; degree = 0; bad = c .before .before .before .before .before .before .args .n; unlucky = 0; kept = 0; terms = 0 }) (c .at .ensures);
-  clears = zeroed-all work-room _ (c .before .before .before .before .before .before .pre) (c .before .before .before .clear .ensures);
-}
+returns c =
+    let s = c .before .before .before .before .before .before in
+    record {
+      is = ap (λ (f : Fault). record { fault = f; degree = 0; bad = s .args .n; unlucky = 0; kept = 0; terms = 0 }) (c .at .ensures);
+      clears = zeroed-all work-room _ (s .pre) (c .before .before .before .clear .ensures);
+    }
 
 pub no-good-point-spec : {M : Type 1} → statement M
 no-good-point-spec = tie.close (tie.spec clear-requires at-requires same-length returns)

@@ -36,7 +36,8 @@ use Rattle.poly.specs.Laws.Fitting.{Fits, fits-says, fits-of, moves-up}
 use Rattle.poly.specs.Laws.Cells.{past-end}
 use Rattle.poly.specs.Models.Division.{most-of, Setting, fits, factor, less, divide-from, found-from}
 
-module _ (p : ℕ) (P : Prime p) (word : p ≤ coefficient-limit) (t : ℕ) (ts : List ℕ) (u : ℕ) (us : List ℕ) (hf : Falling p keys (t ∷ ts)) (hg : Falling p keys (u ∷ us))
+module _ (p : ℕ) (P : Prime p) (word : p ≤ coefficient-limit) (t : ℕ) (ts : List ℕ) (u : ℕ) (us : List ℕ) (hf : Falling p keys (t ∷ ts))
+    (hg : Falling p keys (u ∷ us))
     (inverse : ℕ) (is-inverse : mul (el p inverse) (el p (coefficient-of u)) ≡ el p 1)
     (bound : ℕ) (spare : exponents bound ⊞ most-of (u ∷ us) ≡ most-of (t ∷ ts)) where
   abbrev R : CommRing

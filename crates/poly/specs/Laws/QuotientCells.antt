@@ -35,7 +35,8 @@ module _ (p : ℕ) (P : Prime p) (n : ℕ) where
   unfolding polynomial
   nothing-stored c long red = record { long = long; reduced = red; means = sym (S4 R .add-zero (dense p P c)) }
 
-  store-one : p ≤ coefficient-limit → (s q : ℕ) (c c′ qs : List ℕ) → q < p → s < length c → getD c s 0 ≡ 0 → Stored (set c s q) c′ qs → Stored c c′ (keyed s q ∷ qs)
+  store-one : p ≤ coefficient-limit → (s q : ℕ) (c c′ qs : List ℕ) → q < p → s < length c → getD c s 0 ≡ 0 → Stored (set c s q) c′ qs → Stored c c′
+      (keyed s q ∷ qs)
   unfolding polynomial
   store-one word s q c c′ qs lq ls z r =
       record {

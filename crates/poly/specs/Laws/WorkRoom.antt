@@ -18,7 +18,7 @@ later s n t ts h i l = h (suc i) (omega arith)
 
 -- the subtraction of a product, in a list of which the cells are the first n numbers
 module _ (p s q n : ℕ) where
-  pub take-less : (ts l : List ℕ) → KeysBelow s n ts → take n (less-product p s q ts l) ≡ less-product p s q ts (take n l)
+  take-less : (ts l : List ℕ) → KeysBelow s n ts → take n (less-product p s q ts l) ≡ less-product p s q ts (take n l)
   unfolding less-product
   take-less [] l h = refl
   take-less (t ∷ ts) l h =
@@ -28,7 +28,7 @@ module _ (p s q n : ℕ) where
       (take-set-lt n l (key-of t + s) _ b
       ∙ ap (λ (v : ℕ). set (take n l) (key-of t + s) ((v + (p - q) * coefficient-of t) % p)) (sym (getD-take n l (key-of t + s) 0 b)))
 
-  pub drop-less : (ts l : List ℕ) → KeysBelow s n ts → drop n (less-product p s q ts l) ≡ drop n l
+  drop-less : (ts l : List ℕ) → KeysBelow s n ts → drop n (less-product p s q ts l) ≡ drop n l
   unfolding less-product
   drop-less [] l h = refl
   drop-less (t ∷ ts) l h = drop-less ts (less-term p s q t l) (later s n t ts h) ∙ drop-set-lt n l (key-of t + s) _ (h 0 (omega arith))
@@ -77,7 +77,7 @@ module _ (p s q : ℕ) (ts work : List ℕ) (small : s < keys) (within : KeysBel
 
 -- the parts are as long as there are keys, and 0 where the room was cleared
 module _ (work : List ℕ) (h : work-room ≤ length work) where
-  pub remainder-long : length (remainder-cells work) ≡ keys
+  remainder-long : length (remainder-cells work) ≡ keys
   remainder-long = length-take-le keys work (omega arith)
 
   pub quotient-long : length (quotient-cells work) ≡ keys

@@ -91,9 +91,12 @@ loop-again c =
     (λ w. (
       omega arith,
       subst (EquationSo (a .p) (a .t2) (a .t3) (a .t4) (a .skeleton .now) (a .i) (l .j + 1)) (sym (w .6))
-          (equation-taken (a .p) (a .t2) (a .t3) (a .t4) (a .skeleton .now) (a .i) (l .j) (l .row) (l .inv .1) (w .5 .result) (sym x ∙ w .0 .taken) (omega (arith, s .pre .behind, s .pre .within))
+          (equation-taken (a .p) (a .t2) (a .t3) (a .t4) (a .skeleton .now) (a .i) (l .j) (l .row) (l .inv .1) (w .5 .result) (sym x ∙ w .0 .taken)
+          (omega (arith, s .pre .behind, s .pre .within))
           (w .5 .ensures
-          ∙ ap₂ (λ (m n : ℕ). m * getD (a .t4) n 0 % a .p) (w .3 .ensures ∙ ap₂ (λ (m n : ℕ). (getD (a .t2) m 0 * getD (a .t3) n 0) % a .p) (w .1 .ensures) (w .2 .ensures)) (w .4 .ensures))),
+          ∙ ap₂ (λ (m n : ℕ). m * getD (a .t4) n 0 % a .p)
+          (w .3 .ensures ∙ ap₂ (λ (m n : ℕ). (getD (a .t2) m 0 * getD (a .t3) n 0) % a .p) (w .1 .ensures) (w .2 .ensures))
+          (w .4 .ensures))),
     ))
     (λ w. (
       omega arith,
@@ -113,7 +116,8 @@ returns c =
     let s = c .before .before .before in
     let l = c .before .loop in
     let a = s .args in
-    equation-end (a .p) (a .t2) (a .t3) (a .t4) (a .skeleton .now) (a .i) (l .j) (l .row) (l .inv .1) (a .column) (a .u) (c .loop-test .left) (l .inv .0) (s .pre .behind) (s .pre .within)
+    equation-end (a .p) (a .t2) (a .t3) (a .t4) (a .skeleton .now) (a .i) (l .j) (l .row) (l .inv .1) (a .column) (a .u) (c .loop-test .left) (l .inv .0)
+    (s .pre .behind) (s .pre .within)
 
 pub equation-spec : {M : Type 1} → statement M
 equation-spec =

@@ -23,6 +23,10 @@ Inv-loop p skeleton point image column ys zs ws s₀ i₀ s i = (i ≤ 8) × Equ
 abbrev μ-loop : tie.MeasureT-loop
 μ-loop p skeleton point image column ys zs ws s₀ i₀ s i = 8 - i
 
+-- at the loop: where the function began
+abbrev start : tie.At-loop Inv-loop μ-loop → tie.Start Inv-loop μ-loop
+start l = l .before .before .before .before .before .before .before .before .before .before
+
 shared-slice-read-powers : tie.Need-shared-slice-read-powers Inv-loop μ-loop
 shared-slice-read-powers c = search needs
 
@@ -51,17 +55,17 @@ shared-slice-read-u : tie.Need-shared-slice-read-u Inv-loop μ-loop
 shared-slice-read-u c = search needs
 
 sub-u : tie.Need-sub-u Inv-loop μ-loop
-sub-u c = omega (arith, c .before .before .before .before .before .before .before .before .before .before .before .before .pre .eight .below (c .before .before .loop .i))
+sub-u c = let l = c .before .before in omega (arith, start l .pre .eight .below (l .loop .i))
 
 rem-u : tie.Need-rem-u Inv-loop μ-loop
-rem-u c = omega (arith, listed-positive (c .before .before .before .before .before .before .before .before .before .before .before .before .pre .table .listed))
+rem-u c = omega (arith, listed-positive (start (c .before .before) .pre .table .listed))
 
 cast-equation : tie.Need-cast-equation Inv-loop μ-loop
 cast-equation c = search needs
 
 equation-requires : tie.Need-equation-requires Inv-loop μ-loop
 equation-requires c κs =
-    let s = c .before .before .before .before .before .before .before .before .before .before .before .before in
+    let s = start (c .before .before) in
     let a = s .args in
     let above = listed-above (s .pre .table .listed) in
     record {
@@ -79,21 +83,22 @@ first-entry-requires : tie.Need-first-entry-requires Inv-loop μ-loop
 first-entry-requires c κs = search needs
 
 -- the table so far is ready
-ready : (c : tie.After-equation Inv-loop μ-loop) → TableReady (c .before .before .before .before .before .before .before .before .before .before .before .before .before .args .p) (c .before .before .before .loop .s)
-ready c =
-    let s = c .before .before .before .before .before .before .before .before .before .before .before .before .before in
+ready : (l : tie.At-loop Inv-loop μ-loop) → TableReady (start l .args .p) (l .loop .s)
+ready at =
+    let s = start at in
     let a = s .args in
-    let l = c .before .before .before .loop in
+    let l = at .loop in
     point-ready (a .p) (a .t) (a .skeleton .now) (a .point .now) (a .image .now) (a .column) (l .i) (l .s) (s .pre .table) (l .inv .1)
 
 with-added-requires : tie.Need-with-added-requires Inv-loop μ-loop
 with-added-requires c κs =
     let e = c .before .before in
-    let s = e .before .before .before .before .before .before .before .before .before .before .before .before .before in
+    let at = e .before .before .before in
+    let s = start at in
     let a = s .args in
-    let l = e .before .before .before .loop in
+    let l = at .loop in
     record {
-      table = ready e;
+      table = ready at;
       row = equation-ready (a .p) (listed-positive (s .pre .table .listed)) _ _ _ (a .skeleton .now) (l .i) (a .column) _ (e .equation .result)
           (mod-lt _ (listed-positive (s .pre .table .listed))) (e .equation .ensures);
     }
@@ -105,16 +110,19 @@ loop-less : tie.Need-loop-less Inv-loop μ-loop
 loop-less c = search needs
 
 -- either way the table has the equation
-added : (c : tie.Joined1 Inv-loop μ-loop)
-    → let e = c .before .before in c .if1 .s ≡ with-row (e .before .before .before .before .before .before .before .before .before .before .before .before .before .args .p) (e .before .before .before .loop .s) (e .equation .result)
+added : (c : tie.Joined1 Inv-loop μ-loop) → let e = c .before .before in let l = e .before .before .before in
+    c .if1 .s ≡ with-row (start l .args .p) (l .loop .s) (e .equation .result)
 added c =
     let e = c .before .before in
-    ⊎-elim (λ w. w .2 ∙ w .1 .ensures) (λ w. w .1 ∙ sym (blank-adds-nothing _ _ (e .equation .result) (ready e .columns .most) _ (w .0 .left) (c .before .first-entry .ensures))) (c .if1 .came)
+    let most = ready (e .before .before .before) .columns .most in
+    ⊎-elim (λ w. w .2 ∙ w .1 .ensures)
+    (λ w. w .1 ∙ sym (blank-adds-nothing _ _ (e .equation .result) most _ (w .0 .left) (c .before .first-entry .ensures)))
+    (c .if1 .came)
 
 loop-again : tie.Need-loop-again Inv-loop μ-loop
 loop-again c =
     let e = c .before .before in
-    let s = e .before .before .before .before .before .before .before .before .before .before .before .before .before in
+    let s = start (e .before .before .before) in
     let a = s .args in
     let l = e .before .before .before .loop in
     let y = e .before .before .before .before .before .before .before .before .powers .ensures in
@@ -129,7 +137,7 @@ loop-again c =
 
 returns : tie.Need-returns Inv-loop μ-loop
 returns c =
-    let s = c .before .before .before .before .before .before .before .before .before .before .before in
+    let s = start (c .before) in
     let a = s .args in
     let l = c .before .loop in
     let e : l .i ≡ 8 = omega arith in

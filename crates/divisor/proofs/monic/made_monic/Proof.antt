@@ -9,16 +9,17 @@ use lib.ListN.{length, take, getD, length-set}
 use Rattle.field.specs.Link.{inverse-val}
 use Rattle.field.specs.ModuliLaws.{listed-prime, listed-positive}
 use Rattle.field.specs.Fp.{el, inv}
+use Rattle.poly.specs.Terms.{keyed}
+use Rattle.divisor.specs.Candidate.{most-keys}
 use Rattle.divisor.specs.Models.Monic.{leading, scaled-terms}
 use Rattle.divisor.specs.Laws.MonicTerms.{leading-below}
 use Rattle.divisor.specs.Laws.Turns.{MadeSo, made-passed, made-taken, made-all}
 use Rattle.divisor.proofs.monic.made_monic.Statement.{statement}
 use Rattle.divisor.proofs.monic.made_monic.Tie as tie
-use Rattle.poly.specs.Terms.{keyed}
 
 abbrev Inv-loop : tie.InvT-loop
 Inv-loop p skeleton values factor terms₀ count₀ i₀ terms count i =
-    (i ≤ length skeleton) × (count ≤ i) × (length terms ≡ 32)
+    (i ≤ length skeleton) × (count ≤ i) × (length terms ≡ most-keys)
     × MadeSo p factor skeleton values i count terms
 
 abbrev μ-loop : tie.MeasureT-loop
@@ -33,7 +34,9 @@ inverse-requires c κs =
     let e : c .leading .result ≡ leading (take (length (s .args .skeleton .now)) (s .args .t3)) = c .leading .ensures in
     record {
       is-listed = s .pre .listed;
-      below = subst (λ (n : ℕ). n < s .args .p) (sym e) (leading-below (s .args .p) (listed-positive (s .pre .listed)) (length (s .args .skeleton .now)) (s .args .t3) (s .pre .below));
+      below =
+          subst (λ (n : ℕ). n < s .args .p) (sym e)
+          (leading-below (s .args .p) (listed-positive (s .pre .listed)) (length (s .args .skeleton .now)) (s .args .t3) (s .pre .below));
       nonzero = subst (λ (n : ℕ). 0 < n) (sym e) (s .pre .led);
     }
 
@@ -93,7 +96,8 @@ loop-again c =
       ap length (w .4) ∙ length-set (l .terms) (l .count) (w .3 .result) ∙ l .inv .2,
       subst (λ (n : ℕ). MadeSo (a .p) f (a .skeleton .now) (a .t3) (l .i + 1) n (c .if1 .terms)) (sym (w .5))
           (subst (λ (ts : List ℕ). MadeSo (a .p) f (a .skeleton .now) (a .t3) (l .i + 1) (l .count + 1) ts) (sym (w .4))
-          (made-taken (a .p) f (a .skeleton .now) (a .t3) (l .i) (s .pre .long) (l .count) (l .terms) (w .3 .result) i (w .0 .taken) (omega (arith, s .pre .few))
+          (made-taken (a .p) f (a .skeleton .now) (a .t3) (l .i) (s .pre .long) (l .count) (l .terms) (w .3 .result) i (w .0 .taken)
+          (omega (arith, s .pre .few))
           (w .3 .ensures ∙ ap (keyed (getD (a .skeleton .now) (l .i) 0)) (w .2 .ensures)) (l .inv .3))),
     ))
     (λ w. (
@@ -115,7 +119,8 @@ returns c =
       sized = l .inv .2;
       fits = omega arith;
       terms =
-          made-all (a .p) (c .before .before .inverse .result .value) (a .skeleton .now) (a .t3) (l .i) (s .pre .long) (l .count) (l .terms) (c .loop-test .left) (l .inv .3)
+          made-all (a .p) (c .before .before .inverse .result .value) (a .skeleton .now) (a .t3) (l .i) (s .pre .long) (l .count) (l .terms)
+          (c .loop-test .left) (l .inv .3)
           ∙ ap (λ (f : ℕ). scaled-terms (a .p) f (a .skeleton .now) (take (length (a .skeleton .now)) (a .t3)))
           (inverse-val _ (c .before .before .inverse .result) (listed-prime (s .pre .listed)) (c .before .before .inverse .ensures)
           ∙ ap (λ (n : ℕ). inv (el (a .p) n) .val) (c .before .before .before .leading .ensures));

@@ -129,8 +129,10 @@ module _ {M : Type 1} (𝓤 : URA M) (H : Heap 𝓤) (A : Atoms 𝓤) (W : Given
         (init ! 5 refl (LL.lawful T.the-type T′.the-laws 𝓤 H A W .typed h _ h-is .0)) $
         use1 W (raw (With 𝓤 H A at-mem run .pre to-step)) (goes-step ready) $
         calls-at ! fm (With 𝓤 H A at-mem run) known to-step
-        (and-then ! (load ! (from ! (stop !)) (look ! 5 refl)) (and-then ! (load ! (from ! (stop !)) (look ! 11 refl)) (and-then ! (load ! (from ! (stop !)) (look ! 9 refl)) (no-more !)))) (λ v.
-        use1 W (later (some (λ (r : Table). (‵ ftrue ⊛ ‵ (T.the-row .own r (v ∷ []))) ⊛ raw (ensured 𝓤 H A step.ended (step.clauses 𝓤 H A at-mem run) tt (h, (e, (p, tt))) tt r))))
+        (and-then ! (load ! (from ! (stop !)) (look ! 5 refl))
+        (and-then ! (load ! (from ! (stop !)) (look ! 11 refl)) (and-then ! (load ! (from ! (stop !)) (look ! 9 refl)) (no-more !)))) (λ v.
+        use1 W (later (some (λ (r : Table). (‵ ftrue ⊛ ‵ (T.the-row .own r (v ∷ [])))
+        ⊛ raw (ensured 𝓤 H A step.ended (step.clauses 𝓤 H A at-mem run) tt (h, (e, (p, tt))) tt r))))
         (id⊢ 𝓤 _) $ await ! tt $ pick ! (λ r.
         split ! $ move ! (1 ∷ []) $ use1 W (raw (fact 𝓤 (r ≡ with-row p h e))) (stepped 𝓤 H A at-mem run h e p r) $
         heard ! (r ≡ with-row p h e) (λ eq. split ! $ drop ! $

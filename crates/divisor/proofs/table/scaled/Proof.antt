@@ -13,7 +13,9 @@ use Rattle.divisor.proofs.table.scaled.Statement.{statement}
 use Rattle.divisor.proofs.table.scaled.Tie as tie
 
 abbrev Inv-loop : tie.InvT-loop
-Inv-loop j columns p r₀ factor i₀ r i = (i ≤ columns) × (altered (λ k a. factor * a % p) i (columns - i) (r .cells) ≡ altered (λ k a. factor * a % p) j (columns - j) (r₀ .cells))
+Inv-loop j columns p r₀ factor i₀ r i =
+    let times : ℕ → ℕ → ℕ = λ k a. factor * a % p in
+    (i ≤ columns) × (altered times i (columns - i) (r .cells) ≡ altered times j (columns - j) (r₀ .cells))
 
 abbrev μ-loop : tie.MeasureT-loop
 μ-loop j columns p r₀ factor i₀ r i = columns - i
@@ -67,7 +69,8 @@ returns c =
     let a = at .before .before .before .args in
     let g : ℕ → ℕ → ℕ = λ k x. at .before .inverse .result .value * x % a .p in
     let is : at .before .inverse .result .value ≡ inv (el (a .p) (cell (a .row) (a .j))) .val =
-    inverse-val (record { modulus = a .p; value = cell (a .row) (a .j) }) (at .before .inverse .result) (listed-prime (at .before .before .before .pre .listed)) (at .before .inverse .ensures) in
+    inverse-val (record { modulus = a .p; value = cell (a .row) (a .j) }) (at .before .inverse .result)
+    (listed-prime (at .before .before .before .pre .listed)) (at .before .inverse .ensures) in
     ap (λ x. record { cells = x }) (sym (altered-end g (at .loop .i) (a .columns) (at .loop .r .cells) (c .loop-test .left)) ∙ at .loop .inv .1)
     ∙ ap (λ f. record { cells = altered (λ k x. f * x % a .p) (a .j) (a .columns - a .j) (a .row .cells) }) is
 

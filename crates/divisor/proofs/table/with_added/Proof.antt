@@ -143,14 +143,18 @@ module _ {M : Type 1} (𝓤 : URA M) (H : Heap 𝓤) (A : Atoms 𝓤) (W : Given
         use2 W (‵ (mem T.the-row .lies t l₄ 0)) (lies-in 𝓤 H A W t (tval t) l₄) $
         -- [the table that lies in _4; _6 1; _5 3; what frees _4 5; _3 6; _2 8; _1 10; _0 12]
         lft-new ! tt (λ α. move ! (1 ∷ []) $
-        use1 W (later (some (λ (γ : GName). ‵ (MutRef (named 0) (α ∷ []) T.the-row .own (ref l₄ γ) (vptr l₄ 0 ∷ [])) ⊛ ‵ (flent (α ∷ []) (Body (mem T.the-row) l₄ 0 γ)))))
+        use1 W (later (some (λ (γ : GName). ‵ (MutRef (named 0) (α ∷ []) T.the-row .own (ref l₄ γ) (vptr l₄ 0 ∷ []))
+        ⊛ ‵ (flent (α ∷ []) (Body (mem T.the-row) l₄ 0 γ)))))
         (lends-ref 𝓤 H A W T.the-row (named 0) (α ∷ []) t l₄ 0) $ await ! tt $ pick ! (λ γ. split ! $
         move ! (2 ∷ 0 ∷ []) $ use2 W (raw (Add 𝓤 H A at-mem run .pre (to-add α γ l₄))) (goes-add α γ l₄ ready) $
         calls-at ! fm (Add 𝓤 H A at-mem run) known (to-add α γ l₄)
-        (and-then ! (load ! (from ! (stop !)) (look ! 2 refl)) (and-then ! (load ! (from ! (stop !)) (look ! 9 refl)) (and-then ! (load ! (from ! (stop !)) (look ! 7 refl)) (no-more !)))) (λ w.
-        use1 W (later (some (λ (u : Unit {0}). ((‵ (flft (α ∷ []) fullShare) ⊛ ‵ ftrue) ⊛ ‵ (unit .own u (w ∷ []))) ⊛ raw (ensured 𝓤 H A add.ended (add.clauses 𝓤 H A at-mem run) (α ∷ [], tt) (ref l₄ γ, (e, (p, tt))) tt u))))
+        (and-then ! (load ! (from ! (stop !)) (look ! 2 refl))
+        (and-then ! (load ! (from ! (stop !)) (look ! 9 refl)) (and-then ! (load ! (from ! (stop !)) (look ! 7 refl)) (no-more !)))) (λ w.
+        use1 W (later (some (λ (u : Unit {0}). ((‵ (flft (α ∷ []) fullShare) ⊛ ‵ ftrue) ⊛ ‵ (unit .own u (w ∷ [])))
+        ⊛ raw (ensured 𝓤 H A add.ended (add.clauses 𝓤 H A at-mem run) (α ∷ [], tt) (ref l₄ γ, (e, (p, tt))) tt u))))
         (id⊢ 𝓤 _) $ await ! tt $ pick ! (λ u.
-        split ! $ move ! (1 ∷ []) $ use1 W (some (λ (ys : Table × (Unit {0} × (Unit {0} × Unit {0}))). ‵ (lasts add.ended (α ∷ [], tt) (ref l₄ γ, (e, (p, tt))) ys) ⊛ raw (fact 𝓤 (ys .0 ≡ with-row p t e))))
+        split ! $ move ! (1 ∷ []) $ use1 W (some (λ (ys : Table × (Unit {0} × (Unit {0} × Unit {0}))).
+        ‵ (lasts add.ended (α ∷ [], tt) (ref l₄ γ, (e, (p, tt))) ys) ⊛ raw (fact 𝓤 (ys .0 ≡ with-row p t e))))
         (id⊢ 𝓤 _) $ pick ! (λ y.
         split ! $ move ! (1 ∷ []) $ heard ! (y .0 ≡ with-row p t e) (λ eq. fsplit ! $ move ! (2 ∷ []) $ split ! $ split ! $ lft-end ! tt $
         -- [the lifetime is dead; true; what () owns; the last table; true; the loan; _6; …]

@@ -1,4 +1,4 @@
--- `clear` meets its contract. The invariant: the first i numbers are 0, the others as they were. Assumes nothing.
+-- `poly::division::clear` meets its contract. The invariant: the first i numbers are 0, the others as they were. Assumes nothing.
 use mathlib.Core.Path.{_≡_, refl, _∙_, ap}
 use mathlib.Core.Logic.{⊎-elim}
 use mathlib.Core.List.{List}
@@ -20,7 +20,8 @@ abbrev μ-loop : tie.MeasureT-loop
 
 loop-holds : tie.Need-loop-holds Inv-loop μ-loop
 loop-holds c =
-    (⊎-elim (λ w. w .1 ∙ shorter (w .0 .taken)) (λ w. w .1 ∙ longer (w .0 .left)) (c .if1 .came), omega arith, refl, zeroed-none (c .before .args .numbers .now))
+    let end = ⊎-elim (λ w. w .1 ∙ shorter (w .0 .taken)) (λ w. w .1 ∙ longer (w .0 .left)) (c .if1 .came) in
+    (end, omega arith, refl, zeroed-none (c .before .args .numbers .now))
   where
     shorter : {n m : ℕ} → n < m → n ≡ min n m
     shorter l = omega arith

@@ -1,4 +1,5 @@
--- `divide` meets its contract, from what its calls say: the test of the greatest exponents, the setting, the dividend spread, and the steps. Assumes nothing.
+-- `poly::division::divide` meets its contract, from what its calls say: the test of the greatest exponents, the setting, the
+-- dividend spread, and the steps. Assumes nothing.
 use mathlib.Core.Path.{_≡_, refl, sym, _∙_, ap, ap₂}
 use mathlib.Core.Bool.{true}
 use Prim.Native.Nat.{ℕ, _+_, _-_}
@@ -14,14 +15,18 @@ use Rattle.poly.proofs.division.divide.Statement.{statement}
 use Rattle.poly.proofs.division.divide.Tie as tie
 
 -- the test is that of the lists' greatest exponents
-tests : (c : tie.After-at-most)
-    → c .at-most .result ≡ at-most (most-key (c .before .before .before .before .before .before .args .divisor .now)) (most-key (c .before .before .before .before .before .before .args .dividend .now))
+tests : (c : tie.After-at-most) → let a = c .before .before .before .before .before .before .args in
+    c .at-most .result ≡ at-most (most-key (a .divisor .now)) (most-key (a .dividend .now))
 tests c = c .at-most .ensures ∙ ap₂ at-most (c .before .most2 .ensures) (c .before .before .most .ensures)
 
 -- what the steps are given is the setting of the two lists
 module _ (c : tie.After-of) where
+  -- both greatest exponents are known
+  abbrev mosts : tie.After-most2
+  mosts = c .before .before .before .before .before .before .before .before
+
   abbrev start : tie.Start
-  start = c .before .before .before .before .before .before .before .before .before .before .before .before .before
+  start = mosts .before .before .before .before .before
 
   abbrev kept : Setting
   kept =
@@ -30,7 +35,7 @@ module _ (c : tie.After-of) where
         terms = start .args .divisor .now;
         lead = c .of .result .bits;
         inverse = c .before .inverse .result .value;
-        bound = c .before .before .before .before .before .before .before .before .before .most .result .bits - c .before .before .before .before .before .before .before .before .most2 .result .bits;
+        bound = mosts .before .most .result .bits - mosts .most2 .result .bits;
       }
 
   kept-is : kept ≡ setting (start .args .p) (start .args .dividend .now) (start .args .divisor .now)
@@ -38,9 +43,9 @@ module _ (c : tie.After-of) where
       let a = start .args in
       let lead = c .of .ensures in
       let inverse =
-      lead-inverse-is (a .p) (a .dividend .now) (a .divisor .now) (a .work .now) (start .pre .lists) _ refl (c .before .before .coefficient-of .ensures) (c .before .inverse .result)
-      (c .before .inverse .ensures) in
-      let bound = ap₂ _-_ (c .before .before .before .before .before .before .before .before .before .most .ensures) (c .before .before .before .before .before .before .before .before .most2 .ensures) in
+      lead-inverse-is (a .p) (a .dividend .now) (a .divisor .now) (a .work .now) (start .pre .lists) _ refl (c .before .before .coefficient-of .ensures)
+      (c .before .inverse .result) (c .before .inverse .ensures) in
+      let bound = ap₂ _-_ (mosts .before .most .ensures) (mosts .most2 .ensures) in
       λ i. record { modulus = a .p; terms = a .divisor .now; lead = lead i; inverse = inverse i; bound = bound i }
 
   narrow : at-most (most-key (start .args .divisor .now)) (most-key (start .args .dividend .now)) ≡ true

@@ -1,4 +1,5 @@
--- `divides` meets its contract, from what its calls say: the remainder's cells cleared, the division, and the whole room cleared. Assumes nothing.
+-- `poly::division::divides` meets its contract, from what its calls say: the remainder's cells cleared, the division, and the
+-- whole room cleared. Assumes nothing.
 use mathlib.Core.Path.{_≡_}
 use native.Mathlib.Omega.{arith}
 use Rattle.poly.specs.Keys.{keys}
@@ -41,9 +42,11 @@ returns c =
     let a = z .args in
     record {
       says =
-          cleared-says (a .p) (a .dividend .now) (a .divisor .now) (a .work .now) (z .pre) keys (omega arith) (omega arith) _ _ (d .divide .result) (begun l) (d .divide .ensures);
+          cleared-says (a .p) (a .dividend .now) (a .divisor .now) (a .work .now) (z .pre) keys (omega arith) (omega arith) _ _ (d .divide .result) (begun l)
+          (d .divide .ensures);
       room =
-          cleared-room (a .p) (a .dividend .now) (a .divisor .now) (a .work .now) (z .pre) keys (omega arith) (omega arith) _ _ (d .divide .result) (begun l) (d .divide .ensures) _
+          cleared-room (a .p) (a .dividend .now) (a .divisor .now) (a .work .now) (z .pre) keys (omega arith) (omega arith) _ _ (d .divide .result) (begun l)
+          (d .divide .ensures) _
           (zeroed-all work-room _ (omega (arith, z .pre .room)) (e .clear2 .ensures));
     }
 

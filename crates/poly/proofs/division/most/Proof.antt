@@ -1,4 +1,4 @@
--- `most` meets its contract. The invariant: in each variable, the greatest so far with the others' is the greatest of all. Assumes nothing.
+-- `poly::division::most` meets its contract. The invariant: in each variable, the greatest so far with the others' is the greatest of all. Assumes nothing.
 use mathlib.Core.Path.{_≡_}
 use mathlib.Core.List.{List}
 use Prim.Native.Nat.{ℕ, _-_, _≤_, max}

@@ -1,4 +1,5 @@
--- `spread` meets its contract. The invariant: what is left of the list, spread over the cells as they are, gives what the whole list gave. Assumes nothing.
+-- `poly::division::spread` meets its contract. The invariant: what is left of the list, spread over the cells as they are, gives
+-- what the whole list gave. Assumes nothing.
 use mathlib.Core.Path.{_≡_, sym, _∙_}
 use Prim.Native.Nat.{_-_, _≤_, _<_}
 use native.Mathlib.Omega.{arith}

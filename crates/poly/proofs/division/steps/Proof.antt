@@ -1,4 +1,4 @@
--- `steps` meets its contract. The invariant of the steps: what is left of the division, from the cell k down, ends as the whole does;
+-- `poly::division::steps` meets its contract. The invariant of the steps: what is left of the division, from the cell k down, ends as the whole does;
 -- of the search: the cells passed are 0, and nothing is told apart yet. Both measures are k. Assumes nothing.
 use mathlib.Core.Path.{_≡_, refl, sym, _∙_}
 use mathlib.Core.Bool.{true}
@@ -20,7 +20,8 @@ setting p divisor lead inverse bound = record { modulus = p; terms = divisor; le
 
 abbrev Inv-loop : tie.InvT-loop
 Inv-loop p divisor lead inverse bound top work low k₀ whole₀ k whole =
-    (k ≤ k₀) × (left-of (setting p divisor lead inverse (bound .bits)) work k₀ ≡ left-of (setting p divisor lead inverse (bound .bits)) work k) × (whole ≡ whole₀)
+    let d = setting p divisor lead inverse (bound .bits) in
+    (k ≤ k₀) × (left-of d work k₀ ≡ left-of d work k) × (whole ≡ whole₀)
 
 abbrev μ-loop : tie.MeasureT-loop
 μ-loop p divisor lead inverse bound top work low k₀ whole₀ k whole = k
@@ -97,7 +98,8 @@ loop-less c = search needs
 loop-again : tie.Need-loop-again Inv-loop μ-loop Inv-steps μ-steps
 loop-again c =
     let l = c .before .before .before in
-    (omega arith, l .loop .inv .1 ∙ going-passed (d l) (work l) (l .loop .k) (going l .cells) (c .before .before .loop-test .left) (c .if1 .left), l .loop .inv .2)
+    let passed = going-passed (d l) (work l) (l .loop .k) (going l .cells) (c .before .before .loop-test .left) (c .if1 .left) in
+    (omega arith, l .loop .inv .1 ∙ passed, l .loop .inv .2)
 
 cast-fits : tie.Need-cast-fits Inv-loop μ-loop Inv-steps μ-steps
 cast-fits c = search needs
@@ -155,7 +157,9 @@ same-length : tie.Need-same-length Inv-loop μ-loop Inv-steps μ-steps
 same-length c = search needs
 
 returns : tie.Need-returns Inv-loop μ-loop Inv-steps μ-steps
-returns c = rw (c .before .loop .inv .2 ∙ c .before .before .steps .inv .0) (going-done (d (c .before)) (before (c .before)) (work (c .before)) (c .before .loop .k) (going (c .before)) (c .loop-test .taken))
+returns c =
+    let l = c .before in
+    rw (l .loop .inv .2 ∙ l .before .steps .inv .0) (going-done (d l) (before l) (work l) (l .loop .k) (going l) (c .loop-test .taken))
 
 same-length-2 : tie.Need-same-length-2 Inv-loop μ-loop Inv-steps μ-steps
 same-length-2 c = search needs

@@ -1,4 +1,5 @@
--- `subtract` meets its contract. The invariant: taking away what is left of the product from the cells as they are gives what the whole gave. Assumes nothing.
+-- `poly::division::subtract` meets its contract. The invariant: taking away what is left of the product from the cells as they
+-- are gives what the whole gave. Assumes nothing.
 use mathlib.Core.Path.{_≡_, sym, _∙_}
 use Prim.Native.Nat.{_+_, _-_, _≤_, _<_}
 use native.Mathlib.Omega.{arith}
@@ -10,14 +11,16 @@ use Rattle.poly.proofs.division.subtract.Statement.{statement}
 use Rattle.poly.proofs.division.subtract.Tie as tie
 
 abbrev Inv-loop : tie.InvT-loop
-Inv-loop p q shift divisor cells₀ opposite i₀ cells i = (i ≤ length divisor) × (length cells ≡ length cells₀) × (less-product p shift q divisor cells₀ ≡ less-product p shift q (drop i divisor) cells)
+Inv-loop p q shift divisor cells₀ opposite i₀ cells i =
+    (i ≤ length divisor) × (length cells ≡ length cells₀)
+    × (less-product p shift q divisor cells₀ ≡ less-product p shift q (drop i divisor) cells)
 
 abbrev μ-loop : tie.MeasureT-loop
 μ-loop p q shift divisor cells₀ opposite i₀ cells i = length divisor - i
 
 -- the cell of the term at i is one of the cells
-at-below : (c : tie.After-struct-known Inv-loop μ-loop)
-    → c .before .of .result .bits + c .before .before .before .before .before .before .before .args .shift < length (c .before .before .before .before .loop .cells)
+at-below : (c : tie.After-struct-known Inv-loop μ-loop) → let a = c .before .before .before .before in
+    c .before .of .result .bits + a .before .before .before .args .shift < length (a .loop .cells)
 at-below c =
     let a = c .before .before .before .before in
     let z = a .before .before .before in
@@ -76,7 +79,8 @@ loop-again c =
       omega arith,
       simp length-set (a .loop .inv .1),
       a .loop .inv .2
-          ∙ less-turn (g .p) (g .shift) (g .q) (g .divisor .now) (a .loop .cells) (a .loop .i) (s .before .before .before .loop-test .taken) (s .before .of .ensures)
+          ∙ less-turn (g .p) (g .shift) (g .q) (g .divisor .now) (a .loop .cells) (a .loop .i) (s .before .before .before .loop-test .taken)
+          (s .before .of .ensures)
           (c .before .coefficient-of .ensures) (c .plus-times .ensures),
     )
 

@@ -25,7 +25,8 @@ unfolding monic
 returns c =
     let a = c .before .before .args in
     c .scaled .ensures
-    ∙ ap (λ (v : ℕ). scaled (a .p) v (a .t3)) (inverse-val _ (c .before .inverse .result) (listed-prime (c .before .before .pre .is-listed)) (c .before .inverse .ensures))
+    ∙ ap (λ (v : ℕ). scaled (a .p) v (a .t3))
+    (inverse-val _ (c .before .inverse .result) (listed-prime (c .before .before .pre .is-listed)) (c .before .inverse .ensures))
 
 pub monic-spec : {M : Type 1} → statement M
 monic-spec = tie.close (tie.spec mul-t7 array-read-t10 inverse-requires scaled-requires returns)

@@ -1,4 +1,5 @@
--- `poly::image::image_at` meets its contract: the tables, A's value and the test of the point, B's value and what is made of both are the model's. Assumes nothing.
+-- `poly::image::image_at` meets its contract: the tables, A's value and the test of the point, B's value and what is made of both are
+-- the model's. Assumes nothing.
 use mathlib.Core.Path.{_≡_, sym, ap, _∙_, subst}
 use mathlib.Core.List.{List}
 use Prim.Native.Nat.{ℕ}

@@ -1,4 +1,5 @@
--- `exact` meets its contract, from what its calls say: the room cleared, the division, the quotient's terms gathered, and the room cleared again. Assumes nothing.
+-- `poly::quotient::exact` meets its contract, from what its calls say: the room cleared, the division, the quotient's terms gathered, and
+-- the room cleared again. Assumes nothing.
 use mathlib.Core.Path.{_≡_}
 use Prim.Native.Nat.{_≤_}
 use native.Mathlib.Omega.{arith}
@@ -57,7 +58,8 @@ returns c =
     let d = t .before .before .before in
     let l = d .before .before .before .before in
     let z = start d in
-    exact-none (lent z) (z .pre) _ _ _ (d .divide .result) (begun l) (d .divide .ensures) (zeroed-all work-room _ (room-long d) (e .clear2 .ensures)) (not-true _ (t .if1 .taken)) (c .at .ensures)
+    exact-none (lent z) (z .pre) _ _ _ (d .divide .result) (begun l) (d .divide .ensures) (zeroed-all work-room _ (room-long d) (e .clear2 .ensures))
+    (not-true _ (t .if1 .taken)) (c .at .ensures)
 
 sub-gather : tie.Need-sub-gather
 sub-gather c = search needs
@@ -94,7 +96,8 @@ returns-2 c =
     let d = n .before .before .before in
     let l = d .before .before .before .before in
     let z = start d in
-    exact-found (lent z) (z .pre) _ _ _ (d .divide .result) (begun l) (d .divide .ensures) (zeroed-all work-room _ (room-long d) (e .clear3 .ensures)) (not-false _ (n .if1 .left)) (quotient-long (d .divide .last .1 .1 .1 .0) (room-long d)) _ _ (g .gather .ensures)
+    exact-found (lent z) (z .pre) _ _ _ (d .divide .result) (begun l) (d .divide .ensures) (zeroed-all work-room _ (room-long d) (e .clear3 .ensures))
+    (not-false _ (n .if1 .left)) (quotient-long (d .divide .last .1 .1 .1 .0) (room-long d)) _ _ (g .gather .ensures)
     (c .none .ensures)
 
 pub exact-spec : {M : Type 1} → statement M

@@ -1,4 +1,5 @@
--- `gather` meets its contract. The invariant: the terms of the cells from k on stand first in the output, and the rest of it is as it was. Assumes nothing.
+-- `poly::quotient::gather` meets its contract. The invariant: the terms of the cells from k on stand first in the output, and
+-- the rest of it is as it was. Assumes nothing.
 use mathlib.Core.Path.{_≡_, refl, _∙_}
 use mathlib.Core.List.{_++_}
 use Prim.Native.Nat.{_+_, _≤_, _<_}
@@ -59,7 +60,8 @@ loop-again c =
     let x = a .before .before .before .args in (
       omega (arith, a .loop .inv .0, c .before .before .before .loop-test .taken),
       length-set (a .loop .out) (a .loop .n) (c .term .result) ∙ a .loop .inv .1,
-      gather-turn (x .cells .now) (a .loop .out) (a .loop .k) (a .loop .n) _ (a .loop .inv .2) (c .before .before .before .loop-test .taken) (c .before .if1 .taken) (room c)
+      gather-turn (x .cells .now) (a .loop .out) (a .loop .k) (a .loop .n) _ (a .loop .inv .2) (c .before .before .before .loop-test .taken)
+          (c .before .if1 .taken) (room c)
           (c .term .ensures),
       drop-written (a .loop .out) (x .out .now) (a .loop .n) (c .term .result) (a .loop .inv .3),
     )
@@ -72,7 +74,8 @@ loop-again-2 c =
     let a = c .before .before .before in (
       omega (arith, a .loop .inv .0),
       a .loop .inv .1,
-      gather-pass (a .before .before .before .args .cells .now) (a .loop .out) (a .loop .k) (a .loop .n) _ (a .loop .inv .2) (c .before .before .loop-test .taken) (c .if1 .left),
+      gather-pass (a .before .before .before .args .cells .now) (a .loop .out) (a .loop .k) (a .loop .n) _ (a .loop .inv .2)
+          (c .before .before .loop-test .taken) (c .if1 .left),
       a .loop .inv .3,
     )
 

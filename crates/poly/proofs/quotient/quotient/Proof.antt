@@ -1,4 +1,4 @@
--- `quotient` meets its contract: a fault of the table is the answer, and inputs that pass are divided. Assumes nothing.
+-- `poly::quotient::quotient` meets its contract: a fault of the table is the answer, and inputs that pass are divided. Assumes nothing.
 use Rattle.field.specs.RefusalLaws.{tested-passes, tested-refuses}
 use Rattle.poly.specs.Quotient.{QuotientCall, quotient-call, quotient-table, refused}
 use borrow.Author.Needs.{needs}
