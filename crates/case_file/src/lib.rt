@@ -89,7 +89,8 @@ fn with_record(
     points: &mut PointNumbers,
 ) -> Counts
     requires { ⌜ Ready (now bytes) kind at counts ⌝ }
-    ensures { λ r. ⌜ Adds (now (bytes .entry)) kind at counts r (now (first .entry)) (now (second .entry)) (now (skeleton .entry)) (now (points .entry)) (now (first .exit)) (now (second .exit)) (now (skeleton .exit)) (now (points .exit)) ⌝ }
+    ensures { λ r. ⌜ Adds (now (bytes .entry)) kind at counts r (now (first .entry)) (now (second .entry)) (now (skeleton .entry))
+        (now (points .entry)) (now (first .exit)) (now (second .exit)) (now (skeleton .exit)) (now (points .exit)) ⌝ }
 {
     let mut next = counts;
     match kind {

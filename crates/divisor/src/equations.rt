@@ -97,7 +97,8 @@ pub(crate) fn equations(
     work: &[Number],
 ) -> Table
     requires { ⌜ EquationsReady p (now skeleton) (now points) sizes (now work) least columns ⌝ }
-    ensures { λ r. ⌜ Equations-before (length (now (points .entry)) / 3) p (now (skeleton .entry)) (now (points .entry)) sizes (now (work .entry)) least columns r ⌝ }
+    ensures { λ r. ⌜ Equations-before (length (now (points .entry)) / 3) p (now (skeleton .entry)) (now (points .entry)) sizes
+        (now (work .entry)) least columns r ⌝ }
 {
     let mut t = Table::empty(columns);
     let mut kept: usize = 0;

@@ -56,7 +56,9 @@ fn answer(
     work: &mut [Number],
 ) -> CandidateRecord
     requires { ⌜ Passes (table-of (candidate-call p (now first) (now second) (now skeleton) (now points) (now out) (now work))) ⌝ }
-    ensures { λ r. ⌜ Candidate (candidate-call p (now (first .entry)) (now (second .entry)) (now (skeleton .entry)) (now (points .entry)) (now (out .entry)) (now (work .entry))) (candidate-result r (now (out .exit)) (now (work .exit))) ⌝ }
+    ensures { λ r. ⌜ Candidate (candidate-call p (now (first .entry)) (now (second .entry)) (now (skeleton .entry)) (now (points .entry))
+        (now (out .entry)) (now (work .entry)))
+        (candidate-result r (now (out .exit)) (now (work .exit))) ⌝ }
 {
     let n = points.len() / COORDINATES;
     let sizes = points::look(p, first, second, points, work);
@@ -90,7 +92,9 @@ pub fn candidate(
     out: &mut [Term],
     work: &mut [Number],
 ) -> CandidateRecord
-    ensures { λ r. ⌜ Candidate (candidate-call p (now (first .entry)) (now (second .entry)) (now (skeleton .entry)) (now (points .entry)) (now (out .entry)) (now (work .entry))) (candidate-result r (now (out .exit)) (now (work .exit))) ⌝ }
+    ensures { λ r. ⌜ Candidate (candidate-call p (now (first .entry)) (now (second .entry)) (now (skeleton .entry)) (now (points .entry))
+        (now (out .entry)) (now (work .entry)))
+        (candidate-result r (now (out .exit)) (now (work .exit))) ⌝ }
 {
     let fault = checks::candidate_fault(p, first, second, skeleton, points, out.len(), work.len());
     if fault.number != 0 {

@@ -46,7 +46,8 @@ pub(crate) fn look(
     work: &mut [Number],
 ) -> Sizes
     requires { ⌜ LookReady p (now first) (now second) (now points) (now work) ⌝ }
-    ensures { λ r. ⌜ Looks (length (now (points .entry)) / 3) p (now (first .entry)) (now (second .entry)) (now (points .entry)) (now (work .entry)) (now (work .exit)) r ⌝ }
+    ensures { λ r. ⌜ Looks (length (now (points .entry)) / 3) p (now (first .entry)) (now (second .entry)) (now (points .entry)) (now (work .entry))
+        (now (work .exit)) r ⌝ }
 {
     let mut sizes: Sizes = [0; POINTS];
     let mut i: usize = 0;

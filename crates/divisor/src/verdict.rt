@@ -67,7 +67,8 @@ fn divided(
     work: &mut [Number],
 ) -> Verdict
     requires { ⌜ VerdictReady p (now first) (now second) (now skeleton) (only values) (now output) (now work) ⌝ }
-    ensures { λ r. ⌜ Settled p (now (first .entry)) (now (second .entry)) (now (skeleton .entry)) (only values) (now (output .entry)) (now (output .exit)) (now (work .entry)) (now (work .exit)) r ⌝ }
+    ensures { λ r. ⌜ Settled p (now (first .entry)) (now (second .entry)) (now (skeleton .entry)) (only values) (now (output .entry))
+        (now (output .exit)) (now (work .entry)) (now (work .exit)) r ⌝ }
 {
     let divisor = crate::monic::made_monic(p, skeleton, values);
     let terms = divisor.terms;
@@ -97,7 +98,8 @@ pub(crate) fn settle(
     work: &mut [Number],
 ) -> Verdict
     requires { ⌜ VerdictReady p (now first) (now second) (now skeleton) solved (now output) (now work) ⌝ }
-    ensures { λ r. ⌜ Settled p (now (first .entry)) (now (second .entry)) (now (skeleton .entry)) solved (now (output .entry)) (now (output .exit)) (now (work .entry)) (now (work .exit)) r ⌝ }
+    ensures { λ r. ⌜ Settled p (now (first .entry)) (now (second .entry)) (now (skeleton .entry)) solved (now (output .entry)) (now (output .exit))
+        (now (work .entry)) (now (work .exit)) r ⌝ }
 {
     let kind = solved.kind;
     let values = solved.values;

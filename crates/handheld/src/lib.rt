@@ -34,7 +34,9 @@ pub extern "C" fn balungkiro_candidate(
     work: &mut [Number],
     numbers: &mut [usize; 7],
 )
-    ensures { λ _. ⌜ Laid of-candidate (Candidate (candidate-call modulus (now (first .entry)) (now (second .entry)) (now (skeleton .entry)) (now (points .entry)) (now (out .entry)) (now (work .entry)))) (record { numbers = now (numbers .exit); output = now (out .exit); work = now (work .exit) }) ⌝ }
+    ensures { λ _. ⌜ Laid of-candidate (Candidate (candidate-call modulus (now (first .entry)) (now (second .entry)) (now (skeleton .entry))
+        (now (points .entry)) (now (out .entry)) (now (work .entry))))
+        (record { numbers = now (numbers .exit); output = now (out .exit); work = now (work .exit) }) ⌝ }
 {
     let found = divisor::candidate(modulus, first, second, skeleton, points, out, work);
     *numbers = [
@@ -58,7 +60,8 @@ pub extern "C" fn balungkiro_quotient(
     work: &mut [Number],
     numbers: &mut [usize; 3],
 )
-    ensures { λ _. ⌜ Laid of-quotient (Quotient (quotient-call modulus (now (first .entry)) (now (second .entry)) (now (out .entry)) (now (work .entry)))) (record { numbers = now (numbers .exit); output = now (out .exit); work = now (work .exit) }) ⌝ }
+    ensures { λ _. ⌜ Laid of-quotient (Quotient (quotient-call modulus (now (first .entry)) (now (second .entry)) (now (out .entry))
+        (now (work .entry)))) (record { numbers = now (numbers .exit); output = now (out .exit); work = now (work .exit) }) ⌝ }
 {
     let found = poly::quotient::quotient(modulus, first, second, out, work);
     *numbers = [found.fault.number as usize, found.fault.place, found.terms];
@@ -74,7 +77,8 @@ pub extern "C" fn balungkiro_image(
     coefficients: &mut Eight,
     numbers: &mut [usize; 3],
 )
-    ensures { λ _. ⌜ Laid of-image (ImageAnswer (image-call modulus (now (first .entry)) (now (second .entry)) (now (point .entry)))) (record { numbers = now (numbers .exit); coefficients = now (coefficients .exit) }) ⌝ }
+    ensures { λ _. ⌜ Laid of-image (ImageAnswer (image-call modulus (now (first .entry)) (now (second .entry)) (now (point .entry))))
+        (record { numbers = now (numbers .exit); coefficients = now (coefficients .exit) }) ⌝ }
 {
     let found = poly::image::image(modulus, first, second, point);
     let u = found.coefficients;
@@ -184,7 +188,14 @@ pub extern "C" fn balungkiro_read(
     points: &mut PointNumbers,
     numbers: &mut [usize; 7],
 )
-    ensures { λ _. ⌜ Laid of-contents (λ r. r ≡ contents (read (now (bytes .entry)))) (record { numbers = now (numbers .exit); first = now (first .exit); second = now (second .exit); skeleton = now (skeleton .exit); points = now (points .exit) }) ⌝ }
+    ensures { λ _. ⌜ Laid of-contents (λ r. r ≡ contents (read (now (bytes .entry))))
+        (record {
+          numbers = now (numbers .exit);
+          first = now (first .exit);
+          second = now (second .exit);
+          skeleton = now (skeleton .exit);
+          points = now (points .exit);
+        }) ⌝ }
 {
     let counts = case_file::read_into(bytes, first, second, skeleton, points);
     *numbers = [

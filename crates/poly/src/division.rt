@@ -133,7 +133,8 @@ fn steps(
     work: &mut [Number],
 ) -> bool
     requires { ⌜ CanStep (record { modulus = p; terms = now divisor; lead = lead; inverse = inverse; bound = bound .bits }) top (now work) ⌝ }
-    ensures { λ r. ⌜ Stepped (record { modulus = p; terms = now (divisor .entry); lead = lead; inverse = inverse; bound = bound .bits }) (now (work .entry)) (now (work .exit)) r ⌝ }
+    ensures { λ r. ⌜ Stepped (record { modulus = p; terms = now (divisor .entry); lead = lead; inverse = inverse; bound = bound .bits })
+        (now (work .entry)) (now (work .exit)) r ⌝ }
 {
     let low = lead as usize;
     let mut k = top;

@@ -51,7 +51,8 @@ fn exact(
     work: &mut [Number],
 ) -> QuotientRecord
     requires { ⌜ Passes (quotient-table (quotient-call p (now first) (now second) (now out) (now work))) ⌝ }
-    ensures { λ r. ⌜ Quotient (quotient-call p (now (first .entry)) (now (second .entry)) (now (out .entry)) (now (work .entry))) (quotient-result r (now (out .exit)) (now (work .exit))) ⌝ }
+    ensures { λ r. ⌜ Quotient (quotient-call p (now (first .entry)) (now (second .entry)) (now (out .entry)) (now (work .entry)))
+        (quotient-result r (now (out .exit)) (now (work .exit))) ⌝ }
 {
     crate::division::clear(WORK_ROOM, work);
     let whole = crate::division::divide(p, first, second, work);
@@ -78,7 +79,8 @@ pub fn quotient(
     out: &mut [Term],
     work: &mut [Number],
 ) -> QuotientRecord
-    ensures { λ r. ⌜ Quotient (quotient-call p (now (first .entry)) (now (second .entry)) (now (out .entry)) (now (work .entry))) (quotient-result r (now (out .exit)) (now (work .exit))) ⌝ }
+    ensures { λ r. ⌜ Quotient (quotient-call p (now (first .entry)) (now (second .entry)) (now (out .entry)) (now (work .entry)))
+        (quotient-result r (now (out .exit)) (now (work .exit))) ⌝ }
 {
     let fault = quotient_fault(p, first, second, out.len(), work.len());
     if fault.number != 0 {
