@@ -1,7 +1,7 @@
 -- Elimination keeps exactly the common solutions, and its answer is right: no solution, only one, or two different ones.
 use mathlib.Core.Path.{_≡_, refl, sym, _∙_, ap, ap₂}
 use mathlib.Core.Bool.{Bool, true, false, true≢false, false≢true}
-use mathlib.Core.List.{List, [], _∷_}
+use mathlib.Core.List.{List, [], _∷_, _++_}
 use mathlib.Core.Logic.{_↔_}
 use Prim.Native.Nat.{ℕ, zero, suc}
 use native.Mathlib.Omega.{arith}
@@ -17,6 +17,19 @@ module _ (K : Field) where
 
   infixl 60 _+_
   infixl 70 _*_
+  -- rows behind one another are solved together
+  pub solves-append : (v : List Car) (xs ys : List (List Car)) → SolvesAll K v xs → SolvesAll K v ys → SolvesAll K v (xs ++ ys)
+  solves-append v [] ys h k = k
+  solves-append v (x ∷ xs) ys h k = (h .0, solves-append v xs ys (h .1) k)
+
+  pub solves-front : (v : List Car) (xs ys : List (List Car)) → SolvesAll K v (xs ++ ys) → SolvesAll K v xs
+  solves-front v [] ys h = tt
+  solves-front v (x ∷ xs) ys h = (h .0, solves-front v xs ys (h .1))
+
+  pub solves-back : (v : List Car) (xs ys : List (List Car)) → SolvesAll K v (xs ++ ys) → SolvesAll K v ys
+  solves-back v [] ys h = h
+  solves-back v (x ∷ xs) ys h = solves-back v xs ys (h .1)
+
   -- a row's value is linear in the row
   eval-times : (c : Car) (s v : List Car) → eval K (times K c s) v ≡ c * eval K s v
   eval-times c [] v = sym (mul-zero (K .ring) c)

@@ -4,7 +4,7 @@ use Prim.Native.Nat.{ℕ, zero, suc, _+_ as _+ₙ_, _<_}
 use native.Mathlib.Nat.{suc-add, zero-add as zero-addₙ}
 use native.Mathlib.Omega.{arith}
 use Rattle.algebra.specs.Ring.{CommRing, zero-add, zero-mul, mul-zero}
-use Rattle.algebra.specs.Series.{Seq, conv, SeriesR, S2, S3, S4}
+use Rattle.algebra.specs.Series.{Seq, constS, conv, SeriesR, S2, S3, S4}
 use Rattle.algebra.specs.Degree.{Ends, conv-null}
 
 module _ (R : CommRing) where
@@ -73,6 +73,15 @@ module _ (R : CommRing) where
 
   pub mono-times : (n : ℕ) (a c : Car) (k : ℕ) → mono n (a * c) k ≡ mono n a k * c
   mono-times n a c k = ap (λ u. mono n u k) (R .mul-comm a c) ∙ mono-scale n c a k ∙ R .mul-comm _ _
+
+  -- at the power 0 it is the constant
+  mono-zero-const : (c : Car) (n : ℕ) → mono zero c n ≡ constS R c n
+  unfolding mono constS
+  mono-zero-const c zero = refl
+  mono-zero-const c (suc n) = refl
+
+  pub mono-zero-one : mono zero (R .𝟙) ≡ SeriesR R .𝟙
+  mono-zero-one = fun-ext (mono-zero-const (R .𝟙))
 
   pub mono-null : (n : ℕ) (k : ℕ) → mono n 𝟘 k ≡ 𝟘
   mono-null n k = mono-either (λ u. u ≡ 𝟘) n 𝟘 k (λ e. refl) refl

@@ -7,7 +7,7 @@ use native.Mathlib.Nat.{mod-lt}
 use native.Mathlib.Omega.{arith}
 use lib.ListN.{length}
 use Rattle.algebra.specs.Ring.{CommRing}
-use Rattle.algebra.specs.Field.{Field, no-zero-divisors}
+use Rattle.algebra.specs.Field.{Field, inv-nonzero, no-zero-divisors}
 use Rattle.field.specs.Prime.{Prime}
 use Rattle.field.specs.PrimeLaws.{prime-positive}
 use Rattle.field.specs.Fp.{Fp, el, inv}
@@ -22,7 +22,7 @@ use Rattle.poly.specs.Laws.Lists.{FallFrom}
 use Rattle.poly.specs.Laws.Terms.{key-of-term, coefficient-of-term}
 use Rattle.divisor.specs.Rule.{Kept, Solution, without-zeros, made-monic}
 use Rattle.divisor.specs.Models.Monic.{leading, scaled-terms, monic-terms}
-use Rattle.divisor.specs.Laws.MonicValue.{value-without-zeros, inv-nonzero}
+use Rattle.divisor.specs.Laws.MonicValue.{value-without-zeros}
 use Rattle.divisor.specs.Laws.Degree.{solution-at-first}
 use Rattle.divisor.specs.Laws.MonicTerms.{AllBelow, leading-zero, scaled-zero, scaled-here, skeleton-of, Led, no-term, first-left, led, divisor-numbers}
 use Rattle.divisor.specs.Laws.Output.{divisor-within, read-numbers}

@@ -9,24 +9,13 @@ use Rattle.algebra.specs.Ring.{CommRing}
 use Rattle.algebra.specs.Four.{Exponents}
 use Rattle.algebra.specs.Field.{Field}
 use Rattle.algebra.specs.Linear.{SolvesAll}
+use Rattle.algebra.specs.LinearLaws.{solves-append, solves-front, solves-back}
 use Rattle.divisor.specs.Rule.{Kept, Equations}
 use Rattle.divisor.specs.Models.Rows.{rows-at, rows-from, kept-rows, all-rows, with-coefficients}
 use Rattle.divisor.specs.Laws.RowValue.{multiplier, point-says, say-point}
 
 module _ (K : Field) where
   open CommRing (K .ring) using (Car, 𝟙)
-
-  solves-append : (v : List Car) (xs ys : List (List Car)) → SolvesAll K v xs → SolvesAll K v ys → SolvesAll K v (xs ++ ys)
-  solves-append v [] ys h k = k
-  solves-append v (x ∷ xs) ys h k = (h .0, solves-append v xs ys (h .1) k)
-
-  solves-front : (v : List Car) (xs ys : List (List Car)) → SolvesAll K v (xs ++ ys) → SolvesAll K v xs
-  solves-front v [] ys h = tt
-  solves-front v (x ∷ xs) ys h = (h .0, solves-front v xs ys (h .1))
-
-  solves-back : (v : List Car) (xs ys : List (List Car)) → SolvesAll K v (xs ++ ys) → SolvesAll K v ys
-  solves-back v [] ys h = h
-  solves-back v (x ∷ xs) ys h = solves-back v xs ys (h .1)
 
   length-one : (front : List Car) (x : Car) → length (front ++ (x ∷ [])) ≡ suc (length front)
   length-one front x = let e = length-append front (x ∷ []) in omega arith
@@ -63,10 +52,10 @@ module _ (K : Field) where
     rows-from-say all front (k ∷ ks) [] l e h = absurd (omega arith)
     rows-from-say all front (k ∷ ks) (x ∷ back) l e h = (
       point-says K es cs all sized (length front) (fits all front x back e) x (there all front x back e) k
-          (solves-front (cs ++ all) (here all (length front) k) (from-on all (suc (length front)) ks) h),
+          (solves-front K (cs ++ all) (here all (length front) k) (from-on all (suc (length front)) ks) h),
       rows-from-say all (front ++ (x ∷ [])) ks back (omega arith) (e ∙ sym (append-snoc front x back))
           (subst (λ (m : ℕ). SolvesAll K (cs ++ all) (from-on all m ks)) (sym (length-one front x))
-          (solves-back (cs ++ all) (here all (length front) k) (from-on all (suc (length front)) ks) h)),
+          (solves-back K (cs ++ all) (here all (length front) k) (from-on all (suc (length front)) ks) h)),
     )
 
     say-rows-from : (all front : List Car) (ks : List (Kept K)) (back : List Car) → all ≡ front ++ back
@@ -74,7 +63,7 @@ module _ (K : Field) where
     say-rows-from all front [] back e h = tt
     say-rows-from all front (k ∷ ks) [] e h = absurd h
     say-rows-from all front (k ∷ ks) (x ∷ back) e h =
-        solves-append (cs ++ all) (here all (length front) k) (from-on all (suc (length front)) ks)
+        solves-append K (cs ++ all) (here all (length front) k) (from-on all (suc (length front)) ks)
         (say-point K es cs all sized (length front) (fits all front x back e) x (there all front x back e) k (h .0))
         (subst (λ (m : ℕ). SolvesAll K (cs ++ all) (from-on all m ks)) (length-one front x)
         (say-rows-from all (front ++ (x ∷ [])) ks back (e ∙ sym (append-snoc front x back)) (h .1)))
@@ -84,13 +73,13 @@ module _ (K : Field) where
         → SolvesAll K (cs ++ ms) (all-rows K es k ks) → Equations K (with-coefficients K es cs) (k ∷ ks) (𝟙 ∷ ms)
     rows-say ms k ks l h =
         let g = subst (λ (n : ℕ). SolvesAll K (cs ++ ms) (kept-rows K es n (k ∷ ks))) (sym l) h in (
-          point-says K es cs ms sized (length ms) (omega arith) 𝟙 (multiplier-last ms) k (solves-front (cs ++ ms) (here ms (length ms) k) (from-on ms 0 ks) g),
-          rows-from-say ms [] ks ms l refl (solves-back (cs ++ ms) (here ms (length ms) k) (from-on ms 0 ks) g),
+          point-says K es cs ms sized (length ms) (omega arith) 𝟙 (multiplier-last ms) k (solves-front K (cs ++ ms) (here ms (length ms) k) (from-on ms 0 ks) g),
+          rows-from-say ms [] ks ms l refl (solves-back K (cs ++ ms) (here ms (length ms) k) (from-on ms 0 ks) g),
         )
 
     pub say-rows : (ms : List Car) (k : Kept K) (ks : List (Kept K)) → length ms ≡ length ks
         → Equations K (with-coefficients K es cs) (k ∷ ks) (𝟙 ∷ ms) → SolvesAll K (cs ++ ms) (all-rows K es k ks)
     say-rows ms k ks l h =
         subst (λ (n : ℕ). SolvesAll K (cs ++ ms) (kept-rows K es n (k ∷ ks))) l
-        (solves-append (cs ++ ms) (here ms (length ms) k) (from-on ms 0 ks)
+        (solves-append K (cs ++ ms) (here ms (length ms) k) (from-on ms 0 ks)
         (say-point K es cs ms sized (length ms) (omega arith) 𝟙 (multiplier-last ms) k (h .0)) (say-rows-from ms [] ks ms refl (h .1)))

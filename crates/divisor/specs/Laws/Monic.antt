@@ -1,38 +1,29 @@
 -- Dropping zero coefficients and dividing by a number: what they do to the polynomial; a polynomial and its monic form divide the same ones.
 -- Assumes nothing.
-use mathlib.Core.Path.{_≡_, refl, sym, _∙_, ap, ap₂, fun-ext, subst}
+use mathlib.Core.Path.{_≡_, refl, sym, _∙_, ap, ap₂, subst}
 use mathlib.Core.List.{[], _∷_, map}
-use Prim.Native.Nat.{ℕ, zero, suc}
+use Prim.Native.Nat.{zero}
 use native.Mathlib.Nat.{add-zero}
 use Rattle.algebra.specs.Ring.{CommRing, zero-add, zero-mul, one-mul}
 use Rattle.algebra.specs.Solver.{_⊗_, _≗_, ring4}
-use Rattle.algebra.specs.Series.{SeriesR, S4, constS}
-use Rattle.algebra.specs.Mono.{mono}
+use Rattle.algebra.specs.Series.{SeriesR, S4}
+use Rattle.algebra.specs.Mono.{mono, mono-zero-one}
 use Rattle.algebra.specs.Divides.{div-from}
 use Rattle.algebra.specs.Four.{Exponents, D4, exponents-path}
-use Rattle.algebra.specs.Field.{Field, domain}
+use Rattle.algebra.specs.Field.{Field, inv-nonzero, domain}
 use Rattle.algebra.specs.Monomial.{Term, polynomial, monomial, monomial-mul, monomial-zero, monomial-fin}
 use Rattle.poly.specs.Terms.{Polynomial}
 use Rattle.poly.specs.Image.{Divides}
 use Rattle.divisor.specs.Rule.{without-zeros, divided-by, made-monic}
 use Rattle.divisor.specs.Demands.{MadeMonic, constant}
-use Rattle.divisor.specs.Laws.MonicValue.{inv-nonzero, NonZero, without-zeros-nonzero}
-
--- the number 1 is the polynomial 1
-module _ (R : CommRing) where
-  mono-zero-const : (c : R .Car) (n : ℕ) → mono R zero c n ≡ constS R c n
-  unfolding mono constS
-  mono-zero-const c zero = refl
-  mono-zero-const c (suc n) = refl
-
-  mono-zero-one : mono R zero (R .𝟙) ≡ SeriesR R .𝟙
-  mono-zero-one = fun-ext (mono-zero-const (R .𝟙))
+use Rattle.divisor.specs.Laws.MonicValue.{NonZero, without-zeros-nonzero}
 
 module _ (K : Field) where
   open Field K using (ring as R)
   open CommRing R using (Car, 𝟘, 𝟙, mul as _*_)
 
   infixl 70 _*_
+  -- the number 1 is the polynomial 1
   constant-one : constant K 𝟙 ≡ S4 R .𝟙
   unfolding monomial
   constant-one =

@@ -2,11 +2,11 @@
 use mathlib.Core.Path.{_≡_, refl, sym, _∙_, ap, ap₂}
 use mathlib.Core.List.{[], _∷_}
 use Prim.Native.Nat.{ℕ}
-use Rattle.algebra.specs.Ring.{CommRing, zero-add, zero-mul, mul-zero}
+use Rattle.algebra.specs.Ring.{CommRing, zero-add, zero-mul}
 use Rattle.algebra.specs.Solver.{_⊗_, _≗_, k0, ring3, ring5}
 use Rattle.algebra.specs.Mono.{mono, mono-times, mono-null}
 use Rattle.algebra.specs.Divides.{pow}
-use Rattle.algebra.specs.Field.{Field, domain}
+use Rattle.algebra.specs.Field.{Field, inv-nonzero, domain}
 use Rattle.algebra.specs.Monomial.{Term}
 use Rattle.poly.specs.Terms.{Polynomial}
 use Rattle.poly.specs.Value.{Point, value, number-at}
@@ -19,9 +19,6 @@ module _ (K : Field) where
 
   infixl 60 _+_
   infixl 70 _*_
-  pub inv-nonzero : (c : Car) → ¬ (c ≡ 𝟘) → ¬ (K .inv c ≡ 𝟘)
-  inv-nonzero c n e = K .one≢0 (sym (K .mul-inv c n) ∙ ap (c *_) e ∙ mul-zero R c)
-
   pub zero-dropped : (t : Term R) (ts : Polynomial K) → t .coefficient ≡ 𝟘 → without-zeros K (t ∷ ts) ≡ without-zeros K ts
   unfolding without-zeros
   zero-dropped t ts z = decided-yes (K .decide (t .coefficient)) _ _ z
@@ -82,4 +79,4 @@ module _ (K : Field) where
   unfolding made-monic
   made-monic-nonzero [] at n h q e = q e
   made-monic-nonzero (t ∷ ts) at n h q e =
-      domain K .nzd _ _ tt tt q (inv-nonzero (t .coefficient) (h .0)) (sym (value-divided (t .coefficient) (t ∷ ts) at n) ∙ e)
+      domain K .nzd _ _ tt tt q (inv-nonzero K (t .coefficient) (h .0)) (sym (value-divided (t .coefficient) (t ∷ ts) at n) ∙ e)
