@@ -1,4 +1,8 @@
 // Asking a service and printing its answer behind a label.
+ghost use Rattle.poly.specs.declared.QuotientRecord.{QuotientRecord};
+ghost use Rattle.poly.specs.Quotient.{quotient-call, quotient-result, Quotient};
+ghost use Rattle.divisor.specs.declared.CandidateRecord.{CandidateRecord};
+ghost use Rattle.divisor.specs.Candidate.{candidate-call, candidate-result, Candidate};
 use crate::lists::MODULUS;
 use console::print;
 use field::Answer;
@@ -45,8 +49,8 @@ pub fn candidate(
     );
 }
 
-// The candidate in rooms of the caller's.
-pub fn candidate_in(
+// The candidate in rooms of the caller's, which are left as the service leaves them.
+pub(crate) fn candidate_in(
     label: &[u8],
     p: Number,
     first: &[Term],
@@ -55,7 +59,11 @@ pub fn candidate_in(
     points: &[Number],
     out: &mut [Term],
     work: &mut [Number],
-) {
+)
+    ensures { λ _. ⌜ ((found : CandidateRecord) × Candidate (candidate-call p (now (first .entry)) (now (second .entry)) (now (skeleton .entry))
+        (now (points .entry)) (now (out .entry)) (now (work .entry)))
+        (candidate-result found (now (out .exit)) (now (work .exit)))) ⌝ }
+{
     let found = divisor::candidate(p, first, second, skeleton, points, out, work);
     let number = found.fault.number as usize;
     let terms = found.terms;
@@ -71,13 +79,17 @@ pub fn candidate_in(
     print_found(label, &numbers, &out[..terms]);
 }
 
-pub fn quotient(
+// The quotient, in rooms that are left as the service leaves them.
+pub(crate) fn quotient(
     label: &[u8],
     first: &[Term],
     second: &[Term],
     out: &mut [Term],
     work: &mut [Number],
-) {
+)
+    ensures { λ _. ⌜ ((found : QuotientRecord) × Quotient (quotient-call 17 (now (first .entry)) (now (second .entry)) (now (out .entry))
+        (now (work .entry))) (quotient-result found (now (out .exit)) (now (work .exit)))) ⌝ }
+{
     let found = poly::quotient::quotient(MODULUS, first, second, out, work);
     let number = found.fault.number as usize;
     let terms = found.terms;

@@ -1,11 +1,15 @@
 // The services that no program asks: arithmetic, the leading part and the list check.
+ghost use mathlib.Core.Path.{_≡_};
+ghost use Rattle.field.specs.Contract.{element};
 use crate::ask;
 use crate::lists;
 use crate::lists::MODULUS;
 use field::Element;
 use field::Number;
 
-fn element(modulus: Number, value: Number) -> Element {
+fn element(modulus: Number, value: Number) -> Element
+    ensures { λ r. ⌜ r ≡ element modulus value ⌝ }
+{
     Element { modulus, value }
 }
 

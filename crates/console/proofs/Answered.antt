@@ -9,7 +9,7 @@ use Rattle.field.specs.declared.Fault.{Fault}
 use Rattle.case_file.specs.declared.Counts.{Counts as CaseCounts}
 use Rattle.case_file.specs.Reading.{read}
 use Rattle.case_file.specs.Handed.{fault}
-use Rattle.divisor.specs.Candidate.{Call, Result, Candidate}
+use Rattle.divisor.specs.Candidate.{Call, candidate-call, Result, Candidate}
 use Rattle.divisor.specs.Laws.CandidateDetermined.{candidate-determined}
 use Rattle.console.specs.Lists.{Lists}
 use Rattle.console.specs.OfFileLaws.{lists-fault, lists-modulus, of-file-refused, of-file-asked, of-file-has, of-file-determined}
@@ -30,15 +30,8 @@ module _ (bytes output work : List ℕ) where
     -- the call that is made
     abbrev made : Call
     made =
-        record {
-          modulus = counts .modulus;
-          first-list = take (counts .first) first;
-          second-list = take (counts .second) second;
-          skeleton = take (counts .skeleton) skeleton;
-          points = take (counts .points) points;
-          output = output;
-          work = work;
-        }
+        candidate-call (counts .modulus) (take (counts .first) first) (take (counts .second) second) (take (counts .skeleton) skeleton)
+        (take (counts .points) points) output work
 
     made-is : made ≡ call output work (read bytes)
     made-is = rw (lists-modulus lists, lists .first-list .is, lists .second-list .is, lists .skeleton-list .is, lists .point-list .is)

@@ -7,25 +7,17 @@ use Rattle.field.specs.declared.Fault.{Fault}
 use Rattle.case_file.specs.Format.{modulus-kind, first-kind, second-kind, skeleton-kind, point-kind}
 use Rattle.case_file.specs.Reading.{Reading}
 use Rattle.case_file.specs.Handed.{list}
-use Rattle.divisor.specs.Candidate.{Call, Result, Candidate, refusal}
+use Rattle.divisor.specs.Candidate.{Call, candidate-call, Result, candidate-result, Candidate, refusal}
 use Rattle.console.specs.OfFile.{OfFile}
 
 module _ (output work : List ℕ) where
   abbrev pub unread : Fault → Result
-  unread f = record { found = refusal f; output = output; work = work }
+  unread f = candidate-result (refusal f) output work
 
   -- the call that a case makes
   abbrev pub call : Reading → Call
   call o =
-      record {
-        modulus = getD (list o modulus-kind) 0 0;
-        first-list = list o first-kind;
-        second-list = list o second-kind;
-        skeleton = list o skeleton-kind;
-        points = list o point-kind;
-        output = output;
-        work = work;
-      }
+      candidate-call (getD (list o modulus-kind) 0 0) (list o first-kind) (list o second-kind) (list o skeleton-kind) (list o point-kind) output work
 
   abbrev pub CandidateOfFile : List ℕ → Result → Type 0
   CandidateOfFile bytes r = OfFile unread (λ (o : Reading). Candidate (call o)) bytes r

@@ -9,7 +9,7 @@ use Rattle.field.specs.declared.Fault.{Fault}
 use Rattle.case_file.specs.declared.Counts.{Counts as CaseCounts}
 use Rattle.case_file.specs.Reading.{read}
 use Rattle.case_file.specs.Handed.{fault}
-use Rattle.poly.specs.Quotient.{QuotientCall, QuotientResult, Quotient}
+use Rattle.poly.specs.Quotient.{QuotientCall, quotient-call, QuotientResult, Quotient}
 use Rattle.poly.specs.Laws.Quotient.{quotient-determined}
 use Rattle.console.specs.Lists.{Lists}
 use Rattle.console.specs.OfFileLaws.{lists-fault, lists-modulus, of-file-refused, of-file-asked, of-file-has, of-file-determined}
@@ -33,14 +33,7 @@ module _ (bytes output work : List ℕ) where
   module _ (counts : CaseCounts) (first second skeleton points : List ℕ) (lists : Lists (read bytes) counts first second skeleton points) where
     -- the call that is made
     abbrev made : QuotientCall
-    made =
-        record {
-          modulus = counts .modulus;
-          first-list = take (counts .first) first;
-          second-list = take (counts .second) second;
-          output = output;
-          work = work;
-        }
+    made = quotient-call (counts .modulus) (take (counts .first) first) (take (counts .second) second) output work
 
     made-is : made ≡ call output work (read bytes)
     made-is = rw (lists-modulus lists, lists .first-list .is, lists .second-list .is)

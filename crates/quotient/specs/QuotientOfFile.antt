@@ -7,23 +7,16 @@ use Rattle.field.specs.declared.Fault.{Fault}
 use Rattle.case_file.specs.Format.{modulus-kind, first-kind, second-kind}
 use Rattle.case_file.specs.Reading.{Reading}
 use Rattle.case_file.specs.Handed.{list}
-use Rattle.poly.specs.Quotient.{QuotientCall, QuotientResult, Quotient}
+use Rattle.poly.specs.Quotient.{QuotientCall, quotient-call, QuotientResult, quotient-result, Quotient}
 use Rattle.console.specs.OfFile.{OfFile}
 
 module _ (output work : List ℕ) where
   abbrev pub unread : Fault → QuotientResult
-  unread f = record { found = record { fault = f; terms = 0 }; output = output; work = work }
+  unread f = quotient-result (record { fault = f; terms = 0 }) output work
 
   -- the call that a case makes
   abbrev pub call : Reading → QuotientCall
-  call o =
-      record {
-        modulus = getD (list o modulus-kind) 0 0;
-        first-list = list o first-kind;
-        second-list = list o second-kind;
-        output = output;
-        work = work;
-      }
+  call o = quotient-call (getD (list o modulus-kind) 0 0) (list o first-kind) (list o second-kind) output work
 
   abbrev pub QuotientOfFile : List ℕ → QuotientResult → Type 0
   QuotientOfFile bytes r = OfFile unread (λ (o : Reading). Quotient (call o)) bytes r
