@@ -27,7 +27,7 @@ fn print_found(label: &[u8], numbers: &[usize], terms: &[Term]) {
 }
 
 // The candidate in rooms that are long enough.
-pub fn candidate(
+pub(crate) fn candidate(
     label: &[u8],
     p: Number,
     first: &[Term],
@@ -97,13 +97,13 @@ pub(crate) fn quotient(
     print_found(label, &numbers, &out[..terms]);
 }
 
-pub fn image(label: &[u8], first: &[Term], second: &[Term], point: &[Number]) {
+pub(crate) fn image(label: &[u8], first: &[Term], second: &[Term], point: &[Number]) {
     print_label(label);
     print::image(poly::image::image(MODULUS, first, second, point));
 }
 
 // Number, place, modulus, value.
-pub fn arithmetic(label: &[u8], found: Answer) {
+pub(crate) fn arithmetic(label: &[u8], found: Answer) {
     let fault = found.fault;
     let element = found.element;
     print_label(label);
@@ -118,7 +118,7 @@ pub fn arithmetic(label: &[u8], found: Answer) {
 }
 
 // What the list check says, and the terms of the leading part.
-pub fn leading_part(label: &[u8], terms: &[Term]) {
+pub(crate) fn leading_part(label: &[u8], terms: &[Term]) {
     print_label(label);
     print::fault(poly::list::check_list(terms));
     print::terms(poly::list::leading_part(terms));

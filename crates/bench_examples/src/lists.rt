@@ -2,7 +2,7 @@
 use poly::key::Key;
 
 // The modulus, where none is said.
-pub const MODULUS: u16 = 17;
+pub(crate) const MODULUS: u16 = 17;
 
 // The keys of x and y.
 const X: u16 = 512;
@@ -15,14 +15,14 @@ const TX: u32 = (X as u32) * Key::COEFFICIENT_LIMIT;
 const TY: u32 = (Y as u32) * Key::COEFFICIENT_LIMIT;
 
 // x^2 - 1 and x^2 + 2x + 1.
-pub const P1_FIRST: [u32; 2] = [2 * TX + 1, 16];
+pub(crate) const P1_FIRST: [u32; 2] = [2 * TX + 1, 16];
 
-pub const P1_SECOND: [u32; 3] = [2 * TX + 1, TX + 2, 1];
+pub(crate) const P1_SECOND: [u32; 3] = [2 * TX + 1, TX + 2, 1];
 
 // (3yx + 1)(x - y) and (3yx + 1)(x + y + 1).
-pub const P2_FIRST: [u32; 4] = [2 * TX + TY + 3, TX + 2 * TY + 14, TX + 1, TY + 16];
+pub(crate) const P2_FIRST: [u32; 4] = [2 * TX + TY + 3, TX + 2 * TY + 14, TX + 1, TY + 16];
 
-pub const P2_SECOND: [u32; 6] = [
+pub(crate) const P2_SECOND: [u32; 6] = [
     2 * TX + TY + 3,
     TX + 2 * TY + 3,
     TX + TY + 3,
@@ -32,15 +32,15 @@ pub const P2_SECOND: [u32; 6] = [
 ];
 
 // 7x + 6y and 12x + y.
-pub const P4_FIRST: [u32; 2] = [TX + 7, TY + 6];
+pub(crate) const P4_FIRST: [u32; 2] = [TX + 7, TY + 6];
 
-pub const P4_SECOND: [u32; 2] = [TX + 12, TY + 1];
+pub(crate) const P4_SECOND: [u32; 2] = [TX + 12, TY + 1];
 
 // (y + 2)x^3 + 12y^2 + 7y.
-pub const K: [u32; 4] = [3 * TX + TY + 1, 3 * TX + 2, 2 * TY + 12, TY + 7];
+pub(crate) const K: [u32; 4] = [3 * TX + TY + 1, 3 * TX + 2, 2 * TY + 12, TY + 7];
 
 // (x - y + 1)E and (x + y + 1)E, where E is (y + 16)x^3 + 15y.
-pub const F: [u32; 8] = [
+pub(crate) const F: [u32; 8] = [
     4 * TX + TY + 1,
     4 * TX + 16,
     3 * TX + 2 * TY + 16,
@@ -51,7 +51,7 @@ pub const F: [u32; 8] = [
     TY + 15,
 ];
 
-pub const H: [u32; 7] = [
+pub(crate) const H: [u32; 7] = [
     4 * TX + TY + 1,
     4 * TX + 16,
     3 * TX + 2 * TY + 1,
@@ -62,49 +62,49 @@ pub const H: [u32; 7] = [
 ];
 
 // x + y.
-pub const P11: [u32; 2] = [TX + 1, TY + 1];
+pub(crate) const P11: [u32; 2] = [TX + 1, TY + 1];
 
 // 3y.
-pub const P12: [u32; 1] = [TY + 3];
+pub(crate) const P12: [u32; 1] = [TY + 3];
 
 // Skeletons, by their keys.
-pub const ONE: [u16; 1] = [0];
+pub(crate) const ONE: [u16; 1] = [0];
 
-pub const X_1: [u16; 2] = [X, 0];
+pub(crate) const X_1: [u16; 2] = [X, 0];
 
-pub const XY_1: [u16; 2] = [X + Y, 0];
+pub(crate) const XY_1: [u16; 2] = [X + Y, 0];
 
-pub const ONLY_X: [u16; 1] = [X];
+pub(crate) const ONLY_X: [u16; 1] = [X];
 
-pub const ONLY_Y: [u16; 1] = [Y];
+pub(crate) const ONLY_Y: [u16; 1] = [Y];
 
-pub const X3Y_X3_Y2_Y: [u16; 4] = [3 * X + Y, 3 * X, 2 * Y, Y];
+pub(crate) const X3Y_X3_Y2_Y: [u16; 4] = [3 * X + Y, 3 * X, 2 * Y, Y];
 
-pub const X3_Y: [u16; 2] = [3 * X, Y];
+pub(crate) const X3_Y: [u16; 2] = [3 * X, Y];
 
-pub const X3_1: [u16; 2] = [3 * X, 0];
+pub(crate) const X3_1: [u16; 2] = [3 * X, 0];
 
-pub const X3Y_X3_Y: [u16; 3] = [3 * X + Y, 3 * X, Y];
+pub(crate) const X3Y_X3_Y: [u16; 3] = [3 * X + Y, 3 * X, Y];
 
-pub const X_Y7: [u16; 2] = [X, 7 * Y];
+pub(crate) const X_Y7: [u16; 2] = [X, 7 * Y];
 
 // Lists for the lines that are run only.
-pub const COEFFICIENT_17: [u32; 2] = [2 * TX + 1, 17];
+pub(crate) const COEFFICIENT_17: [u32; 2] = [2 * TX + 1, 17];
 
-pub const COEFFICIENT_16: [u32; 2] = [2 * TX + 16, 1];
+pub(crate) const COEFFICIENT_16: [u32; 2] = [2 * TX + 16, 1];
 
-pub const EQUAL_KEYS: [u32; 2] = [2 * TX + 1, 2 * TX + 16];
+pub(crate) const EQUAL_KEYS: [u32; 2] = [2 * TX + 1, 2 * TX + 16];
 
-pub const KEY_4096: [u32; 1] = [4096 * Key::COEFFICIENT_LIMIT + 1];
+pub(crate) const KEY_4096: [u32; 1] = [4096 * Key::COEFFICIENT_LIMIT + 1];
 
-pub const KEY_4095: [u32; 1] = [4095 * Key::COEFFICIENT_LIMIT + 1];
+pub(crate) const KEY_4095: [u32; 1] = [4095 * Key::COEFFICIENT_LIMIT + 1];
 
 // E and x + 1.
-pub const E: [u32; 3] = [3 * TX + TY + 1, 3 * TX + 16, TY + 15];
+pub(crate) const E: [u32; 3] = [3 * TX + TY + 1, 3 * TX + 16, TY + 15];
 
-pub const X_PLUS_1: [u32; 2] = [TX + 1, 1];
+pub(crate) const X_PLUS_1: [u32; 2] = [TX + 1, 1];
 
-pub const KEYS_33: [u16; 33] = [
+pub(crate) const KEYS_33: [u16; 33] = [
     543,
     542,
     541,

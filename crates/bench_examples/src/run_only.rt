@@ -34,7 +34,7 @@ fn with_rooms(label: &[u8], out: &mut [Term], work: &mut [Number]) {
     );
 }
 
-pub fn lists() {
+pub(crate) fn lists() {
     ask::candidate(b"modulus 15", 15, &P1_FIRST, &P1_SECOND, &X_1, &[0, 0, 0]);
     with_first(b"coefficient 17", &lists::COEFFICIENT_17);
     with_first(b"coefficient 16", &lists::COEFFICIENT_16);
@@ -44,7 +44,7 @@ pub fn lists() {
     ask::candidate(b"key 4095", MODULUS, &last, &last, &[4095], &[1, 1, 1]);
 }
 
-pub fn skeletons_and_points() {
+pub(crate) fn skeletons_and_points() {
     let keys = lists::KEYS_33;
     with_skeleton(b"32 keys", &keys[1..]);
     with_skeleton(b"33 keys", &keys);
@@ -53,7 +53,7 @@ pub fn skeletons_and_points() {
     with_points(b"99 point numbers", &[0; 99]);
 }
 
-pub fn rooms() {
+pub(crate) fn rooms() {
     let mut out = [0; 2];
     let mut short_out = [0; 1];
     let mut work = [0; 8192];
@@ -64,7 +64,7 @@ pub fn rooms() {
     with_rooms(b"output 2, work 8192", &mut out, &mut work);
 }
 
-pub fn quotients() {
+pub(crate) fn quotients() {
     let x_plus_1 = lists::X_PLUS_1;
     let mut out = [0; 4096];
     let mut short_out = [0; 4095];
@@ -95,7 +95,7 @@ pub fn quotients() {
     ask::quotient(b"F by E", &lists::F, &lists::E, &mut out, &mut work);
 }
 
-pub fn images() {
+pub(crate) fn images() {
     ask::image(b"image at two numbers", &P1_FIRST, &P1_SECOND, &[0, 0]);
     ask::image(
         b"image at a bad point",

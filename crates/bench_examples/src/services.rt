@@ -13,7 +13,7 @@ fn element(modulus: Number, value: Number) -> Element
     Element { modulus, value }
 }
 
-pub fn arithmetic() {
+pub(crate) fn arithmetic() {
     let three = element(MODULUS, 3);
     let five = element(MODULUS, 5);
     let sixteen = element(MODULUS, 16);
@@ -23,7 +23,7 @@ pub fn arithmetic() {
     ask::arithmetic(b"1 / 3", field::ask_inverse(three));
 }
 
-pub fn arithmetic_refused() {
+pub(crate) fn arithmetic_refused() {
     let five = element(MODULUS, 5);
     let large = element(MODULUS, 17);
     ask::arithmetic(b"modulus 15", field::ask_sum(element(15, 5), five));
@@ -33,7 +33,7 @@ pub fn arithmetic_refused() {
     ask::arithmetic(b"1 / 0", field::ask_inverse(element(MODULUS, 0)));
 }
 
-pub fn leading_parts() {
+pub(crate) fn leading_parts() {
     ask::leading_part(b"leading part of F", &lists::F);
     ask::leading_part(b"leading part, two equal keys", &lists::EQUAL_KEYS);
     ask::leading_part(b"leading part, no terms", &[]);

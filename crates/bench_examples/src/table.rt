@@ -24,7 +24,7 @@ use crate::lists::X3Y_X3_Y;
 use crate::lists::X3Y_X3_Y2_Y;
 use crate::lists::XY_1;
 
-pub fn first_six() {
+pub(crate) fn first_six() {
     candidate(b"P1", MODULUS, &P1_FIRST, &P1_SECOND, &X_1, &[0, 0, 0]);
     candidate(b"P2", MODULUS, &P2_FIRST, &P2_SECOND, &ONE, &[0, 0, 0]);
     candidate(b"P3", MODULUS, &P2_FIRST, &P2_SECOND, &XY_1, &[1, 0, 0]);
@@ -47,7 +47,7 @@ pub fn first_six() {
     );
 }
 
-pub fn last_six() {
+pub(crate) fn last_six() {
     candidate(b"P7", MODULUS, &K, &K, &X3_Y, &[1, 0, 0, 2, 0, 0, 3, 0, 0]);
     candidate(b"P8", MODULUS, &K, &K, &X3_1, &[1, 0, 0, 2, 0, 0]);
     candidate(b"P9", MODULUS, &F, &H, &X3Y_X3_Y, &[5, 0, 0]);
@@ -65,7 +65,7 @@ pub fn last_six() {
 }
 
 // The images that the table names.
-pub fn images() {
+pub(crate) fn images() {
     image(b"P4 at y=0", &P4_FIRST, &P4_SECOND, &[0, 0, 0]);
     image(b"P6 at y=1", &K, &K, &[1, 0, 0]);
     image(b"P6 at y=2", &K, &K, &[2, 0, 0]);

@@ -73,7 +73,8 @@ module _ (K : Field) where
         → SolvesAll K (cs ++ ms) (all-rows K es k ks) → Equations K (with-coefficients K es cs) (k ∷ ks) (𝟙 ∷ ms)
     rows-say ms k ks l h =
         let g = subst (λ (n : ℕ). SolvesAll K (cs ++ ms) (kept-rows K es n (k ∷ ks))) (sym l) h in (
-          point-says K es cs ms sized (length ms) (omega arith) 𝟙 (multiplier-last ms) k (solves-front K (cs ++ ms) (here ms (length ms) k) (from-on ms 0 ks) g),
+          point-says K es cs ms sized (length ms) (omega arith) 𝟙 (multiplier-last ms) k
+              (solves-front K (cs ++ ms) (here ms (length ms) k) (from-on ms 0 ks) g),
           rows-from-say ms [] ks ms l refl (solves-back K (cs ++ ms) (here ms (length ms) k) (from-on ms 0 ks) g),
         )
 
