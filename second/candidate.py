@@ -172,12 +172,12 @@ def quotient_text(data):
 
 
 def image_text(data):
-    """What the program `image` prints for a case file: one line for each point."""
+    """What the program `image` prints: one line for each point, or one for an empty point where there is none."""
     try:
         case = case_file.read(data)
     except Refusal as refusal:
         return _line(refusal.number, refusal.place)
-    return "".join(_image_line(case, point) for point in point_triples(case))
+    return "".join(_image_line(case, point) for point in point_triples(case) or [()])
 
 
 def _image_line(case, point):

@@ -1,5 +1,5 @@
 // Reads a case file from standard input and prints a line for each of its points: number, place, degree and the eight coefficients of the image,
-// or number and place of the refusal.
+// or number and place of the refusal. A case without points is answered by one line: what the service refuses an empty point with.
 use case_file::COORDINATES;
 use console::input;
 use console::print;
@@ -7,6 +7,9 @@ use field::Number;
 use poly::Term;
 
 fn print_images(p: Number, first: &[Term], second: &[Term], points: &[Number]) {
+    if points.len() == 0 {
+        print::image(poly::image::image(p, first, second, points));
+    }
     let mut i: usize = 0;
     while i + COORDINATES <= points.len() {
         let end = i + COORDINATES;

@@ -1,4 +1,4 @@
--- `image::print_images` is safe and ends. The index stays within the point numbers; the measure is how many are left. Assumes nothing.
+-- `image::print_images` is safe and ends. The invariant: the index stays within the point numbers; the measure is how many are left.
 use Prim.Native.Nat.{_≤_, _-_}
 use lib.ListN.{length}
 use borrow.Author.Needs.{needs}
@@ -10,6 +10,12 @@ Inv-loop p first second points i₀ i = i ≤ length points
 
 abbrev μ-loop : tie.MeasureT-loop
 μ-loop p first second points i₀ i = length points - i
+
+image-requires : tie.Need-image-requires Inv-loop μ-loop
+image-requires c κs = search needs
+
+image-requires-2 : tie.Need-image-requires-2 Inv-loop μ-loop
+image-requires-2 c κs = search needs
 
 loop-holds : tie.Need-loop-holds Inv-loop μ-loop
 loop-holds c = search needs
@@ -32,11 +38,11 @@ part-image-start c = search needs
 part-image-end : tie.Need-part-image-end Inv-loop μ-loop
 part-image-end c = search needs
 
-image-requires : tie.Need-image-requires Inv-loop μ-loop
-image-requires c κs = search needs
+image-requires-3 : tie.Need-image-requires-3 Inv-loop μ-loop
+image-requires-3 c κs = search needs
 
-image-requires-2 : tie.Need-image-requires-2 Inv-loop μ-loop
-image-requires-2 c κs = search needs
+image-requires-4 : tie.Need-image-requires-4 Inv-loop μ-loop
+image-requires-4 c κs = search needs
 
 loop-less : tie.Need-loop-less Inv-loop μ-loop
 loop-less c = search needs
@@ -53,6 +59,8 @@ print-images-spec =
     (tie.spec
     Inv-loop
     μ-loop
+    image-requires
+    image-requires-2
     loop-holds
     add-loop
     add-end
@@ -60,8 +68,8 @@ print-images-spec =
     sub-image
     part-image-start
     part-image-end
-    image-requires
-    image-requires-2
+    image-requires-3
+    image-requires-4
     loop-less
     loop-again
     returns)
