@@ -65,3 +65,8 @@ EXAMPLES = [
     _example("p11", {X: 1, Y: 1}, {X: 1, Y: 1}, [1], [X, 7 * Y], ["15 0 1 0 0 1"], p=7),
     _example("p12", {Y: 3}, {Y: 3}, [2], [Y], ["0 0 0 0 0 1", "1 0 1 0 0"]),
 ]
+
+
+def case(name):
+    """The case of an example."""
+    return next(example.case for example in EXAMPLES if example.name == name)

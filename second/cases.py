@@ -25,14 +25,18 @@ class Family:
     value_changes: tuple = ()
     file_changes: tuple = ()
 
-    def file(self, rng):
+    def values(self, rng):
+        """The case before it is a file."""
         plan = self.maker(rng)
         for change in self.plan_changes:
             change(rng, plan)
         case = plan.case()
         for change in self.value_changes:
             change(rng, case)
-        records = case_file.records(case)
+        return case
+
+    def file(self, rng):
+        records = case_file.records(self.values(rng))
         for change in self.file_changes:
             records = change(rng, records)
         return b"".join(records)
@@ -152,3 +156,9 @@ def make_case(seed, index):
     """The name of the family and the bytes of one case; the same for the same seed and index."""
     family = ROUND[index % len(ROUND)]
     return family.name, family.file(random.Random(f"{seed}/{index}"))
+
+
+def make_values(rng):
+    """The name of a family and a case of it that is not damaged as a file."""
+    family = rng.choice([family for family in ROUND if not family.file_changes])
+    return family.name, family.values(rng)

@@ -1,0 +1,213 @@
+/* Asks the library what the lines of standard input say, a call on each line, and answers each by a line of its own.
+ * A line is a service and its arguments, decimal; a list is its length and its numbers; a room that is lent is its length alone.
+ *
+ *   candidate MODULUS FIRST SECOND SKELETON POINTS OUTPUT WORK      quotient MODULUS FIRST SECOND OUTPUT WORK
+ *   image MODULUS FIRST SECOND POINT                                list TERMS
+ *   sum MODULUS VALUE MODULUS VALUE (difference, product)           inverse MODULUS VALUE
+ *
+ * The answer is the record; behind '|' the terms, and how many numbers of the output behind them, of the work room's first 8192 and of the rest
+ * of the work room are as before the call, and how many of the work room are 0; or the eight coefficients; or the length of the leading part.
+ * Each number of a room is MARK before the call. A line that is not such a call is answered by 'not a call'. */
+#include "balungkiro.h"
+
+#include <stdio.h>
+#include <stdlib.h>
+#include <string.h>
+
+/* More than any list that is accepted, and any room that is used. */
+enum { MOST_TERMS = 300, MOST_KEYS = 40, MOST_NUMBERS = 120, MOST_OUTPUT = 4200, MOST_WORK = 8300, MARK = 9, LONGEST = 16384 };
+
+static const char *rest;
+static int wrong;
+static uint32_t first[MOST_TERMS], second[MOST_TERMS], out[MOST_OUTPUT];
+static uint16_t skeleton[MOST_KEYS], points[MOST_NUMBERS], work[MOST_WORK];
+
+/* The next number of the line, which is at most `most`. */
+static unsigned long number(unsigned long most)
+{
+    char *end;
+    unsigned long n = strtoul(rest, &end, 10);
+    if (end == rest || n > most) {
+        wrong = 1;
+        return 0;
+    }
+    rest = end;
+    return n;
+}
+
+static uint16_t small(void) { return (uint16_t)number(UINT16_MAX); }
+
+static size_t terms(uint32_t *list)
+{
+    size_t n = number(MOST_TERMS), i;
+    for (i = 0; i < n; i++)
+        list[i] = (uint32_t)number(UINT32_MAX);
+    return n;
+}
+
+static size_t numbers(uint16_t *list, unsigned long most)
+{
+    size_t n = number(most), i;
+    for (i = 0; i < n; i++)
+        list[i] = small();
+    return n;
+}
+
+/* The lengths of the two rooms, and MARK in every number of them. */
+static void lend_rooms(size_t *output_count, size_t *work_count)
+{
+    size_t i;
+    *output_count = number(MOST_OUTPUT);
+    *work_count = number(MOST_WORK);
+    for (i = 0; i < MOST_OUTPUT; i++)
+        out[i] = MARK;
+    for (i = 0; i < MOST_WORK; i++)
+        work[i] = MARK;
+}
+
+/* Nothing is asked of the library where the line is not a call. */
+static int is_call(void)
+{
+    while (*rest == ' ' || *rest == '\n')
+        rest++;
+    if (*rest != '\0')
+        wrong = 1;
+    if (wrong)
+        printf("not a call\n");
+    return !wrong;
+}
+
+static void print_record(const size_t *record, size_t count)
+{
+    size_t i;
+    for (i = 0; i < count; i++)
+        printf(i == 0 ? "%zu" : " %zu", record[i]);
+}
+
+static void print_rooms(size_t count, size_t output_count, size_t work_count)
+{
+    size_t i, output_left = 0, used_left = 0, work_left = 0, zeros = 0;
+    printf(" |");
+    for (i = 0; i < count; i++)
+        printf(" %lu", (unsigned long)out[i]);
+    for (i = count; i < output_count; i++)
+        output_left += out[i] == MARK;
+    for (i = 0; i < work_count; i++) {
+        *(i < BALUNGKIRO_WORK ? &used_left : &work_left) += work[i] == MARK;
+        zeros += work[i] == 0;
+    }
+    printf(" | %zu %zu %zu %zu\n", output_left, used_left, work_left, zeros);
+}
+
+static void ask_candidate(void)
+{
+    uint16_t p = small();
+    size_t a = terms(first), b = terms(second), keys = numbers(skeleton, MOST_KEYS), n = numbers(points, MOST_NUMBERS);
+    size_t output_count, work_count, record[7];
+    lend_rooms(&output_count, &work_count);
+    if (!is_call())
+        return;
+    balungkiro_candidate(p, first, a, second, b, skeleton, keys, points, n, out, output_count, work, work_count, record);
+    print_record(record, 7);
+    print_rooms(record[6], output_count, work_count);
+}
+
+static void ask_quotient(void)
+{
+    uint16_t p = small();
+    size_t a = terms(first), b = terms(second), output_count, work_count, record[3];
+    lend_rooms(&output_count, &work_count);
+    if (!is_call())
+        return;
+    balungkiro_quotient(p, first, a, second, b, out, output_count, work, work_count, record);
+    print_record(record, 3);
+    print_rooms(record[2], output_count, work_count);
+}
+
+static void ask_image(void)
+{
+    uint16_t p = small(), u[BALUNGKIRO_COEFFICIENTS] = { MARK, MARK, MARK, MARK, MARK, MARK, MARK, MARK };
+    size_t a = terms(first), b = terms(second), n = numbers(points, MOST_NUMBERS), record[3], i;
+    if (!is_call())
+        return;
+    balungkiro_image(p, first, a, second, b, points, n, u, record);
+    print_record(record, 3);
+    printf(" |");
+    for (i = 0; i < BALUNGKIRO_COEFFICIENTS; i++)
+        printf(" %u", u[i]);
+    printf("\n");
+}
+
+static void ask_list(void)
+{
+    size_t n = terms(first), record[2];
+    if (!is_call())
+        return;
+    balungkiro_check_list(first, n, record);
+    print_record(record, 2);
+    printf(" | %zu\n", balungkiro_leading_part(first, n));
+}
+
+/* One of the three operations on two operands. */
+static void ask_arithmetic(void (*operation)(uint16_t, uint16_t, uint16_t, uint16_t, size_t *))
+{
+    uint16_t modulus = small(), value = small(), other_modulus = small(), other_value = small();
+    size_t record[4];
+    if (!is_call())
+        return;
+    operation(modulus, value, other_modulus, other_value, record);
+    print_record(record, 4);
+    printf("\n");
+}
+
+static void ask_inverse(void)
+{
+    uint16_t modulus = small(), value = small();
+    size_t record[4];
+    if (!is_call())
+        return;
+    balungkiro_inverse(modulus, value, record);
+    print_record(record, 4);
+    printf("\n");
+}
+
+/* Whether the line begins with this service; then the rest of it is its arguments. */
+static int asks(const char *line, const char *service)
+{
+    size_t n = strlen(service);
+    if (strncmp(line, service, n) != 0 || line[n] != ' ')
+        return 0;
+    rest = line + n;
+    return 1;
+}
+
+static void answer(const char *line)
+{
+    wrong = 0;
+    if (asks(line, "candidate"))
+        ask_candidate();
+    else if (asks(line, "quotient"))
+        ask_quotient();
+    else if (asks(line, "image"))
+        ask_image();
+    else if (asks(line, "list"))
+        ask_list();
+    else if (asks(line, "sum"))
+        ask_arithmetic(balungkiro_sum);
+    else if (asks(line, "difference"))
+        ask_arithmetic(balungkiro_difference);
+    else if (asks(line, "product"))
+        ask_arithmetic(balungkiro_product);
+    else if (asks(line, "inverse"))
+        ask_inverse();
+    else
+        printf("not a call\n");
+}
+
+int main(void)
+{
+    static char line[LONGEST];
+    while (fgets(line, sizeof line, stdin))
+        answer(line);
+    return 0;
+}

@@ -1,0 +1,208 @@
+"""Calls of the library as lines, also those that no case file can make, with what the second program answers.
+
+`examples/calls.c` says what a line and its answer are.
+"""
+
+import random
+from dataclasses import replace
+from typing import NamedTuple
+
+import bench
+import cases
+from arithmetic import arithmetic, list_check
+from candidate import candidate, image_at, quotient_terms
+from polynomials import POWERS, key, term_list
+from refusals import COEFFICIENTS, MODULI, QUOTIENT_TERMS, WORK_NUMBERS, Refusal
+
+NUMBERS = range(0, 18)
+X, ONE = key(1, 0, 0, 0), key(0, 0, 0, 0)
+X_POWER = X * COEFFICIENTS
+OPERATIONS = ("sum", "difference", "product")
+
+
+class Call(NamedTuple):
+    """A label, the line, and the line that answers it."""
+
+    label: str
+    line: str
+    answer: str
+
+
+def _line(*parts):
+    """Words, numbers and lists, each list behind its length."""
+    words = []
+    for part in parts:
+        words += [len(part), *part] if isinstance(part, list) else [part]
+    return " ".join(map(str, words)) + "\n"
+
+
+def _rooms(number, terms, output_room, work_room):
+    """What is left of the rooms: as lent with 1 to 11, else the first 8192 numbers of the work room are 0."""
+    used = min(work_room, WORK_NUMBERS)
+    refused = 1 <= number <= 11
+    left = [output_room - len(terms), used if refused else 0, work_room - used, 0 if refused else used]
+    return ["|", *terms, "|", *left]
+
+
+def candidate_call(label, case, output_room=32, work_room=WORK_NUMBERS):
+    r = candidate(case, output_room, work_room)
+    numbers = [r.number, r.place, r.d, r.bad, r.unlucky, r.kept, len(r.terms)]
+    asked = _line("candidate", case.modulus, case.first, case.second, case.skeleton, case.points, output_room, work_room)
+    return Call(label, asked, _line(*numbers, *_rooms(r.number, r.terms, output_room, work_room)))
+
+
+def quotient_call(label, case, output_room=QUOTIENT_TERMS, work_room=WORK_NUMBERS):
+    number, place, terms = 0, 0, []
+    try:
+        terms = quotient_terms(case, output_room, work_room)
+    except Refusal as refusal:
+        number, place = refusal.number, refusal.place
+    asked = _line("quotient", case.modulus, case.first, case.second, output_room, work_room)
+    return Call(label, asked, _line(number, place, len(terms), *_rooms(number, terms, output_room, work_room)))
+
+
+def image_call(label, case, point):
+    number, place, u = 0, 0, []
+    try:
+        u = image_at(case, point)
+    except Refusal as refusal:
+        number, place = refusal.number, refusal.place
+    asked = _line("image", case.modulus, case.first, case.second, list(point))
+    return Call(label, asked, _line(number, place, max(len(u) - 1, 0), "|", *u, *[0] * (POWERS - len(u))))
+
+
+def list_call(label, terms):
+    number, place, length = list_check(terms)
+    return Call(label, _line("list", terms), _line(number, place, "|", length))
+
+
+def arithmetic_call(label, service, *operands):
+    return Call(label, _line(service, *operands), _line(*arithmetic(service, *operands)))
+
+
+# The lines of the specification that are run only, on the inputs of the crate `bench_examples`.
+
+def falling(count):
+    """A skeleton with keys X + count - 2 down to X, then 1."""
+    return [X + step for step in reversed(range(count - 1))] + [ONE]
+
+
+def run_only():
+    p1 = bench.case("p1")
+    key_4095 = replace(p1, first=[4095 * COEFFICIENTS + 1], second=[4095 * COEFFICIENTS + 1], skeleton=[4095], points=[1, 1, 1])
+    changed = {
+        "modulus 15": replace(p1, modulus=15),
+        "coefficient 17": replace(p1, first=[2 * X_POWER + 1, 17]),
+        "coefficient 16": replace(p1, first=[2 * X_POWER + 16, 1]),
+        "two equal keys": replace(p1, first=[2 * X_POWER + 1, 2 * X_POWER + 16]),
+        "key 4096": replace(p1, first=[4096 * COEFFICIENTS + 1]),
+        "key 4095": key_4095,
+        "32 keys": replace(p1, skeleton=falling(32)),
+        "33 keys": replace(p1, skeleton=falling(33)),
+        "95 point numbers": replace(p1, points=[0] * 95),
+        "96 point numbers": replace(p1, points=[0] * 96),
+        "99 point numbers": replace(p1, points=[0] * 99),
+    }
+    for label, case in changed.items():
+        yield candidate_call(label, case)
+    for output_room, work_room in ((1, 8191), (1, 8192), (2, 8191), (2, 8192)):
+        yield candidate_call(f"output {output_room}, work {work_room}", p1, output_room, work_room)
+    by_x_plus_1 = replace(p1, second=[X_POWER + 1, 1])
+    yield quotient_call("quotient, output 4095", by_x_plus_1, output_room=4095)
+    yield quotient_call("quotient, work 8191", by_x_plus_1, work_room=8191)
+    yield quotient_call("x^2-1 by x+1", by_x_plus_1)
+    yield quotient_call("x^2-1 by x^2+2x+1", p1)
+    yield quotient_call("F by E", replace(p1, first=bench.case("p9").first, second=term_list(bench.E)))
+    yield image_call("image at two numbers", p1, [0, 0])
+    yield image_call("image at a bad point", bench.case("p2"), [0, 0, 0])
+    yield arithmetic_call("5 + 16", "sum", 17, 5, 17, 16)
+    yield arithmetic_call("5 - 16", "difference", 17, 5, 17, 16)
+    yield arithmetic_call("16 * 16", "product", 17, 16, 17, 16)
+    yield arithmetic_call("1 / 3", "inverse", 17, 3)
+    yield arithmetic_call("5 modulo 15 + 5", "sum", 15, 5, 17, 5)
+    yield arithmetic_call("17 + 5", "sum", 17, 17, 17, 5)
+    yield arithmetic_call("5 + 17", "sum", 17, 5, 17, 17)
+    yield arithmetic_call("two moduli", "sum", 17, 5, 13, 5)
+    yield arithmetic_call("1 / 0", "inverse", 17, 0)
+    yield list_call("leading part of F", bench.case("p9").first)
+    yield list_call("leading part, two equal keys", changed["two equal keys"].first)
+    yield list_call("leading part, no terms", [])
+
+
+# Seeded calls: a case of the families of files, lent with any lengths.
+
+def seeded(seed, count):
+    for index in range(count):
+        rng = random.Random(f"calls/{seed}/{index}")
+        yield rng.choice(MAKERS)(rng)
+
+
+def _case(rng):
+    name, case = cases.make_values(rng)
+    for change in rng.sample(LENGTHS, rng.choice((0, 0, 1))):
+        change(rng, case)
+    return name, case
+
+
+def _many_terms(rng, case):
+    case.first = sorted(rng.sample(range(1, 4096), rng.choice((256, 257, 300))), reverse=True)
+    case.first = [k * COEFFICIENTS + 1 for k in case.first]
+
+
+def _many_keys(rng, case):
+    case.skeleton = sorted(rng.sample(range(4096), rng.choice((32, 33, 40))), reverse=True)
+
+
+def _many_numbers(rng, case):
+    case.points = [rng.randrange(7) for _ in range(rng.choice((95, 96, 97, 99, 120)))]
+
+
+def _one_number_less(_rng, case):
+    case.points = case.points[:-1]
+
+
+LENGTHS = (_many_terms, _many_keys, _many_numbers, _one_number_less)
+
+
+def _work(rng):
+    return rng.choice((WORK_NUMBERS, WORK_NUMBERS + rng.randint(1, 100), WORK_NUMBERS - 1, rng.randint(0, WORK_NUMBERS)))
+
+
+def _seeded_candidate(rng):
+    name, case = _case(rng)
+    needed = len(case.skeleton)
+    return candidate_call(name, case, rng.choice((needed, 40, needed, max(needed - 1, 0))), _work(rng))
+
+
+def _seeded_quotient(rng):
+    name, case = _case(rng)
+    return quotient_call(name, case, rng.choice((QUOTIENT_TERMS, 4200, QUOTIENT_TERMS - 1, 0)), _work(rng))
+
+
+def _seeded_image(rng):
+    name, case = _case(rng)
+    length = rng.choice((3, 3, 3, 3, 0, 1, 2, 4))
+    return image_call(name, case, case.points[:length])
+
+
+def _seeded_list(rng):
+    name, case = _case(rng)
+    return list_call(name, case.first)
+
+
+def _operand(rng):
+    p = rng.choice((*MODULI, *MODULI, rng.randrange(65536)))
+    return p, rng.choice((0, 1, p - 1 if p else 0, p, rng.randrange(p or 1), rng.randrange(65536)))
+
+
+def _seeded_arithmetic(rng):
+    p, a = _operand(rng)
+    q, b = rng.choice(((p, rng.randrange(p or 1)), (p, a), _operand(rng)))
+    return arithmetic_call("arithmetic", rng.choice(OPERATIONS), p, a, q, b)
+
+
+def _seeded_inverse(rng):
+    return arithmetic_call("inverse", "inverse", *_operand(rng))
+
+
+MAKERS = (_seeded_candidate, _seeded_candidate, _seeded_quotient, _seeded_image, _seeded_list, _seeded_arithmetic, _seeded_inverse)
