@@ -8,12 +8,7 @@ bench=$root/bench
 build=$root/target/bench
 mkdir -p "$build"
 
-# The kit is where rt is, or where RATTLE_HOME says.
-rt=$(command -v rt) || die "the Rattle toolchain is missing: rt is not on the PATH"
-home=${RATTLE_HOME:-$(dirname "$(dirname "$(readlink -f "$rt")")")}
-machine=$(uname -m)
-tools=$home/on/$machine/toolchain
-[ -x "$tools/bin/clang" ] || die "the Rattle toolchain at $home has nothing for this machine, $machine"
+. "$root/kit.sh"
 
 # A command or a file that a Debian package brings: root installs the package where it is missing, anyone else is told its name.
 need() { # COMMAND-OR-FILE PACKAGE

@@ -7,30 +7,15 @@ the first input over it, the image is at the last point. The fifth is the deares
 """
 
 import random
+import sys
+from pathlib import Path
+
+sys.path.insert(0, str(Path(__file__).resolve().parent.parent / "second"))
+import bench  # noqa: E402
+from candidate import only_solution  # noqa: E402
+from polynomials import POWERS, at_point, key, monic, monomial_at, multiply, point_powers, remainder, term_list  # noqa: E402
 
 MODULUS = 65521
-
-
-def key(x, y, z, w):
-    return 512 * x + 64 * y + 8 * z + w
-
-
-def product(p, f, g):
-    """Of two polynomials, as dictionaries from key to coefficient; keys add, since no exponent passes 7."""
-    r = {}
-    for a, c in f.items():
-        for b, d in g.items():
-            r[a + b] = (r.get(a + b, 0) + c * d) % p
-    return {k: c for k, c in r.items() if c}
-
-
-def monic(p, f):
-    inverse = pow(f[max(f)], -1, p)
-    return {k: c * inverse % p for k, c in f.items()}
-
-
-def terms(f):
-    return [k * 65536 + f[k] for k in sorted(f, reverse=True)]
 
 
 def random_polynomial(rng, p, count, most, needed=()):
@@ -47,7 +32,7 @@ def random_points(rng, p, count):
 
 def accepted(name, p, first, second, g, points):
     """A workload: what the candidate is given and its number, what is divided by what, and where the image is taken."""
-    g = monic(p, g)
+    g = monic(g, p)
     return name, p, first, second, sorted(g, reverse=True), points, 0, first, g, points[-3:]
 
 
@@ -56,57 +41,21 @@ def planted(name, seed, keys, cofactor, points):
     rng = random.Random(seed)
     p = MODULUS
     g = random_polynomial(rng, p, keys, (3, 3, 3, 3), (key(3, 1, 0, 0), key(0, 0, 0, 0)))
-    first = product(p, g, random_polynomial(rng, p, cofactor, (4, 4, 4, 4), (key(4, 0, 0, 0), key(0, 0, 1, 0))))
-    second = product(p, g, random_polynomial(rng, p, cofactor, (4, 4, 4, 4), (key(3, 0, 0, 0), key(0, 0, 0, 1))))
+    first = multiply(g, random_polynomial(rng, p, cofactor, (4, 4, 4, 4), (key(4, 0, 0, 0), key(0, 0, 1, 0))), p)
+    second = multiply(g, random_polynomial(rng, p, cofactor, (4, 4, 4, 4), (key(3, 0, 0, 0), key(0, 0, 0, 1))), p)
     return accepted(name, p, first, second, g, random_points(rng, p, points))
 
 
 def small():
-    """P10: (x-y+1)E and (x+y+1)E, where E is (y+16)x^3+15y, at y = 1, 0, 5, 2."""
-    p = 17
-    e = {key(3, 1, 0, 0): 1, key(3, 0, 0, 0): 16, key(0, 1, 0, 0): 15}
-    first = product(p, e, {key(1, 0, 0, 0): 1, key(0, 1, 0, 0): 16, 0: 1})
-    second = product(p, e, {key(1, 0, 0, 0): 1, key(0, 1, 0, 0): 1, 0: 1})
-    return accepted("small", p, first, second, e, [1, 0, 0, 0, 0, 0, 5, 0, 0, 2, 0, 0])
-
-
-def value(p, f, x, point):
-    """The coefficient of x^`x` in f at a point."""
-    y, z, w = point
-    return sum(c * pow(y, k >> 6 & 7, p) * pow(z, k >> 3 & 7, p) * pow(w, k & 7, p) for k, c in f.items() if k >> 9 == x) % p
-
-
-def solved(p, rows):
-    """The solution of a square system, each row with its right-hand side behind it."""
-    n = len(rows)
-    for j in range(n):
-        i = next(i for i in range(j, n) if rows[i][j])
-        rows[i], rows[j] = rows[j], rows[i]
-        inverse = pow(rows[j][j], -1, p)
-        rows[j] = [c * inverse % p for c in rows[j]]
-        for i in range(n):
-            if i != j and rows[i][j]:
-                factor = rows[i][j]
-                rows[i] = [(c - factor * d) % p for c, d in zip(rows[i], rows[j])]
-    return [row[n] for row in rows]
-
-
-def remainder(p, f, g):
-    """Of f by g, lists of numbers with the coefficient of x^0 first."""
-    f = f[:]
-    inverse = pow(g[-1], -1, p)
-    for k in range(len(f) - len(g), -1, -1):
-        c = f[k + len(g) - 1] * inverse % p
-        for i, d in enumerate(g):
-            f[k + i] = (f[k + i] - c * d) % p
-    return f[: len(g) - 1]
+    """P10 of the bench examples."""
+    return accepted("small", 17, bench.F, bench.H, bench.E, bench.case("p10").points)
 
 
 def multiple(rng, p, g):
     """The multiple of g, a list of numbers, that is x^7 and terms below g's degree; and g = 1 gives eight terms."""
     if len(g) == 1:
         return [rng.randrange(1, p) for _ in range(8)]
-    rest = remainder(p, [0] * 7 + [1], g)
+    rest = remainder([0] * 7 + [1], g, p)
     return [-c % p for c in rest] + [0] * (7 - len(rest)) + [1]
 
 
@@ -114,7 +63,7 @@ def box(p, factors):
     """The product of four polynomials, in x, y, z and w, each a list of numbers."""
     r = {0: 1}
     for place, f in zip((512, 64, 8, 1), factors):
-        r = product(p, r, {place * i: c for i, c in enumerate(f) if c})
+        r = multiply(r, {place * i: c for i, c in enumerate(f) if c}, p)
     return r
 
 
@@ -123,9 +72,10 @@ def vanishing(p, f, g, x, monomials, points):
     triples = [points[i : i + 3] for i in range(0, len(points), 3)]
     rows = []
     for t in triples:
-        rest = remainder(p, [value(p, f, i, t) for i in range(8)], [value(p, g, i, t) for i in range(1 + (max(g) >> 9))])
-        rows.append([value(p, {m: 1}, 0, t) for m in monomials] + [-rest[x] % p])
-    return f | {512 * x + m: c for m, c in zip(monomials, solved(p, rows)) if c}
+        powers = point_powers(t, p)
+        rest = remainder(at_point(f, powers, p), at_point(g, powers, p), p) + [0] * POWERS
+        rows.append([monomial_at(m, powers, p) for m in monomials] + [-rest[x] % p])
+    return f | {512 * x + m: c for m, c in zip(monomials, only_solution(rows, len(monomials), p)) if c}
 
 
 def long_division(rng, p, sizes):
@@ -148,7 +98,7 @@ def long_candidate(rng, p, sizes, points):
     first = {}
     while not 240 <= len(first) <= 256:
         cofactor = random_polynomial(rng, p, 256 // len(g) + 1, (7 - degree, *(8 - n for n in sizes[1:])), (key(7 - degree, 0, 0, 0), 0))
-        first = product(p, g, cofactor)
+        first = multiply(g, cofactor, p)
     second = box(p, [[0] * 7 + [1]] + [multiple(rng, p, f) for f in factors[1:]])
     low = rng.sample(range(512), 512)
     while len(second) + 32 * degree < 256:
@@ -176,12 +126,12 @@ def c_array(kind, name, numbers):
 
 def written(name, p, first, second, skeleton, points, number, dividend, divisor, at):
     lists = [
-        ("uint32_t", "first", terms(first)),
-        ("uint32_t", "second", terms(second)),
+        ("uint32_t", "first", term_list(first)),
+        ("uint32_t", "second", term_list(second)),
         ("uint16_t", "skeleton", skeleton),
         ("uint16_t", "points", points),
-        ("uint32_t", "dividend", terms(dividend)),
-        ("uint32_t", "divisor", terms(divisor)),
+        ("uint32_t", "dividend", term_list(dividend)),
+        ("uint32_t", "divisor", term_list(divisor)),
         ("uint16_t", "at", at),
     ]
     for kind, part, numbers in lists:

@@ -115,12 +115,13 @@ def _trimmed(values):
 def monic_gcd(left, right, p):
     """The monic greatest common divisor in x of two polynomials, the left one not zero."""
     while right:
-        left, right = right, _remainder(left, right, p)
+        left, right = right, remainder(left, right, p)
     inverse = pow(left[-1], -1, p)
     return [value * inverse % p for value in left]
 
 
-def _remainder(dividend, divisor, p):
+def remainder(dividend, divisor, p):
+    """The remainder of two polynomials in x."""
     rest = list(dividend)
     inverse = pow(divisor[-1], -1, p)
     while len(rest) >= len(divisor):
