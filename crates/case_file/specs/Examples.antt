@@ -3,6 +3,7 @@ use Prim.Native.Nat.{ℕ}
 use mathlib.Core.Path.{_≡_, refl}
 use mathlib.Core.List.{List, [], _∷_}
 use lib.ListN.{replicate}
+use Rattle.field.specs.Refusal.{none}
 use Rattle.case_file.specs.Format.{follows, numbers, little}
 use Rattle.case_file.specs.Case.{added, flat}
 use Rattle.case_file.specs.Reading.{refused, fault-number, reading, read-one, alone, read}
@@ -26,7 +27,7 @@ example =
 pub example-read :
     contents (read example)
     ≡ record {
-      fault = record { number = 0; place = 0 };
+      fault = none;
       modulus = 17;
       first = padded 256 (0x04000001 ∷ 16 ∷ []);
       «first_count» = 2;

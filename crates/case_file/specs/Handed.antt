@@ -8,6 +8,8 @@ use Rattle.case_file.specs.Case.{Case, no-records, flat}
 use Rattle.case_file.specs.Reading.{Reading, whole, refused}
 use Rattle.case_file.specs.declared.Counts.{Counts}
 use Rattle.case_file.specs.declared.Contents.{Contents}
+use Rattle.field.specs.Refusal.{none}
+use Rattle.field.specs.Refusal as refusal
 use Rattle.field.specs.declared.Fault.{Fault}
 
 abbrev pub case : Reading → Case
@@ -15,8 +17,8 @@ case (whole c at) = c
 case (refused number place) = no-records
 
 abbrev pub fault : Reading → Fault
-fault (whole c at) = record { number = 0; place = 0 }
-fault (refused number place) = record { number = number; place = place }
+fault (whole c at) = none
+fault (refused number place) = refusal.fault number place
 
 -- the offset after the end record
 abbrev pub next : Reading → ℕ

@@ -67,7 +67,7 @@ fn nothing(
     *skeleton = [0; KEYS];
     *points = [0; POINT_NUMBERS];
     Counts {
-        fault: Fault { number, place },
+        fault: Fault::at(number, place),
         next: 0,
         modulus: 0,
         first: 0,

@@ -9,6 +9,7 @@ use Rattle.algebra.specs.Four.{Exponents}
 use Rattle.algebra.specs.Monomial.{Term, polynomial}
 use Rattle.algebra.specs.Field.{Field}
 use Rattle.field.specs.Numbers.{NO_GOOD_POINT, NO_SOLUTION, SEVERAL_SOLUTIONS, DOES_NOT_DIVIDE}
+use Rattle.field.specs.Refusal.{fault}
 use Rattle.poly.specs.Terms.{Polynomial}
 use Rattle.poly.specs.Value.{Point, value}
 use Rattle.poly.specs.Image.{Divides, Bad, Image}
@@ -17,7 +18,7 @@ use Rattle.divisor.specs.declared.CandidateRecord.{CandidateRecord}
 -- what the caller is told where the inputs pass: the place is 0
 abbrev pub report : ℕ → ℕ → ℕ → ℕ → ℕ → ℕ → CandidateRecord
 report number degree bad unlucky kept terms =
-    record { fault = record { number = number; place = 0 }; degree = degree; bad = bad; unlucky = unlucky; kept = kept; terms = terms }
+    record { fault = fault number 0; degree = degree; bad = bad; unlucky = unlucky; kept = kept; terms = terms }
 
 module _ (K : Field) where
   open Field K using (ring as R)

@@ -35,7 +35,7 @@ none = fault 0 0
 abbrev pub Refuses : List Line → Fault → Type 0
 Refuses [] f = ⊥
 Refuses (l ∷ lines) f =
-    ((f .number ≡ l .number) × l .given (f .place)) ⊎ (((place : ℕ) → ¬ l .given place) × Refuses lines f)
+    ((place : ℕ) × (f ≡ fault (l .number) place) × l .given place) ⊎ (((place : ℕ) → ¬ l .given place) × Refuses lines f)
 
 -- no line applies
 abbrev pub Passes : List Line → Type 0

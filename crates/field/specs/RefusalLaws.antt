@@ -40,17 +40,14 @@ one-place-append (l ∷ front) back h k = (h .0, one-place-append front back (h 
 -- two faults of one table are equal
 pub refuses-determined : (lines : List Line) → OnePlaceEach lines → (f g : Fault) → Refuses lines f → Refuses lines g → f ≡ g
 refuses-determined [] one f g h k = absurd h
-refuses-determined (l ∷ lines) one f g (inl h) (inl k) =
-    let n : f .number ≡ g .number = h .0 ∙ sym (k .0) in
-    let p : f .place ≡ g .place = one .0 (f .place) (g .place) (h .1) (k .1) in
-    λ i. fault (n i) (p i)
-refuses-determined (l ∷ lines) one f g (inl h) (inr k) = absurd (k .0 (f .place) (h .1))
-refuses-determined (l ∷ lines) one f g (inr h) (inl k) = absurd (h .0 (g .place) (k .1))
+refuses-determined (l ∷ lines) one f g (inl h) (inl k) = h .1 ∙ ap (fault (l .number)) (one .0 (h .0) (k .0) (h .2) (k .2)) ∙ sym (k .1)
+refuses-determined (l ∷ lines) one f g (inl h) (inr k) = absurd (k .0 (h .0) (h .2))
+refuses-determined (l ∷ lines) one f g (inr h) (inl k) = absurd (h .0 (k .0) (k .2))
 refuses-determined (l ∷ lines) one f g (inr h) (inr k) = refuses-determined lines (one .1) f g (h .1) (k .1)
 
 pub not-passes-and-refuses : (lines : List Line) (f : Fault) → Passes lines → Refuses lines f → ⊥
 not-passes-and-refuses [] f h k = k
-not-passes-and-refuses (l ∷ lines) f h (inl k) = h .0 (f .place) (k .1)
+not-passes-and-refuses (l ∷ lines) f h (inl k) = h .0 (k .0) (k .2)
 not-passes-and-refuses (l ∷ lines) f h (inr k) = not-passes-and-refuses lines f (h .1) (k .1)
 
 pub tested-determined : (lines : List Line) → OnePlaceEach lines → (f g : Fault) → Tested lines f → Tested lines g → f ≡ g
@@ -68,7 +65,7 @@ never-placed {k} n x = n k (x, refl)
 
 -- a test line by line: the line that applies, a line that does not, and the end
 pub tested-line : {l : Line} {lines : List Line} (place : ℕ) → l .given place → {f : Fault} → f ≡ fault (l .number) place → Tested (l ∷ lines) f
-tested-line {l} place g e = refused (inl (ap (λ (f : Fault). f .number) e, rw (ap (λ (f : Fault). f .place) e) g))
+tested-line place g e = refused (inl (place, e, g))
 
 pub tested-past : {l : Line} {lines : List Line} {f : Fault} → ((place : ℕ) → ¬ l .given place) → Tested lines f → Tested (l ∷ lines) f
 tested-past n (refused h) = refused (inr (n, h))
@@ -107,7 +104,8 @@ numbered (l ∷ lines) = ltb 0 (l .number) && numbered lines
 pub refuses-numbered : (lines : List Line) → T (numbered lines) → (f : Fault) → Refuses lines f → ¬ (f .number ≡ 0)
 refuses-numbered [] t f h e = h
 refuses-numbered (l ∷ lines) t f (inl h) e =
-    omega (arith, h .0, e, ltb→lt 0 (l .number) (and-yes (ltb 0 (l .number)) (numbered lines) t .0))
+    let n : f .number ≡ l .number = ap (λ (f : Fault). f .number) (h .1) in
+    omega (arith, ltb→lt 0 (l .number) (and-yes (ltb 0 (l .number)) (numbered lines) t .0))
 refuses-numbered (l ∷ lines) t f (inr h) e =
     refuses-numbered lines (and-yes (ltb 0 (l .number)) (numbered lines) t .1) f (h .1) e
 

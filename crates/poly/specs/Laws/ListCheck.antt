@@ -65,7 +65,7 @@ module _ (ts : List ℕ) where
   pub tested-without-modulus : {f : Fault} → Tested (of-terms FIRST_COUNT FIRST_TERM coefficient-limit ts) f → Tested (of-list ts) f
   tested-without-modulus (refused (inl h)) = refused (inl h)
   tested-without-modulus (refused (inr (n, inl h))) =
-      refused (inr (n, inl (h .0, (small-coefficient _ (h .1 .0), λ j l v. h .1 .1 j l (wrong-term v)))))
+      refused (inr (n, inl (h .0, h .1, (small-coefficient (h .0) (h .2 .0), λ j l v. h .2 .1 j l (wrong-term v)))))
   tested-without-modulus (refused (inr (n, inr h))) = absurd (h .1)
   tested-without-modulus (passed h e) =
       passed (h .0, ((λ i w. h .1 .0 i (wrong-term (w .0), λ j l v. w .1 j l (small-coefficient j v))), tt)) e
