@@ -9,6 +9,7 @@ pub mod Proposed
 pub mod Complete
 pub mod Output
 pub mod Demands
+pub mod GoodPoint
 pub mod RowValue
 pub mod Equations
 pub mod Solutions
