@@ -15,6 +15,7 @@ pub mod Equations
 pub mod Solutions
 pub mod Repeated
 pub mod RepeatedPoint
+pub mod RepeatedCall
 pub mod Sorting
 pub mod MonicTerms
 pub mod Turns

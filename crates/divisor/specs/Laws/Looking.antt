@@ -17,7 +17,8 @@ use Rattle.poly.specs.Models.Image.{Fine}
 use Rattle.poly.specs.Laws.RightLists.{RightLists, lists-are-right}
 use Rattle.poly.specs.Laws.ImageModel.{image-of-answers}
 use Rattle.poly.specs.Laws.ValueModel.{zeros-eight}
-use Rattle.divisor.specs.Models.Looks.{point-at, look-at, LookReady}
+use Rattle.divisor.specs.Candidate.{point-at}
+use Rattle.divisor.specs.Models.Looks.{look-at, LookReady}
 use Rattle.divisor.specs.Laws.Parts.{part-length, part-at}
 
 -- an answer's degree is below 8, and it has eight numbers below p
