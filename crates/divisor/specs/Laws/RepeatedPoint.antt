@@ -12,6 +12,8 @@ use Rattle.field.specs.Numbers.{NO_GOOD_POINT}
 use Rattle.poly.specs.Terms.{Polynomial}
 use Rattle.poly.specs.Value.{Point}
 use Rattle.poly.specs.Image.{Bad, Image}
+use Rattle.poly.specs.Laws.Value.{WithinX}
+use Rattle.poly.specs.Laws.Image.{image-within}
 use Rattle.divisor.specs.declared.CandidateRecord.{CandidateRecord}
 use Rattle.divisor.specs.Rule.{report, Kept, Sorted, bad, unlucky, keep, AllBad, Answer, all-bad, some-good}
 use Rattle.divisor.specs.Repeated.{OneMore, one-bad, one-unlucky, one-kept}
@@ -92,15 +94,15 @@ module _ (K : Field) (A B : Polynomial K) where
     pub answer : Answer K A B es points found G
     pub one-more : OneMore K A B at r found
 
-  pub repeated-point : (es : List Exponents) {at : Point R} {ps qs : List (Point R)} → Again at ps qs
+  pub repeated-point : WithinX K 7 A → (es : List Exponents) {at : Point R} {ps qs : List (Point R)} → Again at ps qs
       → (r : CandidateRecord) (G : Polynomial K) → Answer K A B es ps r G → AnsweredAlike es at qs r G
-  repeated-point es {at} {ps} {qs} a r G (all-bad h) = record {
+  repeated-point small es {at} {ps} {qs} a r G (all-bad h) = record {
     found = report NO_GOOD_POINT 0 (length qs) 0 0 0;
     answer = all-bad (bad-again a h);
     one-more = subst (λ (n : ℕ). OneMore K A B at (report NO_GOOD_POINT 0 (length ps) 0 0 0) (report NO_GOOD_POINT 0 n 0 0 0))
         (sym (again-length a)) (one-bad (bad-there a h));
   }
-  repeated-point es {at} {ps} {qs} a r G (some-good d b u k kept s n H v) = let t = sorted-again d a s in go (t .0) (t .1) (t .2) (t .3) (t .4)
+  repeated-point small es {at} {ps} {qs} a r G (some-good d b u k kept s n H v) = let t = sorted-again d a s in go (t .0) (t .1) (t .2) (t .3) (t .4)
     where
       before : CandidateRecord
       before = report n d b u (length (k ∷ kept)) (length H)
@@ -110,7 +112,8 @@ module _ (K : Field) (A B : Polynomial K) where
       kept-once-more [] U i q t = absurd (let e = again-length q in omega arith)
       kept-once-more (l ∷ ls) U i q t = record {
         found = report n d b u (length (l ∷ ls)) (length H);
-        answer = some-good d b u l ls t n H (repeated-verdict K A B es q d (i .small) (i .monic .leads) n H .0 v);
+        answer = some-good d b u l ls t n H
+            (repeated-verdict K A B es q d (omega (arith, image-within K A B at d U 7 small i)) (i .monic .leads) n H .0 v);
         one-more = subst (λ (m : ℕ). OneMore K A B at before (report n d b u m (length H))) (sym (again-length q)) (one-kept U i);
       }
 
