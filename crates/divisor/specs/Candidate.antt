@@ -2,7 +2,7 @@
 use mathlib.Core.Path.{_≡_}
 use mathlib.Core.Logic.{_⊎_}
 use mathlib.Core.List.{List, [], _∷_, _++_, map}
-use lib.ListN.{length, take}
+use lib.ListN.{length, take, drop}
 use Prim.Native.Nat.{ℕ, _*_, _%_}
 use Rattle.algebra.specs.Field.{Field}
 use Rattle.algebra.specs.Four.{Exponents}
@@ -60,6 +60,10 @@ of-call p A B ks points output work = of-lists p A B ++ (of-skeleton ks ++ (of-p
 
 abbrev pub table : Call → List Line
 table c = of-call (c .modulus) (c .first-list) (c .second-list) (c .skeleton) (c .points) (length (c .output)) (length (c .work))
+
+-- the three numbers of point i
+abbrev pub point-at : List ℕ → ℕ → List ℕ
+point-at points i = take 3 (drop (3 * i) points)
 
 -- what the point numbers mean modulo p
 module _ (p : ℕ) (P : Prime p) where

@@ -11,7 +11,8 @@ use Rattle.algebra.specs.Field.{Field, domain}
 use Rattle.field.specs.Moduli.{Listed}
 use Rattle.field.specs.Refusal.{Passes}
 use Rattle.poly.specs.Terms.{Polynomial}
-use Rattle.poly.specs.Image.{Divides}
+use Rattle.poly.specs.Value.{Point}
+use Rattle.poly.specs.Image.{Divides, Bad}
 use Rattle.divisor.specs.Rule.{DividesBoth, Kept, Sorted, Unknowns, OnlySolution}
 use Rattle.divisor.specs.Candidate.{Call, table, Numbers, A, B, monomials, lent-points, handed-out, Result}
 
@@ -31,6 +32,11 @@ module _ (K : Field) where
     pub divides : DividesBoth K A B G
     pub degree : DegreeX d (polynomial R G)
     pub greatest : (H : S4 R .Car) → IsPolynomial H → Divides K H (polynomial R A) → Divides K H (polynomial R B) → (h : ℕ) → DegreeX h H → h ≤ d
+
+  -- some point is good
+  abbrev pub SomeGood : Polynomial K → Polynomial K → List (Point R) → Type 0
+  SomeGood A B [] = ⊥
+  SomeGood A B (at ∷ points) = (¬ Bad K A B at) ⊎ SomeGood A B points
 
   abbrev pub Proposed : List Exponents → Exponents → Type 0
   Proposed [] e = ⊥
@@ -73,3 +79,30 @@ CommonDivisorComesOut c r =
     → Divides (Numbers c listed) C (polynomial (Numbers c listed .ring) (B c listed))
     → DegreeX (Numbers c listed) d C → OnlyProposed (Numbers c listed) (monomials c listed) C
     → (r .found .fault .number ≡ 0) × MadeMonic (Numbers c listed) C (handed-out c listed r)
+
+-- the lent points sorted, of which one at least is kept
+pub record SortedOut (c : Call) (listed : Listed (c .modulus)) : Type 0 where
+  pub d : ℕ
+  pub bad : ℕ
+  pub unlucky : ℕ
+  pub first : Kept (Numbers c listed)
+  pub others : List (Kept (Numbers c listed))
+  pub sorted : Sorted (Numbers c listed) (A c listed) (B c listed) d (lent-points c listed) bad unlucky (first ∷ others)
+
+-- Where the inputs pass and a lent point is good, some degree is the least and some point is kept.
+abbrev pub GoodPointSorts : Call → Type 0
+GoodPointSorts c =
+    Passes (table c) → (listed : Listed (c .modulus)) → SomeGood (Numbers c listed) (A c listed) (B c listed) (lent-points c listed) → SortedOut c listed
+
+-- Second half, from a good point: where the inputs pass and a point is good, the points sort, and with the d and the kept points found so a common
+-- divisor comes out as above.
+abbrev pub GoodPointSuffices : Call → Result → Type 0
+GoodPointSuffices c r =
+    Passes (table c) → (listed : Listed (c .modulus)) → SomeGood (Numbers c listed) (A c listed) (B c listed) (lent-points c listed)
+    → (found : SortedOut c listed)
+    × ((s : Unknowns (Numbers c listed)) → OnlySolution (Numbers c listed) (monomials c listed) (found .first ∷ found .others) s
+    → (C : S4 (Numbers c listed .ring) .Car) → IsPolynomial (Numbers c listed) C
+    → Divides (Numbers c listed) C (polynomial (Numbers c listed .ring) (A c listed))
+    → Divides (Numbers c listed) C (polynomial (Numbers c listed .ring) (B c listed))
+    → DegreeX (Numbers c listed) (found .d) C → OnlyProposed (Numbers c listed) (monomials c listed) C
+    → (r .found .fault .number ≡ 0) × MadeMonic (Numbers c listed) C (handed-out c listed r))

@@ -9,11 +9,13 @@ pub mod Proposed
 pub mod Complete
 pub mod Output
 pub mod Demands
+pub mod GoodPoint
 pub mod RowValue
 pub mod Equations
 pub mod Solutions
 pub mod Repeated
 pub mod RepeatedPoint
+pub mod RepeatedCall
 pub mod Sorting
 pub mod MonicTerms
 pub mod Turns

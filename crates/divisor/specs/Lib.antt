@@ -2,5 +2,6 @@
 pub mod Rule
 pub mod Candidate
 pub mod Demands
+pub mod Repeated
 pub mod Models
 pub mod Laws

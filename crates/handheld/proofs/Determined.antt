@@ -11,7 +11,7 @@ use Rattle.poly.specs.LeadingPart.{of-list, Leading}
 use Rattle.poly.specs.Quotient.{QuotientCall, Quotient}
 use Rattle.poly.specs.ImageCall.{ImageCall, ImageAnswer}
 use Rattle.poly.specs.Laws.ListCheck.{list-check-determined}
-use Rattle.poly.specs.Laws.LeadingPart.{leading-determined}
+use Rattle.poly.specs.Laws.LeadingPart.{leading-terms-determined}
 use Rattle.poly.specs.Laws.Quotient.{quotient-determined}
 use Rattle.poly.specs.Laws.ImageCall.{image-determined}
 use Rattle.divisor.specs.Candidate.{Call, Candidate}
@@ -38,7 +38,7 @@ pub image-left-determined : (c : ImageCall) → Determined of-image (ImageAnswer
 image-left-determined c = laid-determined of-image (ImageAnswer c) (image-determined c)
 
 pub leading-length-determined : (terms : List ℕ) → Determined length (Leading terms)
-leading-length-determined terms = laid-determined length (Leading terms) (leading-determined terms)
+leading-length-determined terms = laid-determined length (Leading terms) (leading-terms-determined terms)
 
 pub check-numbers-determined : (terms : List ℕ) → Determined of-fault (Tested (of-list terms))
 check-numbers-determined terms = laid-determined of-fault (Tested (of-list terms)) (list-check-determined terms)

@@ -1,6 +1,6 @@
 -- Rules 1 and 2, over any field: bad points, and the image of two polynomials at a good one.
 use mathlib.Core.Path.{_≡_}
-use Prim.Native.Nat.{ℕ, _<_}
+use Prim.Native.Nat.{ℕ}
 use Rattle.algebra.specs.Series.{Seq, SeriesR, S4}
 use Rattle.algebra.specs.Degree.{SeriesD}
 use Rattle.algebra.specs.Divides.{Div}
@@ -29,6 +29,5 @@ module _ (K : Field) where
     -- (If B is 0 there, that is A's value made monic.)
     pub record Image (at : Point (K .ring)) (degree : ℕ) (U : Seq (K .ring)) : Type 0 where
       pub good : ¬ Bad at
-      pub small : degree < 8
       pub monic : Monic (K .ring) degree U
       pub greatest : GreatestCommon (SeriesR (K .ring)) (SeriesD (K .ring) (domain K)) (value (K .ring) A at) (value (K .ring) B at) U

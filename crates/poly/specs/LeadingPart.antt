@@ -2,6 +2,7 @@
 use mathlib.Core.Path.{_≡_}
 use mathlib.Core.List.{List, [], _∷_, _++_}
 use lib.ListN.{length, getD}
+use denote.Ref.{RefT}
 use Prim.Native.Nat.{ℕ, _<_}
 use Rattle.field.specs.Numbers.{FIRST_COUNT, FIRST_TERM}
 use Rattle.field.specs.Refusal.{Line, line, whole, first, Refuses, Passes}
@@ -28,7 +29,12 @@ pub record IsLeading (terms head : List ℕ) : Type 0 where
   pub highest : (i : ℕ) → i < length head → x-of (getD head i 0) ≡ x-of (getD terms 0 0)
   pub lower : (i : ℕ) → i < length rest → x-of (getD rest i 0) < x-of (getD terms 0 0)
 
--- the promise of the leading part: on refusal the list's empty head
+-- the terms that come back: on refusal those of the list's empty head
 pub data Leading (terms : List ℕ) : List ℕ → Type 0 where
   refused : (f : Fault) → Refuses (of-list terms) f → Leading terms []
   answered : (head : List ℕ) → Passes (of-list terms) → IsLeading terms head → Leading terms head
+
+-- the promise of the leading part: its terms, and that it is the head of the caller's own list, also on refusal
+pub record LeadingPart (terms part : RefT (List ℕ)) : Type 0 where
+  pub leading : Leading (terms .now) (part .now)
+  pub place : part .ptr ≡ terms .ptr

@@ -3,7 +3,7 @@ ghost use Prim.Native.Nat.{_<_};
 ghost use lib.ListN.{length};
 ghost use Rattle.field.specs.Refusal.{Tested};
 ghost use Rattle.poly.specs.Lists.{WrongModulo, of-lists};
-ghost use Rattle.poly.specs.LeadingPart.{of-list, Leading};
+ghost use Rattle.poly.specs.LeadingPart.{of-list, LeadingPart};
 ghost use Rattle.poly.specs.Models.Search.{Searched};
 ghost use Rattle.poly.specs.Models.Lists.{of-terms, Lower};
 use crate::Term;
@@ -95,7 +95,7 @@ fn leading_length(terms: &[Term]) -> usize
 
 // The leading part: all terms with the highest power of x, as a part of the caller's list; on refusal its empty head.
 pub fn leading_part(terms: &[Term]) -> &[Term]
-    ensures { λ r. ⌜ Leading (now (terms .entry)) (now r) ⌝ }
+    ensures { λ r. ⌜ LeadingPart (terms .entry) r ⌝ }
 {
     let fault = check_list(terms);
     if fault.number != 0 {

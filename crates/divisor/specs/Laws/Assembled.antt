@@ -21,6 +21,7 @@ use Rattle.poly.specs.Keys.{exponents}
 use Rattle.poly.specs.Terms.{Polynomial, numbers-of, poly, coefficient-limit}
 use Rattle.poly.specs.Image.{Divides, Image}
 use Rattle.poly.specs.Room.{written, cleared}
+use Rattle.poly.specs.Laws.Image.{image-within}
 use Rattle.divisor.specs.Rule.{report, Kept, Sorted, Unknowns, Solution, OnlySolution, without-zeros, made-monic, divisor, Verdict, none, several, rejected, accepted, all-bad, some-good}
 use Rattle.divisor.specs.Candidate.{Call, table, prime, Numbers, A, B, monomials, lent-points, Result, Candidate, answered}
 use Rattle.divisor.specs.Models.TableMeaning.{entries}
@@ -32,7 +33,7 @@ use Rattle.divisor.specs.Laws.Determined.{counts-add-up}
 use Rattle.divisor.specs.Laws.Degree.{kept-images}
 use Rattle.divisor.specs.Laws.Solutions.{no-solution, only-solution, several-solutions}
 use Rattle.divisor.specs.Laws.Seen.{points-length}
-use Rattle.divisor.specs.Laws.Passed.{point-count, looks-of, skeleton-falls, looked}
+use Rattle.divisor.specs.Laws.Passed.{point-count, looks-of, first-small, skeleton-falls, looked}
 use Rattle.divisor.specs.Laws.Sorting.{AllZero, AtLeast, sorted, kept-count}
 use Rattle.divisor.specs.Laws.Sorting as sorting
 use Rattle.divisor.specs.Laws.MonicTerms.{AllBelow, skeleton-of, divisor-numbers}
@@ -112,6 +113,9 @@ module _ (c : Call) (pass : Passes (table c)) (listed : Listed (c .modulus)) whe
     image : Image (Numbers c listed) (A c listed) (B c listed) (k .point) d (k .image)
     image = kept-images (Numbers c listed) (A c listed) (B c listed) d (lent-points c listed) bad-points (some .0) (k ∷ ks) (some .1) .0
 
+    degree-small : d < 8
+    degree-small = omega (arith, image-within (Numbers c listed) (A c listed) (B c listed) (k .point) d (k .image) 7 (first-small c pass listed) image)
+
     -- as many unknowns as the skeleton has keys and there are kept points after the first
     abbrev pub unknowns : ℕ
     unknowns = length (c .skeleton) + length ks
@@ -163,7 +167,7 @@ module _ (c : Call) (pass : Passes (table c)) (listed : Listed (c .modulus)) whe
 
       pub list : GoodList p P small (c .skeleton) cs
       list = good-list p P small (c .skeleton) cs sized below (skeleton-falls c pass) ks k (found .multipliers)
-          (subst (Solution (Numbers c listed) (monomials c listed) (k ∷ ks)) found-is (only .0)) d (image .small) (image .monic .leads)
+          (subst (Solution (Numbers c listed) (monomials c listed) (k ∷ ks)) found-is (only .0)) d degree-small (image .monic .leads)
 
       -- the divisor is that of the skeleton polynomial, its polynomial that of the list, and its numbers are the list
       divisor-is : divisor (Numbers c listed) found ≡ made-monic (Numbers c listed) (without-zeros (Numbers c listed) (skeleton-of p P (c .skeleton) cs))

@@ -17,6 +17,7 @@ use Rattle.algebra.specs.GoodValue.{divides-value, divisor-keeps-degree}
 use Rattle.poly.specs.Terms.{Polynomial}
 use Rattle.poly.specs.Value.{Point, value, x-degree}
 use Rattle.poly.specs.Image.{Divides, DividesX, Bad, Image}
+use Rattle.poly.specs.Laws.Image.{image-within}
 use Rattle.poly.specs.Laws.Value.{polynomial-finite, valued, value-of-polynomial, WithinX, polynomial-ends}
 use Rattle.divisor.specs.declared.CandidateRecord.{CandidateRecord}
 use Rattle.divisor.specs.Rule.{DividesBoth, Kept, Sorted, done, bad, unlucky, keep, First, Equations, Unknowns, Solution, without-zeros, divisor, Verdict, none, several, rejected, accepted, Answer, all-bad, some-good}
@@ -87,10 +88,10 @@ module _ (K : Field) where
   kept-images A B d points b u ks (keep U i s) = (i, kept-images A B d _ b u _ s)
 
   -- G itself is a common divisor, so its degree is d
-  accepted-degree : (A B : Polynomial K) (monomials : List Exponents) (points : List (Point R)) → WithinX K (x-degree R A) A
+  accepted-degree : (A B : Polynomial K) (monomials : List Exponents) (points : List (Point R)) → WithinX K (x-degree R A) A → WithinX K 7 A
       → (d b u : ℕ) (k : Kept K) (kept : List (Kept K)) → Sorted K A B d points b u (k ∷ kept)
       → (s : Unknowns K) → Solution K monomials (k ∷ kept) s → DividesBoth K A B (divisor K s) → GreatestInX K A B (divisor K s) d
-  accepted-degree A B monomials points w d b u k kept sorted s solution both = record {
+  accepted-degree A B monomials points w small d b u k kept sorted s solution both = record {
     divides = both;
     degree = top (finite-top S3 (SeriesD S2 (SeriesD S1 (SeriesD R (domain K)))) (polynomial R (divisor K s)) (polynomial-finite K (divisor K s)));
     greatest = common-divisor-degree A B w (k .point) d (k .image) image;
@@ -110,7 +111,7 @@ module _ (K : Field) where
 
       -- the coefficient beside x^d is not 0, since its value is not
       beside : ¬ (polynomial R (divisor K s) d ≡ S3 .𝟘)
-      beside e = divisor-at-first monomials k kept s solution d (image .small) (image .monic .leads)
+      beside e = divisor-at-first monomials k kept s solution d (omega (arith, image-within K A B (k .point) d (k .image) 7 small image)) (image .monic .leads)
           (sym (ap (λ (v : Seq R). v d) (value-of-polynomial K (divisor K s) (k .point) (polynomial-finite K (divisor K s))))
           ∙ value-null (at-yzw R (domain K) (k .point .y) (k .point .z) (k .point .w) tt tt tt) (polynomial-finite K (divisor K s) .coef d) e)
 
@@ -125,13 +126,13 @@ module _ (K : Field) where
           subst (λ (n : ℕ). DegreeX K n (polynomial R (divisor K s))) e (t .1)
 
   -- DEMAND 3, first half
-  pub accepted-greatest : (A B : Polynomial K) (monomials : List Exponents) (points : List (Point R)) → WithinX K (x-degree R A) A
+  pub accepted-greatest : (A B : Polynomial K) (monomials : List Exponents) (points : List (Point R)) → WithinX K (x-degree R A) A → WithinX K 7 A
       → (r : CandidateRecord) (G : Polynomial K) → Answer K A B monomials points r G → r .fault .number ≡ 0 → GreatestInX K A B G (r .degree)
-  accepted-greatest A B monomials points w r G (all-bad all) e = absurd (omega arith)
-  accepted-greatest A B monomials points w r G (some-good d b u k kept sorted n H verdict) e = go n H verdict e
+  accepted-greatest A B monomials points w small r G (all-bad all) e = absurd (omega arith)
+  accepted-greatest A B monomials points w small r G (some-good d b u k kept sorted n H verdict) e = go n H verdict e
     where
       go : (n : ℕ) (H : Polynomial K) → Verdict K A B monomials (k ∷ kept) n H → n ≡ 0 → GreatestInX K A B H d
       go n H (none z) e = absurd (omega arith)
       go n H (several s) e = absurd (omega arith)
       go n H (rejected s only not-both) e = absurd (omega arith)
-      go n H (accepted s only both) e = accepted-degree A B monomials points w d b u k kept sorted s (only .0) both
+      go n H (accepted s only both) e = accepted-degree A B monomials points w small d b u k kept sorted s (only .0) both

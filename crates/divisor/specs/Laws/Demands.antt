@@ -19,7 +19,7 @@ use Rattle.poly.specs.Laws.Value.{WithinX}
 use Rattle.divisor.specs.Rule.{without-zeros, made-monic}
 use Rattle.divisor.specs.Candidate.{Call, table, prime, Numbers, A, B, monomials, lent-points, handed-out, Result, Candidate, refused, answered}
 use Rattle.divisor.specs.Demands.{DegreeX, GreatestInX, MadeMonic, AcceptedIsGreatest, CommonDivisorComesOut}
-use Rattle.divisor.specs.Laws.Passed.{right-lists, skeleton-falls}
+use Rattle.divisor.specs.Laws.Passed.{right-lists, first-small, skeleton-falls}
 use Rattle.divisor.specs.Laws.Monic.{monic-is-made-monic}
 use Rattle.divisor.specs.Laws.Degree.{accepted-greatest}
 use Rattle.divisor.specs.Laws.CandidateDetermined.{candidate-determined}
@@ -39,7 +39,8 @@ accepted-is-greatest c r (answered pass listed f G x) e = (
   listed,
   subst (λ (H : Polynomial (Numbers c listed)). GreatestInX (Numbers c listed) (A c listed) (B c listed) H (f .degree))
       (sym (answered-output c listed f G x))
-      (accepted-greatest (Numbers c listed) (A c listed) (B c listed) (monomials c listed) (lent-points c listed) (first-within c pass listed) f G x e),
+      (accepted-greatest (Numbers c listed) (A c listed) (B c listed) (monomials c listed) (lent-points c listed)
+      (first-within c pass listed) (first-small c pass listed) f G x e),
 )
 
 -- keys that fall have monomials that fall

@@ -13,14 +13,14 @@ use Rattle.field.specs.Modulo.{Modulo}
 use Rattle.poly.specs.Keys.{exponents}
 use Rattle.divisor.specs.declared.table.Table.{Table}
 use Rattle.divisor.specs.Rule.{Kept}
-use Rattle.divisor.specs.Candidate.{most-points, most-point-numbers}
+use Rattle.divisor.specs.Candidate.{most-points, most-point-numbers, point-at}
 use Rattle.divisor.specs.Models.Table.{TableReady, empty-table}
 use Rattle.divisor.specs.Models.TableMeaning.{added}
 use Rattle.divisor.specs.Laws.TableAdded.{added-append, added-ready, added-columns, ready-append, rows-append}
 use Rattle.divisor.specs.Models.Rows.{rows-at, rows-from, kept-rows}
 use Rattle.divisor.specs.Models.Sorting.{alike}
 use Rattle.divisor.specs.Models.Equation.{kept-numbers, Equations-to}
-use Rattle.divisor.specs.Models.Looks.{next-column, point-at, image-at, kept-before, Equations-before}
+use Rattle.divisor.specs.Models.Looks.{next-column, image-at, kept-before, Equations-before}
 
 module _ (K : Field) (es : List Exponents) (n : ℕ) where
   rows-from-more : (m : ℕ) (ks : List (Kept K)) (k : Kept K) (a : ℕ) → a ≡ m + length ks

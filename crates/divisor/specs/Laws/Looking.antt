@@ -11,20 +11,24 @@ use Rattle.field.specs.Modulo.{Modulo}
 use Rattle.poly.specs.declared.ImageRecord.{ImageRecord}
 use Rattle.poly.specs.Terms.{Polynomial, terms-of}
 use Rattle.poly.specs.Value.{Point}
-use Rattle.poly.specs.Coefficients.{Eight}
+use Rattle.poly.specs.Coefficients.{Eight, series}
 use Rattle.poly.specs.ImageCall.{point-of, PointAnswer, bad, good}
 use Rattle.poly.specs.Models.Image.{Fine}
 use Rattle.poly.specs.Laws.RightLists.{RightLists, lists-are-right}
+use Rattle.poly.specs.Laws.Value.{WithinX}
+use Rattle.poly.specs.Laws.Lists.{falling-small}
+use Rattle.poly.specs.Laws.Image.{image-within}
 use Rattle.poly.specs.Laws.ImageModel.{image-of-answers}
 use Rattle.poly.specs.Laws.ValueModel.{zeros-eight}
-use Rattle.divisor.specs.Models.Looks.{point-at, look-at, LookReady}
+use Rattle.divisor.specs.Candidate.{point-at}
+use Rattle.divisor.specs.Models.Looks.{look-at, LookReady}
 use Rattle.divisor.specs.Laws.Parts.{part-length, part-at}
 
--- an answer's degree is below 8, and it has eight numbers below p
-answer-small : (p : ℕ) (P : Prime p) (A B : Polynomial (Modulo p P)) (at : Point (Modulo p P .ring)) (r : ImageRecord) → PointAnswer p P A B at r
-    → r .degree < 8
-answer-small p P A B at r (bad x) = omega arith
-answer-small p P A B at r (good d cs e i) = i .small
+-- where no power of x is above 7, an answer's degree is below 8; and it has eight numbers below p
+answer-small : (p : ℕ) (P : Prime p) (A B : Polynomial (Modulo p P)) (at : Point (Modulo p P .ring)) (r : ImageRecord) → WithinX (Modulo p P) 7 A
+    → PointAnswer p P A B at r → r .degree < 8
+answer-small p P A B at r w (bad x) = omega arith
+answer-small p P A B at r w (good d cs e i) = omega (arith, image-within (Modulo p P) A B at d (series p cs) 7 w i)
 
 answer-eight : (p : ℕ) (P : Prime p) (A B : Polynomial (Modulo p P)) (at : Point (Modulo p P .ring)) (r : ImageRecord) → PointAnswer p P A B at r
     → Eight p (r .coefficients)
@@ -46,7 +50,9 @@ module _ {p : ℕ} {A B points work : List ℕ} (h : LookReady p A B points work
   look-answers P i = image-of-answers P (point-at points i) A B (right .first) (right .second)
 
   pub look-small : (i : ℕ) → look-at p A B points i .degree < 8
-  look-small i = answer-small p (listed-prime (right .is-listed)) _ _ _ _ (look-answers (listed-prime (right .is-listed)) i)
+  look-small i =
+      let P = listed-prime (right .is-listed) in
+      answer-small p P _ _ _ _ (falling-small p P A (right .first .falls)) (look-answers P i)
 
   pub look-eight : (i : ℕ) → Eight p (look-at p A B points i .coefficients)
   look-eight i = answer-eight p (listed-prime (right .is-listed)) _ _ _ _ (look-answers (listed-prime (right .is-listed)) i)

@@ -13,10 +13,11 @@ use Rattle.poly.specs.declared.ImageRecord.{ImageRecord}
 use Rattle.poly.specs.Keys.{keys}
 use Rattle.poly.specs.Lists.{Count, WrongKey, above, WrongNumber, of-lists}
 use Rattle.poly.specs.Room.{of-rooms, work-room}
-use Rattle.poly.specs.Laws.Lists.{none-wrong, FallFrom, keys-fall}
+use Rattle.poly.specs.Laws.Value.{WithinX}
+use Rattle.poly.specs.Laws.Lists.{none-wrong, FallFrom, keys-fall, falling-small}
 use Rattle.poly.specs.Laws.PointCheck.{numbers-below}
 use Rattle.poly.specs.Laws.RightLists.{RightLists, lists-are-right}
-use Rattle.divisor.specs.Candidate.{most-keys, most-points, most-point-numbers, Call, table, prime, A, B, lent-points, of-skeleton, of-points}
+use Rattle.divisor.specs.Candidate.{most-keys, most-points, most-point-numbers, Call, table, prime, Numbers, A, B, lent-points, of-skeleton, of-points}
 use Rattle.divisor.specs.Models.Looks.{LookReady}
 use Rattle.divisor.specs.Laws.Sorting.{Looked}
 use Rattle.divisor.specs.Laws.Seen.{looks-from, seen}
@@ -54,6 +55,10 @@ module _ (c : Call) (pass : Passes (table c)) where
 
   pub right-lists : RightLists (c .modulus) (c .first-list) (c .second-list)
   right-lists = lists-are-right (c .modulus) (c .first-list) (c .second-list) lists-pass
+
+  -- no power of x in the first list is above 7
+  pub first-small : (listed : Listed (c .modulus)) → WithinX (Numbers c listed) 7 (A c listed)
+  first-small listed = falling-small (c .modulus) (prime c listed) (c .first-list) (right-lists .first .falls)
 
   pub keys-most : length (c .skeleton) ≤ most-keys
   keys-most = let n : ¬ (most-keys < length (c .skeleton)) = λ l. never-placed (rest .0) (inr l) in omega arith

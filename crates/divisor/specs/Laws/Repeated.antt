@@ -1,9 +1,10 @@
 -- A point may occur twice: it then adds no knowledge and does no harm. A kept point that is kept once more, at any place behind, changes nothing in what
--- the equations settle; and so a point that is lent once more changes nothing in the rule's answer but the counts of points. Assumes nothing.
+-- the equations settle. Assumes nothing.
 use mathlib.Core.Path.{_≡_, refl, sym, ap, _∙_, subst}
 use mathlib.Core.Logic.{_↔_}
 use mathlib.Core.List.{List, [], _∷_}
-use Prim.Native.Nat.{ℕ, _<_}
+use Prim.Native.Nat.{ℕ, suc, _<_}
+use lib.ListN.{length}
 use Rattle.algebra.specs.Ring.{CommRing}
 use Rattle.algebra.specs.Four.{Exponents}
 use Rattle.algebra.specs.Field.{Field}
@@ -20,6 +21,14 @@ pub data Inserted {X : Type 0} (x : X) : List X → List X → Type 0 where
 pub data Again {X : Type 0} (x : X) : List X → List X → Type 0 where
   behind : {xs ys : List X} → Inserted x xs ys → Again x (x ∷ xs) (x ∷ ys)
   later : {y : X} {xs ys : List X} → Again x xs ys → Again x (y ∷ xs) (y ∷ ys)
+
+inserted-length : {X : Type 0} {x : X} {xs ys : List X} → Inserted x xs ys → length ys ≡ suc (length xs)
+inserted-length here = refl
+inserted-length (there a) = ap suc (inserted-length a)
+
+pub again-length : {X : Type 0} {x : X} {xs ys : List X} → Again x xs ys → length ys ≡ suc (length xs)
+again-length (behind a) = ap suc (inserted-length a)
+again-length (later b) = ap suc (again-length b)
 
 module _ (K : Field) where
   open CommRing (K .ring) using (Car, 𝟙, mul as _*_, mul-one)

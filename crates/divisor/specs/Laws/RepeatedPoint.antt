@@ -1,8 +1,10 @@
--- A point that is lent once more, at any place behind: the rule's answer has the same number, degree and polynomial. Assumes nothing.
-use mathlib.Core.Path.{_≡_, refl}
-use mathlib.Core.List.{List, _∷_}
+-- A point that is lent once more, at any place behind: the rule's answer has the same number, degree and polynomial, and one more is counted in the
+-- point's class.
+use mathlib.Core.Path.{sym, subst}
+use mathlib.Core.List.{List, [], _∷_}
 use lib.ListN.{length}
 use Prim.Native.Nat.{ℕ, suc, _<_}
+use native.Mathlib.Omega.{arith}
 use Rattle.algebra.specs.Series.{Seq}
 use Rattle.algebra.specs.Four.{Exponents}
 use Rattle.algebra.specs.Field.{Field}
@@ -10,9 +12,12 @@ use Rattle.field.specs.Numbers.{NO_GOOD_POINT}
 use Rattle.poly.specs.Terms.{Polynomial}
 use Rattle.poly.specs.Value.{Point}
 use Rattle.poly.specs.Image.{Bad, Image}
+use Rattle.poly.specs.Laws.Value.{WithinX}
+use Rattle.poly.specs.Laws.Image.{image-within}
 use Rattle.divisor.specs.declared.CandidateRecord.{CandidateRecord}
-use Rattle.divisor.specs.Rule.{report, Kept, Sorted, bad, unlucky, keep, AllBad, Verdict, Answer, all-bad, some-good}
-use Rattle.divisor.specs.Laws.Repeated.{Inserted, here, there, Again, behind, later, repeated-verdict}
+use Rattle.divisor.specs.Rule.{report, Kept, Sorted, bad, unlucky, keep, AllBad, Answer, all-bad, some-good}
+use Rattle.divisor.specs.Repeated.{OneMore, one-bad, one-unlucky, one-kept}
+use Rattle.divisor.specs.Laws.Repeated.{Inserted, here, there, Again, behind, later, again-length, repeated-verdict}
 
 module _ (K : Field) (A B : Polynomial K) where
   open Field K using (ring as R)
@@ -20,6 +25,10 @@ module _ (K : Field) (A B : Polynomial K) where
   bad-inserted : {at : Point R} {ps qs : List (Point R)} → Bad K A B at → Inserted at ps qs → AllBad K A B ps → AllBad K A B qs
   bad-inserted x here h = (x, h)
   bad-inserted x (there a) h = (h .0, bad-inserted x a (h .1))
+
+  bad-there : {at : Point R} {ps qs : List (Point R)} → Again at ps qs → AllBad K A B ps → Bad K A B at
+  bad-there (behind a) h = h .0
+  bad-there (later b) h = bad-there b (h .1)
 
   bad-again : {at : Point R} {ps qs : List (Point R)} → Again at ps qs → AllBad K A B ps → AllBad K A B qs
   bad-again (behind a) h = (h .0, bad-inserted (h .0) a (h .1))
@@ -48,55 +57,67 @@ module _ (K : Field) (A B : Polynomial K) where
     inserted-kept U i (there a) (unlucky f W j m s) = let r = inserted-kept U i a s in (r .0, unlucky f W j m (r .1), r .2)
     inserted-kept U i (there a) (keep W j s) = let r = inserted-kept U i a s in (_, keep W j (r .1), there (r .2))
 
-    -- the same points are kept, or one of them once more
-    data KeptAgain (ks : List (Kept K)) : List (Kept K) → Type 0 where
-      same : KeptAgain ks ks
-      again : {k : Kept K} {ls : List (Kept K)} → Again k ks ls → d < 8 → k .image d ≡ R .𝟙 → KeptAgain ks ls
+    -- the counts and the kept points with one point more, of its class
+    data Counted (at : Point R) (b u : ℕ) (ks : List (Kept K)) : ℕ → ℕ → List (Kept K) → Type 0 where
+      bad-more : Bad K A B at → Counted at b u ks (suc b) u ks
+      unlucky-more : (e : ℕ) (U : Seq R) → Image K A B at e U → d < e → Counted at b u ks b (suc u) ks
+      kept-more : {ls : List (Kept K)} (U : Seq R) → Image K A B at d U → Again (record { point = at; image = U }) ks ls → Counted at b u ks b u ls
 
-    kept-later : {k : Kept K} {ks ls : List (Kept K)} → KeptAgain ks ls → KeptAgain (k ∷ ks) (k ∷ ls)
-    kept-later same = same
-    kept-later (again b small one) = again (later b) small one
+    -- and with a point before
+    counted-bad : {at : Point R} {b u c v : ℕ} {ks ls : List (Kept K)} → Counted at b u ks c v ls → Counted at (suc b) u ks (suc c) v ls
+    counted-bad (bad-more x) = bad-more x
+    counted-bad (unlucky-more e U i l) = unlucky-more e U i l
+    counted-bad (kept-more U i q) = kept-more U i q
+
+    counted-unlucky : {at : Point R} {b u c v : ℕ} {ks ls : List (Kept K)} → Counted at b u ks c v ls → Counted at b (suc u) ks c (suc v) ls
+    counted-unlucky (bad-more x) = bad-more x
+    counted-unlucky (unlucky-more e U i l) = unlucky-more e U i l
+    counted-unlucky (kept-more U i q) = kept-more U i q
+
+    counted-kept : {at : Point R} {b u c v : ℕ} {k : Kept K} {ks ls : List (Kept K)} → Counted at b u ks c v ls → Counted at b u (k ∷ ks) c v (k ∷ ls)
+    counted-kept (bad-more x) = bad-more x
+    counted-kept (unlucky-more e U i l) = unlucky-more e U i l
+    counted-kept (kept-more U i q) = kept-more U i (later q)
 
     sorted-again : {at : Point R} {ps qs : List (Point R)} {b u : ℕ} {ks : List (Kept K)} → Again at ps qs → Sorted K A B d ps b u ks
-        → (c v : ℕ) × (ls : List (Kept K)) × Sorted K A B d qs c v ls × KeptAgain ks ls
-    sorted-again (behind a) (bad x s) = (_, _, _, bad x (inserted-bad x a s), same)
-    sorted-again (behind a) (unlucky e U i l s) = (_, _, _, unlucky e U i l (inserted-unlucky e U i l a s), same)
-    sorted-again (behind a) (keep U i s) = let r = inserted-kept U i a s in (_, _, _, keep U i (r .1), again (behind (r .2)) (i .small) (i .monic .leads))
-    sorted-again (later q) (bad x s) = let r = sorted-again q s in (_, _, _, bad x (r .3), r .4)
-    sorted-again (later q) (unlucky e U i l s) = let r = sorted-again q s in (_, _, _, unlucky e U i l (r .3), r .4)
-    sorted-again (later q) (keep U i s) = let r = sorted-again q s in (_, _, _, keep U i (r .3), kept-later (r .4))
+        → (c v : ℕ) × (ls : List (Kept K)) × Sorted K A B d qs c v ls × Counted at b u ks c v ls
+    sorted-again (behind a) (bad x s) = (_, _, _, bad x (inserted-bad x a s), bad-more x)
+    sorted-again (behind a) (unlucky e U i l s) = (_, _, _, unlucky e U i l (inserted-unlucky e U i l a s), unlucky-more e U i l)
+    sorted-again (behind a) (keep U i s) = let r = inserted-kept U i a s in (_, _, _, keep U i (r .1), kept-more U i (behind (r .2)))
+    sorted-again (later q) (bad x s) = let r = sorted-again q s in (_, _, _, bad x (r .3), counted-bad (r .4))
+    sorted-again (later q) (unlucky e U i l s) = let r = sorted-again q s in (_, _, _, unlucky e U i l (r .3), counted-unlucky (r .4))
+    sorted-again (later q) (keep U i s) = let r = sorted-again q s in (_, _, _, keep U i (r .3), counted-kept (r .4))
 
-  -- an answer that differs in the counts of points alone
-  pub record AnsweredAlike (es : List Exponents) (points : List (Point R)) (r : CandidateRecord) (G : Polynomial K) : Type 0 where
+  -- an answer that differs in one count of points alone
+  pub record AnsweredAlike (es : List Exponents) (at : Point R) (points : List (Point R)) (r : CandidateRecord) (G : Polynomial K) : Type 0 where
     pub found : CandidateRecord
     pub answer : Answer K A B es points found G
-    pub same-fault : found .fault ≡ r .fault
-    pub same-degree : found .degree ≡ r .degree
-    pub same-terms : found .terms ≡ r .terms
+    pub one-more : OneMore K A B at r found
 
-  pub repeated-point : (es : List Exponents) {at : Point R} {ps qs : List (Point R)} → Again at ps qs
-      → (r : CandidateRecord) (G : Polynomial K) → Answer K A B es ps r G → AnsweredAlike es qs r G
-  repeated-point es {qs = qs} a r G (all-bad h) = record {
+  pub repeated-point : WithinX K 7 A → (es : List Exponents) {at : Point R} {ps qs : List (Point R)} → Again at ps qs
+      → (r : CandidateRecord) (G : Polynomial K) → Answer K A B es ps r G → AnsweredAlike es at qs r G
+  repeated-point small es {at} {ps} {qs} a r G (all-bad h) = record {
     found = report NO_GOOD_POINT 0 (length qs) 0 0 0;
     answer = all-bad (bad-again a h);
-    same-fault = refl;
-    same-degree = refl;
-    same-terms = refl;
+    one-more = subst (λ (n : ℕ). OneMore K A B at (report NO_GOOD_POINT 0 (length ps) 0 0 0) (report NO_GOOD_POINT 0 n 0 0 0))
+        (sym (again-length a)) (one-bad (bad-there a h));
   }
-  repeated-point es {qs = qs} a r G (some-good d b u k kept s n H v) = let t = sorted-again d a s in go (t .0) (t .1) (t .2) (t .3) (t .4)
+  repeated-point small es {at} {ps} {qs} a r G (some-good d b u k kept s n H v) = let t = sorted-again d a s in go (t .0) (t .1) (t .2) (t .3) (t .4)
     where
-      settled : (c w : ℕ) (l : Kept K) (ls : List (Kept K)) → Sorted K A B d qs c w (l ∷ ls) → Verdict K A B es (l ∷ ls) n H
-          → AnsweredAlike es qs (report n d b u (length (k ∷ kept)) (length H)) H
-      settled c w l ls t x = record {
-        found = report n d c w (length (l ∷ ls)) (length H);
-        answer = some-good d c w l ls t n H x;
-        same-fault = refl;
-        same-degree = refl;
-        same-terms = refl;
+      before : CandidateRecord
+      before = report n d b u (length (k ∷ kept)) (length H)
+
+      kept-once-more : (ls : List (Kept K)) (U : Seq R) → Image K A B at d U → Again (record { point = at; image = U }) (k ∷ kept) ls
+          → Sorted K A B d qs b u ls → AnsweredAlike es at qs before H
+      kept-once-more [] U i q t = absurd (let e = again-length q in omega arith)
+      kept-once-more (l ∷ ls) U i q t = record {
+        found = report n d b u (length (l ∷ ls)) (length H);
+        answer = some-good d b u l ls t n H
+            (repeated-verdict K A B es q d (omega (arith, image-within K A B at d U 7 small i)) (i .monic .leads) n H .0 v);
+        one-more = subst (λ (m : ℕ). OneMore K A B at before (report n d b u m (length H))) (sym (again-length q)) (one-kept U i);
       }
 
-      go : (c w : ℕ) (ls : List (Kept K)) → Sorted K A B d qs c w ls → KeptAgain d (k ∷ kept) ls
-          → AnsweredAlike es qs (report n d b u (length (k ∷ kept)) (length H)) H
-      go c w ls t same = settled c w k kept t v
-      go c w ls t (again (behind q) small one) = settled c w _ _ t (repeated-verdict K A B es (behind q) d small one n H .0 v)
-      go c w ls t (again (later q) small one) = settled c w _ _ t (repeated-verdict K A B es (later q) d small one n H .0 v)
+      go : (c w : ℕ) (ls : List (Kept K)) → Sorted K A B d qs c w ls → Counted d at b u (k ∷ kept) c w ls → AnsweredAlike es at qs before H
+      go c w ls t (bad-more x) = record { found = _; answer = some-good d c w k kept t n H v; one-more = one-bad x }
+      go c w ls t (unlucky-more e U i l) = record { found = _; answer = some-good d c w k kept t n H v; one-more = one-unlucky e U i l }
+      go c w ls t (kept-more U i q) = kept-once-more ls U i q t

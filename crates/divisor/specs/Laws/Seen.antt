@@ -14,10 +14,10 @@ use Rattle.poly.specs.Terms.{terms-of}
 use Rattle.poly.specs.Value.{Point}
 use Rattle.poly.specs.ImageCall.{point-of}
 use Rattle.divisor.specs.Rule.{Kept}
-use Rattle.divisor.specs.Candidate.{most-points, points-of}
+use Rattle.divisor.specs.Candidate.{most-points, point-at, points-of}
 use Rattle.divisor.specs.Models.Sorting.{sizes-of, kept-of}
 use Rattle.divisor.specs.Models.Equation.{kept-numbers}
-use Rattle.divisor.specs.Models.Looks.{point-at, image-at, look-at, LookReady, Looks, kept-before}
+use Rattle.divisor.specs.Models.Looks.{image-at, look-at, LookReady, Looks, kept-before}
 use Rattle.divisor.specs.Laws.Sorting.{Looked, none, one}
 use Rattle.divisor.specs.Laws.Looking.{look-answers}
 

@@ -19,17 +19,14 @@ use Rattle.poly.specs.Models.Image.{image-of}
 use Rattle.divisor.specs.declared.table.Row.{Row}
 use Rattle.divisor.specs.declared.table.Table.{Table}
 use Rattle.divisor.specs.Rule.{Kept}
-use Rattle.divisor.specs.Candidate.{most-points, most-point-numbers}
+use Rattle.divisor.specs.Candidate.{most-points, most-point-numbers, point-at}
 use Rattle.divisor.specs.Models.Table.{COLUMNS, empty-table}
 use Rattle.divisor.specs.Models.TableMeaning.{added, rows-of, AllReady}
 use Rattle.divisor.specs.Models.Rows.{kept-rows}
 use Rattle.divisor.specs.Models.Sorting.{size-of, alike}
 use Rattle.divisor.specs.Models.Equation.{kept-numbers}
 
--- the coordinates of point i, and the place of its image in the work room
-abbrev pub point-at : List ℕ → ℕ → List ℕ
-point-at points i = take 3 (drop (3 * i) points)
-
+-- the place of point i's image in the work room
 abbrev pub image-at : List ℕ → ℕ → List ℕ
 image-at work i = take 8 (drop (8 * i) work)
 

@@ -8,7 +8,7 @@ leading-part-requires : tie.Need-leading-part-requires
 leading-part-requires c κs = search needs
 
 returns : tie.Need-returns
-returns c = laid _ (c .leading-part .ensures)
+returns c = laid _ (c .leading-part .ensures .leading)
 
 pub balungkiro-leading-part-spec : {M : Type 1} → statement M
 balungkiro-leading-part-spec = tie.close (tie.spec leading-part-requires returns)

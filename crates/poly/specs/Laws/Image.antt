@@ -1,21 +1,32 @@
--- The image of two polynomials at a point, over any field: it has the degree that it says, there is one at most, and where the second
--- polynomial's value is 0 it is the first one's value made monic. Assumes nothing.
-use mathlib.Core.Path.{_≡_}
-use Prim.Native.Nat.{ℕ}
+-- The image of two polynomials at a point, over any field: it has the degree that it says, which is not above the first one's powers of x; there is
+-- one at most; and where the second polynomial's value is 0 it is the first one's value made monic. Assumes nothing.
+use mathlib.Core.Path.{_≡_, ap}
+use Prim.Native.Nat.{ℕ, suc, _≤_}
+use native.Mathlib.Omega.{arith}
 use Rattle.algebra.specs.Series.{Seq, SeriesR}
-use Rattle.algebra.specs.Degree.{Top}
-use Rattle.algebra.specs.Field.{Field}
-use Rattle.algebra.specs.Univariate.{monic-top, over-lead, over-lead-monic, over-lead-greatest, monic-greatest-unique}
+use Rattle.algebra.specs.Degree.{Top, series-top}
+use Rattle.algebra.specs.Divides.{quotient-top}
+use Rattle.algebra.specs.Field.{Field, domain}
+use Rattle.algebra.specs.Univariate.{ends-fin, monic-top, over-lead, over-lead-monic, over-lead-greatest, monic-greatest-unique}
 use Rattle.poly.specs.Terms.{Polynomial}
 use Rattle.poly.specs.Value.{Point, value, x-degree}
 use Rattle.poly.specs.Image.{Bad, Image}
-use Rattle.poly.specs.Laws.Value.{WithinX, value-ends}
+use Rattle.poly.specs.Laws.Value.{value-finite, WithinX, value-ends}
 
 module _ (K : Field) (A B : Polynomial K) where
   open Field K using (ring as R)
 
   pub image-top : (at : Point R) (e : ℕ) (U : Seq R) → Image K A B at e U → Top R e U
   image-top at e U i = monic-top K e U (i .monic)
+
+  -- an image divides A's value, so its degree is not above A's powers of x
+  pub image-within : (at : Point R) (e : ℕ) (U : Seq R) (n : ℕ) → WithinX K n A → Image K A B at e U → e ≤ n
+  image-within at e U n w i =
+      let a = value R A at in
+      let top = series-top R (domain K) a (value-finite K A at) (λ z. i .good (ap (λ (f : Seq R). f (x-degree R A)) z)) in
+      let q = quotient-top R (domain K) (top .0) U a (ends-fin K (suc e) U (i .monic .ends)) (i .greatest .left) (top .1) e (image-top at e U i) in
+      let not-above : ¬ (suc n ≤ top .0) = λ l. top .1 .nonzero (value-ends K n A at w (top .0) l) in
+      omega (arith, q .1)
 
   -- a point has one image
   pub image-unique : (at : Point R) (e f : ℕ) (U W : Seq R) → Image K A B at e U → Image K A B at f W → (e ≡ f) × (U ≡ W)

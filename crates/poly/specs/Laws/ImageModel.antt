@@ -26,9 +26,9 @@ use Rattle.poly.specs.Models.Value.{Ready, value-of}
 use Rattle.poly.specs.Models.Eight.{size, gcd}
 use Rattle.poly.specs.Models.Image.{value-at, image-record, image-of-values, image-of}
 use Rattle.poly.specs.Laws.Powers.{powers-eight}
-use Rattle.poly.specs.Laws.EightNumbers.{eight-clear, size-clear, size-le}
+use Rattle.poly.specs.Laws.EightNumbers.{eight-clear, size-clear}
 use Rattle.poly.specs.Laws.EightMeaning.{clear-ends}
-use Rattle.poly.specs.Laws.EuclidMeaning.{IsGcd, gcd-is-gcd, gcd-nonzero}
+use Rattle.poly.specs.Laws.EuclidMeaning.{IsGcd, gcd-is-gcd}
 use Rattle.poly.specs.Laws.ValueModel.{value-of-eight}
 use Rattle.poly.specs.Laws.ValueMeaning.{value-of-series}
 use Rattle.poly.specs.Laws.Falling.{falling-key, falling-coefficient}
@@ -116,7 +116,6 @@ module _ {p : ℕ} (P : Prime p) (point : List ℕ) where
       model-is-image =
           record {
             good = λ z. el-nonzero p (getD a x 0) (value-at-eight A .below x) n (leading ∙ z);
-            small = omega (arith, size-le 8 u, gcd-nonzero P a b (value-at-eight A) filled (value-at-eight B));
             monic =
                 record {
                   leads = ap (el p) (greatest .monic .one);

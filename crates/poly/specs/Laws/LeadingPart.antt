@@ -7,13 +7,14 @@ use native.Mathlib.Decide.{decLt}
 use native.Mathlib.Omega.{arith}
 use lib.ListN.{length, getD, take, drop, take-append-drop, length-drop, length-append, length-map, List·getD-append, List·getD-map}
 use lib.Seq.{length-take-le, getD-take, getD-drop, getD-append-add, take-append-seam}
+use denote.Ref.{RefT}
 use Rattle.field.specs.Refusal.{Passes, Tested}
 use Rattle.field.specs.RefusalLaws.{never-placed, not-passes-and-refuses, tested-passes, tested-refuses}
 use Rattle.field.specs.declared.Fault.{Fault}
 use Rattle.poly.specs.Keys.{keys}
 use Rattle.poly.specs.Terms.{key-of}
 use Rattle.poly.specs.Lists.{WrongTerm, wrong-key}
-use Rattle.poly.specs.LeadingPart.{of-list, x-of, IsLeading, Leading, refused, answered}
+use Rattle.poly.specs.LeadingPart.{of-list, x-of, IsLeading, Leading, refused, answered, LeadingPart}
 use Rattle.poly.specs.Models.Search.{Searched}
 use Rattle.poly.specs.Models.Lists.{Lower}
 use Rattle.poly.specs.Laws.Lists.{none-wrong, FallFrom, keys-fall}
@@ -101,9 +102,14 @@ leading-part-unique ts head other h o =
     ∙ ap₂ (λ (n : ℕ) (u : List ℕ). take n u) e (sym (h .parts) ∙ o .parts)
     ∙ take-append-seam other (o .rest)
 
--- the promise of the leading part settles it
-pub leading-determined : (ts head other : List ℕ) → Leading ts head → Leading ts other → head ≡ other
-leading-determined ts head other (refused f h) (refused g k) = refl
-leading-determined ts head other (refused f h) (answered u k o) = absurd (not-passes-and-refuses (of-list ts) f k h)
-leading-determined ts head other (answered u h o) (refused g k) = absurd (not-passes-and-refuses (of-list ts) g h k)
-leading-determined ts head other (answered u h o) (answered w k q) = leading-part-unique ts head other o q
+-- the terms that come back are settled
+pub leading-terms-determined : (ts head other : List ℕ) → Leading ts head → Leading ts other → head ≡ other
+leading-terms-determined ts head other (refused f h) (refused g k) = refl
+leading-terms-determined ts head other (refused f h) (answered u k o) = absurd (not-passes-and-refuses (of-list ts) f k h)
+leading-terms-determined ts head other (answered u h o) (refused g k) = absurd (not-passes-and-refuses (of-list ts) g h k)
+leading-terms-determined ts head other (answered u h o) (answered w k q) = leading-part-unique ts head other o q
+
+-- the promise of the leading part settles it: two results that meet it are the same part, at the same place and with the same terms
+pub leading-determined : {terms part other : RefT (List ℕ)} → LeadingPart terms part → LeadingPart terms other
+    → (part .ptr ≡ other .ptr) × (part .now ≡ other .now)
+leading-determined h k = (h .place ∙ sym (k .place), leading-terms-determined _ _ _ (h .leading) (k .leading))

@@ -73,12 +73,15 @@ terms-fall p ts none =
     let wrong = none-wrong (WrongModulo p ts) none in
     falling-of p keys ts (keys-fall (map key-of ts) (λ i w. wrong i (wrong-term (wrong-key w)))) wrong
 
--- and no power of x in it is above the first term's
+-- and no power of x in it is above the first term's, nor above 7
 module _ (p : ℕ) (P : Prime p) where
-  within-below : (b k : ℕ) (ts : List ℕ) → b ≤ k → Falling p b ts → WithinX (Modulo p P) (exponents k .x) (terms-of p P ts)
+  within-below : (b k : ℕ) (ts : List ℕ) → b ≤ suc k → Falling p b ts → WithinX (Modulo p P) (exponents k .x) (terms-of p P ts)
   within-below b k [] l h = tt
   within-below b k (t ∷ ts) l h = let m : key-of t < b = h .0 in (omega arith, within-below (key-of t) k ts (omega arith) (h .3))
 
   pub falling-within : (b : ℕ) (ts : List ℕ) → Falling p b ts → WithinX (Modulo p P) (x-degree (Modulo p P .ring) (terms-of p P ts)) (terms-of p P ts)
   falling-within b [] h = tt
   falling-within b (t ∷ ts) h = (omega arith, within-below (key-of t) (key-of t) ts (omega arith) (h .3))
+
+  pub falling-small : (ts : List ℕ) → Falling p keys ts → WithinX (Modulo p P) 7 (terms-of p P ts)
+  falling-small ts h = within-below keys 4095 ts (omega arith) h

@@ -1,5 +1,5 @@
--- `poly::list::leading_part` meets its contract: the head that it hands back ends where the first lower power of x stands. Assumes nothing.
-use mathlib.Core.Path.{sym}
+-- `poly::list::leading_part` meets its contract: what it hands back begins where the list does, and ends where the first lower power of x stands.
+use mathlib.Core.Path.{refl, sym}
 use lib.Seq.{length-take-le}
 use Rattle.poly.specs.Laws.LeadingPart.{leading-refused, leading-some, leading-answered}
 use borrow.Author.Needs.{needs}
@@ -15,7 +15,10 @@ slice-aggregate-result c = search needs
 returns : tie.Need-returns
 returns c =
     let tested = c .before .before .before in
-    leading-refused (tested .before .before .args .terms .now) _ (tested .check-list .ensures) (c .before .if1 .taken)
+    record {
+      leading = leading-refused (tested .before .before .args .terms .now) _ (tested .check-list .ensures) (c .before .if1 .taken);
+      place = refl;
+    }
 
 leading-length-requires : tie.Need-leading-length-requires
 leading-length-requires c κs =
@@ -29,7 +32,11 @@ returns-2 : tie.Need-returns-2
 returns-2 c =
     let found = c .before in
     let tested = found .before .before .before in
-    leading-answered (tested .before .before .args .terms .now) _ (tested .check-list .ensures) (found .before .if1 .left) _ (found .leading-length .ensures)
+    let terms = tested .before .before .args .terms .now in
+    record {
+      leading = leading-answered terms _ (tested .check-list .ensures) (found .before .if1 .left) _ (found .leading-length .ensures);
+      place = refl;
+    }
 
 pub leading-part-spec : {M : Type 1} → statement M
 leading-part-spec =
