@@ -2,10 +2,12 @@
 -- polynomial's value is 0 it is the first one's value made monic. Assumes nothing.
 use mathlib.Core.Path.{_≡_}
 use Prim.Native.Nat.{ℕ}
-use Rattle.algebra.specs.Series.{Seq, SeriesR}
-use Rattle.algebra.specs.Degree.{Top}
 use Rattle.algebra.specs.Field.{Field}
-use Rattle.algebra.specs.Univariate.{monic-top, over-lead, over-lead-monic, over-lead-greatest, monic-greatest-unique}
+use Rattle.algebra.specs.Series.{Seq}
+use Rattle.algebra.specs.SeriesRing.{SeriesR}
+use Rattle.algebra.specs.Degree.{Top}
+use Rattle.algebra.specs.Univariate.{over-lead}
+use Rattle.algebra.specs.Laws.Univariate.{monic-top, over-lead-monic, over-lead-greatest, monic-greatest-unique}
 use Rattle.poly.specs.Terms.{Polynomial}
 use Rattle.poly.specs.Value.{Point, value, x-degree}
 use Rattle.poly.specs.Image.{Bad, Image}

@@ -14,7 +14,8 @@ use Rattle.poly.specs.declared.ImageRecord.{ImageRecord}
 use Rattle.poly.specs.Terms.{Polynomial, terms-of}
 use Rattle.poly.specs.Value.{Point}
 use Rattle.poly.specs.Lists.{of-lists}
-use Rattle.poly.specs.ImageCall.{ImageCall, image-call, of-point, image-table, Fine, point-of, refusal, PointAnswer, bad, good, AnswersPoint, ImageAnswer, refused, answered}
+use Rattle.poly.specs.ImageCall.{ImageCall, image-call, of-point, image-table, Fine, point-of, refusal}
+use Rattle.poly.specs.ImageCall.{PointAnswer, bad, good, AnswersPoint, ImageAnswer, refused, answered}
 use Rattle.poly.specs.Models.Image.{image-of}
 use Rattle.poly.specs.Laws.EightMeaning.{series-injective}
 use Rattle.poly.specs.Laws.Image.{image-unique}

@@ -5,7 +5,7 @@ use Prim.Native.Nat.{ℕ, zero, suc, _-_, _*_, _^_, _%_, _≤_, _<_}
 use native.Mathlib.Nat.{mod-lt, mod-mod, pow-zero, pow-suc}
 use native.Mathlib.Omega.{arith}
 use lib.ListN.{getD}
-use Rattle.algebra.specs.Divides.{pow}
+use Rattle.algebra.specs.Ring.{pow}
 use Rattle.field.specs.Fp.{Fp, el, mul}
 use Rattle.field.specs.FpLaws.{el-mod, el-mul}
 use Rattle.field.specs.RemainderLaws.{mod-mul-mod}
