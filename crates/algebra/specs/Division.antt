@@ -3,11 +3,11 @@ use mathlib.Core.Path.{_≡_}
 use mathlib.Core.Bool.{Bool, true, false}
 use mathlib.Core.List.{List, [], _∷_}
 use Rattle.algebra.specs.Ring.{CommRing}
-use Rattle.algebra.specs.Series.{S4}
+use Rattle.algebra.specs.SeriesRing.{S4}
 use Rattle.algebra.specs.Four.{Exponents, _⊞_, _≼_, coef}
+use Rattle.algebra.specs.Monomial.{Term, term}
 use Rattle.algebra.specs.Lead.{Lead}
 use Rattle.algebra.specs.GreatestExponent.{Variable, exponent, GreatestExponent}
-use Rattle.algebra.specs.Monomial.{Term, term}
 
 module _ (R : CommRing) where
   -- e are the greatest exponents of f

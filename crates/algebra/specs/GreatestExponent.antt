@@ -1,10 +1,8 @@
--- The greatest exponent of a polynomial in each of the four variables: there is one at most.
-use mathlib.Core.Path.{_≡_, sym, subst}
+-- The greatest exponent of a polynomial in each of the four variables.
+use mathlib.Core.Path.{_≡_}
 use Prim.Native.Nat.{ℕ, _<_}
-use native.Mathlib.Decide.{decLt}
-use native.Mathlib.Omega.{arith}
 use Rattle.algebra.specs.Ring.{CommRing}
-use Rattle.algebra.specs.Series.{S4}
+use Rattle.algebra.specs.SeriesRing.{S4}
 use Rattle.algebra.specs.Four.{Exponents, coef}
 
 pub data Variable : Type 0 where
@@ -27,11 +25,3 @@ module _ (R : CommRing) where
     pub place : Exponents
     pub reached : exponent v place ≡ n
     pub stands : ¬ (coef R f place ≡ R .𝟘)
-
-  pub greatest-unique : (v : Variable) (m n : ℕ) (f : S4 R .Car) → GreatestExponent v m f → GreatestExponent v n f → m ≡ n
-  greatest-unique v m n f s t = go (decLt m n) (decLt n m)
-    where
-      go : Dec (m < n) → Dec (n < m) → m ≡ n
-      go (yes l) b = absurd (t .stands (s .within (t .place) (subst (λ k. m < k) (sym (t .reached)) l)))
-      go (no a) (yes l) = absurd (s .stands (t .within (s .place) (subst (λ k. n < k) (sym (s .reached)) l)))
-      go (no a) (no b) = omega arith

@@ -3,11 +3,12 @@ use mathlib.Core.Path.{_≡_}
 use mathlib.Core.Logic.{_⊎_}
 use mathlib.Core.List.{List, [], _∷_}
 use Prim.Native.Nat.{ℕ, _≤_}
-use Rattle.algebra.specs.Series.{SeriesR, S4}
+use Rattle.algebra.specs.Field.{Field}
+use Rattle.algebra.specs.SeriesRing.{SeriesR, S4}
 use Rattle.algebra.specs.Degree.{Top}
-use Rattle.algebra.specs.Four.{Exponents, coef, D4}
+use Rattle.algebra.specs.Polynomials.{D4, domain}
+use Rattle.algebra.specs.Four.{Exponents, coef}
 use Rattle.algebra.specs.Monomial.{polynomial, monomial}
-use Rattle.algebra.specs.Field.{Field, domain}
 use Rattle.field.specs.Moduli.{Listed}
 use Rattle.field.specs.Refusal.{Passes}
 use Rattle.poly.specs.Terms.{Polynomial}

@@ -4,10 +4,10 @@ use mathlib.Core.List.{List, [], _∷_, map}
 use lib.ListN.{length}
 use Prim.Native.Nat.{ℕ, suc, _<_}
 use Rattle.algebra.specs.Ring.{CommRing}
+use Rattle.algebra.specs.Field.{Field}
 use Rattle.algebra.specs.Series.{Seq}
 use Rattle.algebra.specs.Four.{Exponents}
 use Rattle.algebra.specs.Monomial.{Term, polynomial}
-use Rattle.algebra.specs.Field.{Field}
 use Rattle.field.specs.Numbers.{NO_GOOD_POINT, NO_SOLUTION, SEVERAL_SOLUTIONS, DOES_NOT_DIVIDE}
 use Rattle.field.specs.Refusal.{fault}
 use Rattle.poly.specs.Terms.{Polynomial}

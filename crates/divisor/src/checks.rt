@@ -2,7 +2,7 @@
 ghost use lib.ListN.{length};
 ghost use Rattle.field.specs.Refusal.{Tested};
 ghost use Rattle.poly.specs.Lists.{WrongKey};
-ghost use Rattle.poly.specs.Models.Search.{Searched};
+ghost use Rattle.poly.specs.Search.{Searched};
 ghost use Rattle.divisor.specs.Candidate.{of-skeleton, of-points, of-call};
 use field::Fault;
 use field::Number;

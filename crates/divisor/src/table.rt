@@ -2,7 +2,7 @@
 // its pivot column, where its cell is 1; where no row is kept the cell on the diagonal is 0. A row kept in the last column says 1 = 0: there is
 // no solution.
 ghost use mathlib.Core.Path.{_≡_};
-ghost use Rattle.poly.specs.Models.Search.{Searched};
+ghost use Rattle.poly.specs.Search.{Searched};
 ghost use Rattle.divisor.specs.Models.Table.{COLUMNS as columns-most, Entry, Columns, Column, Back, TableReady, Ready, empty-table, minus, scaled-row, with-row, kind, value, values, solved};
 use crate::checks::KEYS;
 use crate::checks::POINTS;

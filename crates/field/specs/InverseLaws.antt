@@ -7,7 +7,7 @@ use native.Mathlib.Omega.{arith}
 use native.Mathlib.Nat.{mod-eq-of-lt, mod-lt, zero-mod}
 use lib.Dec.{eqb}
 use borrow.Author.Tests.{eqb-true, eqb-false}
-use Rattle.algebra.specs.Ring.{mul-left-comm, mul-neg, neg-unique}
+use Rattle.algebra.specs.Laws.Ring.{mul-left-comm, mul-neg, neg-unique}
 use Rattle.field.specs.Prime.{Prime}
 use Rattle.field.specs.PrimeLaws.{prime-leaves, prime-positive}
 use Rattle.field.specs.Fp.{Fp, el, mul, neg, chase, inv}

@@ -3,7 +3,7 @@ use mathlib.Core.Path.{_≡_, sym, ap, _∙_}
 use Prim.Native.Nat.{ℕ, _+_, _-_, _*_, _%_, _≤_, _<_}
 use native.Mathlib.Omega.{arith}
 use native.Mathlib.Nat.{mod-mod}
-use Rattle.algebra.specs.Ring.{zero-mul, neg-mul, neg-unique}
+use Rattle.algebra.specs.Laws.Ring.{zero-mul, neg-mul, neg-unique}
 use Rattle.field.specs.Prime.{Prime}
 use Rattle.field.specs.PrimeLaws.{prime-positive}
 use Rattle.field.specs.Fp.{Fp, el, add, mul, neg, inv}

@@ -1,11 +1,11 @@
 -- Rules 1 and 2, over any field: bad points, and the image of two polynomials at a good one.
 use mathlib.Core.Path.{_≡_}
 use Prim.Native.Nat.{ℕ}
-use Rattle.algebra.specs.Series.{Seq, SeriesR, S4}
-use Rattle.algebra.specs.Degree.{SeriesD}
+use Rattle.algebra.specs.Field.{Field}
+use Rattle.algebra.specs.Series.{Seq}
+use Rattle.algebra.specs.SeriesRing.{SeriesR, S4}
+use Rattle.algebra.specs.Polynomials.{SeriesD, D4, domain}
 use Rattle.algebra.specs.Divides.{Div}
-use Rattle.algebra.specs.Four.{D4}
-use Rattle.algebra.specs.Field.{Field, domain}
 use Rattle.algebra.specs.GreatestCommon.{GreatestCommon}
 use Rattle.algebra.specs.Univariate.{Monic}
 use Rattle.poly.specs.Terms.{Polynomial}

@@ -2,7 +2,7 @@
 use mathlib.Core.Path.{_≡_}
 use mathlib.Core.List.{List, [], _∷_, _++_}
 use lib.ListN.{length, getD, replicate}
-use Prim.Native.Nat.{ℕ}
+use Prim.Native.Nat.{ℕ, _<_}
 use Rattle.field.specs.Prime.{Prime}
 use Rattle.field.specs.Fp.{el}
 use Rattle.field.specs.Moduli.{Listed}
@@ -40,6 +40,12 @@ of-point p numbers =
 abbrev pub image-table : ImageCall → List Line
 image-table c = of-lists (c .modulus) (c .first-list) (c .second-list) ++ of-point (c .modulus) (c .point)
 
+-- inputs of which nothing is refused: the lines of the modulus and the lists pass, and the point is three numbers below p
+pub record Fine (p : ℕ) (A B point : List ℕ) : Type 0 where
+  pub lists : Passes (of-lists p A B)
+  pub three : length point ≡ 3
+  pub below : (i : ℕ) → i < 3 → getD point i 0 < p
+
 -- the point that three numbers are
 abbrev pub point-of : (p : ℕ) (P : Prime p) → List ℕ → Point (Modulo p P .ring)
 point-of p P numbers = record { y = el p (getD numbers 0 0); z = el p (getD numbers 1 0); w = el p (getD numbers 2 0) }
@@ -53,6 +59,10 @@ pub data PointAnswer (p : ℕ) (P : Prime p) (A B : Polynomial (Modulo p P)) (at
   bad : Bad (Modulo p P) A B at → PointAnswer p P A B at (refusal (fault NO_GOOD_POINT 0))
   good : (degree : ℕ) (coefficients : List ℕ) → Eight p coefficients → Image (Modulo p P) A B at degree (series p coefficients)
       → PointAnswer p P A B at (record { fault = none; coefficients = coefficients; degree = degree })
+
+-- the same of lists and numbers, whatever shows that p is prime
+abbrev pub AnswersPoint : ℕ → List ℕ → List ℕ → List ℕ → ImageRecord → Type 0
+AnswersPoint p A B point r = (P : Prime p) → PointAnswer p P (terms-of p P A) (terms-of p P B) (point-of p P point) r
 
 -- the promise of the image service
 pub data ImageAnswer (c : ImageCall) : ImageRecord → Type 0 where

@@ -4,6 +4,8 @@ pub mod Terms
 pub mod Value
 pub mod Image
 pub mod Lists
+pub mod Search
+pub mod Powers
 pub mod Room
 pub mod Coefficients
 pub mod LeadingPart

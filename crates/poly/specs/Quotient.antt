@@ -3,7 +3,7 @@ use mathlib.Core.Path.{_≡_}
 use mathlib.Core.List.{List, _++_}
 use lib.ListN.{length}
 use Prim.Native.Nat.{ℕ}
-use Rattle.algebra.specs.Series.{S4}
+use Rattle.algebra.specs.SeriesRing.{S4}
 use Rattle.field.specs.Prime.{Prime}
 use Rattle.field.specs.Moduli.{Listed}
 use Rattle.field.specs.ModuliLaws.{listed-prime}

@@ -1,8 +1,8 @@
 -- Terms: a term is one number, its key times 65536 plus its coefficient. What a list of terms means modulo a prime: a polynomial.
 use mathlib.Core.List.{List, map}
 use Prim.Native.Nat.{ℕ, _+_, _*_, _/_, _%_}
-use Rattle.algebra.specs.Series.{S4}
 use Rattle.algebra.specs.Field.{Field}
+use Rattle.algebra.specs.SeriesRing.{S4}
 use Rattle.algebra.specs.Monomial.{Term, polynomial}
 use Rattle.field.specs.Prime.{Prime}
 use Rattle.field.specs.Fp.{el}

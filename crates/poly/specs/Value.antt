@@ -1,10 +1,10 @@
 -- The value of a list of terms at a point (y, z, w): a polynomial in x. Any number to the power 0 is 1.
 use mathlib.Core.List.{List, [], _∷_}
 use Prim.Native.Nat.{ℕ}
-use Rattle.algebra.specs.Ring.{CommRing}
-use Rattle.algebra.specs.Series.{Seq, SeriesR}
+use Rattle.algebra.specs.Ring.{CommRing, pow}
+use Rattle.algebra.specs.Series.{Seq}
+use Rattle.algebra.specs.SeriesRing.{SeriesR}
 use Rattle.algebra.specs.Mono.{mono}
-use Rattle.algebra.specs.Divides.{pow}
 use Rattle.algebra.specs.Monomial.{Term}
 
 pub record Point (R : CommRing) : Type 0 where

@@ -3,11 +3,11 @@ ghost use mathlib.Core.Path.{_≡_};
 ghost use lib.ListN.{length};
 ghost use Rattle.field.specs.Refusal.{Tested};
 ghost use Rattle.poly.specs.Lists.{WrongNumber};
-ghost use Rattle.poly.specs.ImageCall.{image-call, refusal, of-point, image-table, ImageAnswer};
-ghost use Rattle.poly.specs.Models.Search.{Searched};
+ghost use Rattle.poly.specs.ImageCall.{image-call, refusal, of-point, image-table, Fine, AnswersPoint, ImageAnswer};
+ghost use Rattle.poly.specs.Search.{Searched};
 ghost use Rattle.poly.specs.Models.Eight.{gcd};
 ghost use Rattle.poly.specs.Models.EuclidSteps.{Pair};
-ghost use Rattle.poly.specs.Models.Image.{Fine, image-record, image-of};
+ghost use Rattle.poly.specs.Models.Image.{image-record};
 use crate::COORDINATES;
 use crate::Eight;
 use crate::ImageRecord;
@@ -50,7 +50,7 @@ fn image_of_values(p: Number, a: Eight, b: Eight) -> ImageRecord
 // A's highest power of x; then B's value is not worked.
 pub fn image_at(p: Number, first: &[Term], second: &[Term], point: &[Number]) -> ImageRecord
     requires { ⌜ Fine p (now first) (now second) (now point) ⌝ }
-    ensures { λ r. ⌜ r ≡ image-of p (now (first .entry)) (now (second .entry)) (now (point .entry)) ⌝ }
+    ensures { λ r. ⌜ AnswersPoint p (now (first .entry)) (now (second .entry)) (now (point .entry)) r ⌝ }
 {
     let ys = value::powers(p, point[0]);
     let zs = value::powers(p, point[1]);

@@ -4,7 +4,7 @@ ghost use lib.ListN.{length};
 ghost use Rattle.field.specs.Refusal.{Tested};
 ghost use Rattle.poly.specs.Lists.{WrongModulo, of-lists};
 ghost use Rattle.poly.specs.LeadingPart.{of-list, LeadingPart};
-ghost use Rattle.poly.specs.Models.Search.{Searched};
+ghost use Rattle.poly.specs.Search.{Searched};
 ghost use Rattle.poly.specs.Models.Lists.{of-terms, Lower};
 use crate::Term;
 use crate::key::Key;

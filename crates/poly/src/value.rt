@@ -1,7 +1,7 @@
 // The value of a list of terms at a point: the powers of y, z and w are worked once, into three tables.
 ghost use mathlib.Core.Path.{_≡_};
 ghost use Prim.Native.Nat.{_<_};
-ghost use Rattle.poly.specs.Models.Powers.{powers as powers-of};
+ghost use Rattle.poly.specs.Powers.{Powers};
 ghost use Rattle.poly.specs.Models.Value.{Ready, value-of};
 use crate::Eight;
 use crate::POWERS;
@@ -13,7 +13,7 @@ use field::Number;
 // The powers 0 to 7 of a number: for the value below, and for the equations of the layer above.
 pub fn powers(p: Number, y: Number) -> Eight
     requires { ⌜ 0 < p ⌝ }
-    ensures { λ r. ⌜ r ≡ powers-of p y ⌝ }
+    ensures { λ r. ⌜ Powers p y r ⌝ }
 {
     let mut r: Eight = [Element::ONE; POWERS];
     let mut i: usize = 1;

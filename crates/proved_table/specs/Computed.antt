@@ -2,7 +2,8 @@
 use mathlib.Core.List.{List, [], _∷_, map}
 use Prim.Native.Nat.{ℕ, zero, suc, _+_, _-_, _/_}
 use lib.ListN.{length, take}
-use Rattle.algebra.specs.Linear.{Answer, none, one, several, solve}
+use Rattle.algebra.specs.Linear.{Answer, none, one, several}
+use Rattle.algebra.specs.Models.Elimination.{solve}
 use Rattle.field.specs.Prime.{Prime}
 use Rattle.field.specs.Fp.{Fp}
 use Rattle.field.specs.Modulo.{Modulo}

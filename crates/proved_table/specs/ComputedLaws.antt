@@ -6,7 +6,7 @@ use native.Mathlib.Omega.{arith}
 use lib.ListN.{length, getD, take, length-map}
 use Rattle.algebra.specs.Linear.{Answer, none, one, several, Meets}
 use Rattle.algebra.specs.Linear as linear
-use Rattle.algebra.specs.LinearLaws.{solve-meets}
+use Rattle.algebra.specs.Laws.Linear.{solve-meets}
 use Rattle.field.specs.Prime.{Prime}
 use Rattle.field.specs.PrimeLaws.{prime-positive}
 use Rattle.field.specs.Moduli.{Listed}

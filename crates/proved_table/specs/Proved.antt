@@ -7,9 +7,9 @@ use mathlib.Core.List.{List, [], _∷_, map}
 use Prim.Native.Nat.{ℕ, _≤_}
 use native.Mathlib.Decide.{ℕ-discrete, decLe, decLt}
 use lib.ListN.{length}
-use Rattle.algebra.specs.Four.{compare-by, compare}
+use Rattle.algebra.specs.Ring.{pow}
 use Rattle.algebra.specs.Mono.{mono}
-use Rattle.algebra.specs.Divides.{pow}
+use Rattle.algebra.specs.Laws.Four.{compare-by, compare}
 use Rattle.field.specs.Prime.{Prime}
 use Rattle.field.specs.Moduli.{listed}
 use Rattle.field.specs.ModuliLaws.{every, listed-decided}

@@ -4,7 +4,7 @@ use mathlib.Core.Path.{_≡_}
 use mathlib.Core.List.{List, [], _∷_}
 use Prim.Native.Nat.{ℕ, _≤_}
 use lib.ListN.{length}
-use Rattle.algebra.specs.Series.{S4}
+use Rattle.algebra.specs.SeriesRing.{S4}
 use Rattle.field.specs.Prime.{Prime}
 use Rattle.field.specs.Modulo.{Modulo}
 use Rattle.poly.specs.declared.ImageRecord.{ImageRecord}

@@ -5,9 +5,10 @@ use mathlib.Core.Logic.{Dec·and}
 use Prim.Native.Nat.{ℕ, zero, suc, _-_}
 use native.Mathlib.Decide.{decLe}
 use Rattle.algebra.specs.Ring.{CommRing}
-use Rattle.algebra.specs.Four.{Exponents, _⊞_, _≼_, lower, equal, higher, compare}
-use Rattle.algebra.specs.Monomial.{Term}
 use Rattle.algebra.specs.Field.{Field}
+use Rattle.algebra.specs.Four.{Exponents, _⊞_, _≼_}
+use Rattle.algebra.specs.Monomial.{Term}
+use Rattle.algebra.specs.Laws.Four.{lower, equal, higher, compare}
 use Rattle.poly.specs.Terms.{Polynomial}
 
 pub data Outcome : Type 0 where

@@ -5,15 +5,20 @@ use mathlib.Core.Bool.{Bool, true, false, false≢true}
 use mathlib.Core.List.{[], _∷_}
 use Prim.Native.Nat.{ℕ, zero, suc, _+_ as _+ₙ_}
 use native.Mathlib.Omega.{arith}
-use Rattle.algebra.specs.Ring.{CommRing, mul-zero, zero-add}
-use Rattle.algebra.specs.Solver.{_⊕_, _⊗_, ⊝, _⊖_, _≗_, k0, ring2, ring3, ring4}
-use Rattle.algebra.specs.Series.{S4}
-use Rattle.algebra.specs.Divides.{div-refl, div-add, div-mul, div-neg, div-zero, div-to}
-use Rattle.algebra.specs.Four.{Exponents, _⊞_, _≼_, _≺_, Order, lower, equal, higher, compare, not-both-below, below-irreflexive, coef, D4}
-use Rattle.algebra.specs.Lead.{Lead, lead-unique, lead-of-product, lead-exists, lead-nonzero}
-use Rattle.algebra.specs.Monomial.{Term, term, polynomial, monomial, monomial-at, monomial-off}
-use Rattle.algebra.specs.Monomial.{monomial-above, monomial-mul, monomial-add, monomial-zero, monomial-neg, monomial-fin, polynomial-fin}
-use Rattle.algebra.specs.Field.{Field, domain}
+use Rattle.algebra.specs.Ring.{CommRing}
+use Rattle.algebra.specs.Field.{Field}
+use Rattle.algebra.specs.SeriesRing.{S4}
+use Rattle.algebra.specs.Polynomials.{D4, domain}
+use Rattle.algebra.specs.Four.{Exponents, _⊞_, _≼_, _≺_, coef}
+use Rattle.algebra.specs.Monomial.{Term, term, polynomial, monomial}
+use Rattle.algebra.specs.Lead.{Lead}
+use Rattle.algebra.specs.Laws.Ring.{mul-zero, zero-add}
+use Rattle.algebra.specs.Laws.Solver.{_⊕_, _⊗_, ⊝, _⊖_, _≗_, k0, ring2, ring3, ring4}
+use Rattle.algebra.specs.Laws.Divides.{div-refl, div-add, div-mul, div-neg, div-zero, div-to}
+use Rattle.algebra.specs.Laws.Four.{Order, lower, equal, higher, compare, not-both-below, below-irreflexive}
+use Rattle.algebra.specs.Laws.Monomial.{monomial-at, monomial-off}
+use Rattle.algebra.specs.Laws.Monomial.{monomial-above, monomial-mul, monomial-add, monomial-zero, monomial-neg, monomial-fin, polynomial-fin}
+use Rattle.algebra.specs.Laws.Lead.{lead-unique, lead-of-product, lead-exists, lead-nonzero}
 use Rattle.poly.specs.Terms.{Polynomial}
 use Rattle.poly.specs.Image.{Divides}
 use Rattle.proved_table.specs.TermDivision.{Outcome, divides, does-not, open-still, each-at-most, together, term-over, plus}

@@ -18,7 +18,7 @@ use Rattle.poly.specs.declared.ImageRecord.{ImageRecord}
 use Rattle.poly.specs.Terms.{Polynomial, terms-of}
 use Rattle.poly.specs.ImageCall.{image-table}
 use Rattle.poly.specs.Room.{of-rooms, work-room, written, cleared}
-use Rattle.poly.specs.Laws.ImageCall.{image-answered}
+use Rattle.poly.specs.Laws.ImageCall.{image-fine, image-passes as image-in-order, image-answered, model-answers}
 use Rattle.divisor.specs.declared.CandidateRecord.{CandidateRecord}
 use Rattle.divisor.specs.Rule.{report}
 use Rattle.divisor.specs.Candidate.{Call, table, Candidate}
@@ -97,8 +97,11 @@ unfolding image-test image-passes image-agrees
 image-tested r h =
     let both = and-eq-true-iff (image-passes r) (image-agrees r) .0 h in
     let tested = decided-tested (image-table (r .call)) (image-checks (r .call)) in
-    image-answered (r .call .modulus) (r .call .first-list) (r .call .second-list) (r .call .point) _ tested
-    (eqb-true _ 0 (both .0)) (image-known (r .found) _ (same-is _ _ (both .1)))
+    let c = r .call in
+    let passed = eqb-true _ 0 (both .0) in
+    let lists = image-fine _ _ _ _ (image-in-order (c .modulus) (c .first-list) (c .second-list) (c .point) _ tested passed) .lists in
+    image-answered (c .modulus) (c .first-list) (c .second-list) (c .point) _ tested passed (r .found)
+    (model-answers (c .modulus) (c .first-list) (c .second-list) (c .point) lists (image-known (r .found) _ (same-is _ _ (both .1))))
   where
     record-of : List ℕ → ImageRecord
     record-of l = record { fault = record { number = getD l 0 0; place = getD l 1 0 }; degree = getD l 2 0; coefficients = drop 3 l }

@@ -6,7 +6,7 @@ use Prim.Native.Nat.{ℕ, suc, _+_, _-_, _≤_, _<_}
 use native.Mathlib.Omega.{arith}
 use lib.ListN.{length, getD, take, drop, length-map}
 use lib.Seq.{drop-cons, length-take-le}
-use Rattle.algebra.specs.Series.{S4}
+use Rattle.algebra.specs.SeriesRing.{S4}
 use Rattle.algebra.specs.Four.{Exponents}
 use Rattle.algebra.specs.Monomial.{polynomial}
 use Rattle.algebra.specs.Linear as linear

@@ -11,7 +11,8 @@ use Rattle.field.specs.RefusalLaws.{placed-never, tested-line, tested-past, tes
 use Rattle.field.specs.declared.Fault.{Fault}
 use Rattle.poly.specs.Keys.{keys}
 use Rattle.poly.specs.Lists.{Count, WrongKey, above, not-below, WrongNumber}
-use Rattle.poly.specs.Models.Search.{Searching, Searched}
+use Rattle.poly.specs.Search.{Searched}
+use Rattle.poly.specs.Models.Search.{Searching}
 use Rattle.poly.specs.Laws.Search.{search-begins, search-goes-on, search-stops, search-ends, searched-first, searched-none}
 use Rattle.poly.specs.Laws.PointCheck.{numbers-end}
 use Rattle.divisor.specs.Candidate.{most-keys, most-point-numbers, of-skeleton, of-points}

@@ -4,15 +4,18 @@ use mathlib.Core.Path.{_≡_, sym, _∙_, ap, subst}
 use mathlib.Core.List.{List, [], _∷_, map}
 use lib.ListN.{length}
 use Prim.Native.Nat.{ℕ}
-use Rattle.algebra.specs.Ring.{CommRing, one-mul}
-use Rattle.algebra.specs.Solver.{_⊗_, _≗_, ring3}
-use Rattle.algebra.specs.Series.{Seq, SeriesR}
-use Rattle.algebra.specs.Degree.{Top, SeriesD}
-use Rattle.algebra.specs.Divides.{div-from}
+use Rattle.algebra.specs.Ring.{CommRing}
+use Rattle.algebra.specs.Field.{Field}
+use Rattle.algebra.specs.Series.{Seq}
+use Rattle.algebra.specs.SeriesRing.{SeriesR}
+use Rattle.algebra.specs.Degree.{Top}
+use Rattle.algebra.specs.Polynomials.{SeriesD, domain}
 use Rattle.algebra.specs.Four.{Exponents}
-use Rattle.algebra.specs.SameDegree.{same-degree-multiple}
-use Rattle.algebra.specs.Field.{Field, domain}
 use Rattle.algebra.specs.Monomial.{Term, polynomial}
+use Rattle.algebra.specs.Laws.Ring.{one-mul}
+use Rattle.algebra.specs.Laws.Solver.{_⊗_, _≗_, ring3}
+use Rattle.algebra.specs.Laws.SameDegree.{same-degree-multiple}
+use Rattle.algebra.specs.Laws.Divides.{div-from}
 use Rattle.poly.specs.Terms.{Polynomial}
 use Rattle.poly.specs.Value.{Point, value, x-degree}
 use Rattle.poly.specs.Image.{Image}

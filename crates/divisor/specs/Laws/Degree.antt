@@ -4,16 +4,20 @@ use mathlib.Core.Logic.{_⊎_, inl, inr}
 use mathlib.Core.List.{List, [], _∷_}
 use Prim.Native.Nat.{ℕ, suc, _≤_, _<_}
 use native.Mathlib.Omega.{arith}
-use Rattle.algebra.specs.Ring.{CommRing, one-mul}
-use Rattle.algebra.specs.Series.{Seq, SeriesR, S4}
-use Rattle.algebra.specs.Degree.{Top, SeriesD, finite-top}
-use Rattle.algebra.specs.Divides.{div-top, div-to, top-le}
+use Rattle.algebra.specs.Ring.{CommRing}
+use Rattle.algebra.specs.Field.{Field}
+use Rattle.algebra.specs.Series.{Seq}
+use Rattle.algebra.specs.SeriesRing.{SeriesR, S4}
+use Rattle.algebra.specs.Degree.{Top}
+use Rattle.algebra.specs.Polynomials.{SeriesD, domain}
 use Rattle.algebra.specs.Four.{Exponents}
-use Rattle.algebra.specs.Field.{Field, domain}
 use Rattle.algebra.specs.Monomial.{polynomial}
-use Rattle.algebra.specs.Evaluation.{value-null}
 use Rattle.algebra.specs.Evaluate.{at-yzw}
-use Rattle.algebra.specs.GoodValue.{divides-value, divisor-keeps-degree}
+use Rattle.algebra.specs.Laws.Ring.{one-mul}
+use Rattle.algebra.specs.Laws.Degree.{finite-top}
+use Rattle.algebra.specs.Laws.GoodValue.{divides-value, divisor-keeps-degree}
+use Rattle.algebra.specs.Laws.Divides.{div-top, div-to, top-le}
+use Rattle.algebra.specs.Laws.Evaluation.{value-null}
 use Rattle.poly.specs.Terms.{Polynomial}
 use Rattle.poly.specs.Value.{Point, value, x-degree}
 use Rattle.poly.specs.Image.{Divides, DividesX, Bad, Image}

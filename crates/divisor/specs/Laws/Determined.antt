@@ -4,9 +4,9 @@ use mathlib.Core.List.{List, _∷_}
 use lib.ListN.{length}
 use Prim.Native.Nat.{ℕ, suc, _+_ as _+ₙ_, _≤_}
 use native.Mathlib.Omega.{arith}
+use Rattle.algebra.specs.Field.{Field}
 use Rattle.algebra.specs.Series.{Seq}
 use Rattle.algebra.specs.Four.{Exponents}
-use Rattle.algebra.specs.Field.{Field}
 use Rattle.poly.specs.Terms.{Polynomial}
 use Rattle.poly.specs.Value.{Point}
 use Rattle.poly.specs.Laws.Image.{image-unique}

@@ -7,7 +7,8 @@ use native.Mathlib.Nat.{mod-lt}
 use native.Mathlib.Omega.{arith}
 use lib.ListN.{length}
 use Rattle.algebra.specs.Ring.{CommRing}
-use Rattle.algebra.specs.Field.{Field, inv-nonzero, no-zero-divisors}
+use Rattle.algebra.specs.Field.{Field}
+use Rattle.algebra.specs.Laws.Field.{inv-nonzero, no-zero-divisors}
 use Rattle.field.specs.Prime.{Prime}
 use Rattle.field.specs.PrimeLaws.{prime-positive}
 use Rattle.field.specs.Fp.{Fp, el, inv}

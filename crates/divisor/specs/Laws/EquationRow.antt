@@ -8,11 +8,10 @@ use native.Mathlib.Omega.{arith}
 use lib.ListN.{length, getD, replicate, length-append}
 use lib.Seq.{getD-at}
 use borrow.Author.Tests.{eq-eqb, ne-eqb}
-use Rattle.algebra.specs.Ring.{CommRing}
-use Rattle.algebra.specs.Solver.{_⊗_, _≗_, k1, ring3}
-use Rattle.algebra.specs.Mono.{mono-at, mono-off}
-use Rattle.algebra.specs.Divides.{pow}
+use Rattle.algebra.specs.Ring.{CommRing, pow}
 use Rattle.algebra.specs.Field.{Field}
+use Rattle.algebra.specs.Laws.Solver.{_⊗_, _≗_, k1, ring3}
+use Rattle.algebra.specs.Laws.Mono.{mono-at, mono-off}
 use Rattle.field.specs.Prime.{Prime}
 use Rattle.field.specs.PrimeLaws.{prime-positive}
 use Rattle.field.specs.Fp.{Fp, el, mul, neg}

@@ -6,10 +6,10 @@ use native.Mathlib.Omega.{arith}
 use lib.ListN.{length, length-append}
 use lib.Seq.{append-snoc}
 use Rattle.algebra.specs.Ring.{CommRing}
-use Rattle.algebra.specs.Four.{Exponents}
 use Rattle.algebra.specs.Field.{Field}
+use Rattle.algebra.specs.Four.{Exponents}
 use Rattle.algebra.specs.Linear.{SolvesAll}
-use Rattle.algebra.specs.LinearLaws.{solves-append, solves-front, solves-back}
+use Rattle.algebra.specs.Laws.Linear.{solves-append, solves-front, solves-back}
 use Rattle.divisor.specs.Rule.{Kept, Equations}
 use Rattle.divisor.specs.Models.Rows.{rows-at, rows-from, kept-rows, all-rows, with-coefficients}
 use Rattle.divisor.specs.Laws.RowValue.{multiplier, point-says, say-point}

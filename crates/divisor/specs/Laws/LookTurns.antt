@@ -6,8 +6,8 @@ use native.Mathlib.Numerals.{add-one}
 use native.Mathlib.Omega.{arith}
 use lib.ListN.{length, getD, take, length-append}
 use borrow.Author.Tests.{eq-eqb, ne-eqb}
-use Rattle.algebra.specs.Four.{Exponents}
 use Rattle.algebra.specs.Field.{Field}
+use Rattle.algebra.specs.Four.{Exponents}
 use Rattle.field.specs.Prime.{Prime}
 use Rattle.field.specs.Modulo.{Modulo}
 use Rattle.poly.specs.Keys.{exponents}

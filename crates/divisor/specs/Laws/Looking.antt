@@ -12,8 +12,7 @@ use Rattle.poly.specs.declared.ImageRecord.{ImageRecord}
 use Rattle.poly.specs.Terms.{Polynomial, terms-of}
 use Rattle.poly.specs.Value.{Point}
 use Rattle.poly.specs.Coefficients.{Eight, series}
-use Rattle.poly.specs.ImageCall.{point-of, PointAnswer, bad, good}
-use Rattle.poly.specs.Models.Image.{Fine}
+use Rattle.poly.specs.ImageCall.{point-of, PointAnswer, bad, good, Fine}
 use Rattle.poly.specs.Laws.RightLists.{RightLists, lists-are-right}
 use Rattle.poly.specs.Laws.Value.{WithinX}
 use Rattle.poly.specs.Laws.Lists.{falling-small}

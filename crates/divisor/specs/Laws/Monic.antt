@@ -4,14 +4,20 @@ use mathlib.Core.Path.{_≡_, refl, sym, _∙_, ap, ap₂, subst}
 use mathlib.Core.List.{[], _∷_, map}
 use Prim.Native.Nat.{zero}
 use native.Mathlib.Nat.{add-zero}
-use Rattle.algebra.specs.Ring.{CommRing, zero-add, zero-mul, one-mul}
-use Rattle.algebra.specs.Solver.{_⊗_, _≗_, ring4}
-use Rattle.algebra.specs.Series.{SeriesR, S4}
-use Rattle.algebra.specs.Mono.{mono, mono-zero-one}
-use Rattle.algebra.specs.Divides.{div-from}
-use Rattle.algebra.specs.Four.{Exponents, D4, exponents-path}
-use Rattle.algebra.specs.Field.{Field, inv-nonzero, domain}
-use Rattle.algebra.specs.Monomial.{Term, polynomial, monomial, monomial-mul, monomial-zero, monomial-fin}
+use Rattle.algebra.specs.Ring.{CommRing}
+use Rattle.algebra.specs.Field.{Field}
+use Rattle.algebra.specs.SeriesRing.{SeriesR, S4}
+use Rattle.algebra.specs.Polynomials.{D4, domain}
+use Rattle.algebra.specs.Mono.{mono}
+use Rattle.algebra.specs.Four.{Exponents}
+use Rattle.algebra.specs.Monomial.{Term, polynomial, monomial}
+use Rattle.algebra.specs.Laws.Ring.{zero-add, zero-mul, one-mul}
+use Rattle.algebra.specs.Laws.Field.{inv-nonzero}
+use Rattle.algebra.specs.Laws.Solver.{_⊗_, _≗_, ring4}
+use Rattle.algebra.specs.Laws.Mono.{mono-zero-one}
+use Rattle.algebra.specs.Laws.Divides.{div-from}
+use Rattle.algebra.specs.Laws.Four.{exponents-path}
+use Rattle.algebra.specs.Laws.Monomial.{monomial-mul, monomial-zero, monomial-fin}
 use Rattle.poly.specs.Terms.{Polynomial}
 use Rattle.poly.specs.Image.{Divides}
 use Rattle.divisor.specs.Rule.{without-zeros, divided-by, made-monic}

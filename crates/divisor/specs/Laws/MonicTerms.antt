@@ -8,8 +8,8 @@ use native.Mathlib.Omega.{arith}
 use lib.ListN.{length, getD, take}
 use borrow.Author.Tests.{eq-eqb, ne-eqb}
 use Rattle.algebra.specs.Ring.{CommRing}
-use Rattle.algebra.specs.Monomial.{Term}
 use Rattle.algebra.specs.Field.{Field}
+use Rattle.algebra.specs.Monomial.{Term}
 use Rattle.field.specs.Prime.{Prime}
 use Rattle.field.specs.Fp.{Fp, el, inv, mul}
 use Rattle.field.specs.FpLaws.{el-nonzero, el-val, val-of-el}

@@ -2,12 +2,15 @@
 use mathlib.Core.Path.{_≡_, refl, sym, _∙_, ap, ap₂}
 use mathlib.Core.List.{[], _∷_}
 use Prim.Native.Nat.{ℕ}
-use Rattle.algebra.specs.Ring.{CommRing, zero-add, zero-mul}
-use Rattle.algebra.specs.Solver.{_⊗_, _≗_, k0, ring3, ring5}
-use Rattle.algebra.specs.Mono.{mono, mono-times, mono-null}
-use Rattle.algebra.specs.Divides.{pow}
-use Rattle.algebra.specs.Field.{Field, inv-nonzero, domain}
+use Rattle.algebra.specs.Ring.{CommRing, pow}
+use Rattle.algebra.specs.Field.{Field}
+use Rattle.algebra.specs.Polynomials.{domain}
+use Rattle.algebra.specs.Mono.{mono}
 use Rattle.algebra.specs.Monomial.{Term}
+use Rattle.algebra.specs.Laws.Ring.{zero-add, zero-mul}
+use Rattle.algebra.specs.Laws.Field.{inv-nonzero}
+use Rattle.algebra.specs.Laws.Solver.{_⊗_, _≗_, k0, ring3, ring5}
+use Rattle.algebra.specs.Laws.Mono.{mono-times, mono-null}
 use Rattle.poly.specs.Terms.{Polynomial}
 use Rattle.poly.specs.Value.{Point, value, number-at}
 use Rattle.divisor.specs.Rule.{without-zeros, divided-by, made-monic}

@@ -2,11 +2,14 @@
 use mathlib.Core.Path.{_≡_, refl, sym, _∙_, ap, ap₂, subst}
 use mathlib.Core.Logic.{inl, inr}
 use mathlib.Core.List.{List, [], _∷_, map}
-use Rattle.algebra.specs.Ring.{CommRing, zero-add}
-use Rattle.algebra.specs.Series.{S4}
-use Rattle.algebra.specs.Four.{Exponents, _≺_, same-exponents, below-irreflexive, coef}
+use Rattle.algebra.specs.Ring.{CommRing}
 use Rattle.algebra.specs.Field.{Field}
-use Rattle.algebra.specs.Monomial.{Term, polynomial, monomial-at, monomial-off, coef-ext}
+use Rattle.algebra.specs.SeriesRing.{S4}
+use Rattle.algebra.specs.Four.{Exponents, _≺_, coef}
+use Rattle.algebra.specs.Monomial.{Term, polynomial}
+use Rattle.algebra.specs.Laws.Ring.{zero-add}
+use Rattle.algebra.specs.Laws.Four.{same-exponents, below-irreflexive}
+use Rattle.algebra.specs.Laws.Monomial.{monomial-at, monomial-off, coef-ext}
 use Rattle.field.specs.RefusalDecision.{either-decided}
 use Rattle.poly.specs.Terms.{Polynomial}
 use Rattle.divisor.specs.Demands.{Proposed, OnlyProposed}

@@ -6,8 +6,8 @@ use mathlib.Core.List.{List, [], _∷_}
 use Prim.Native.Nat.{ℕ, suc, _<_}
 use lib.ListN.{length}
 use Rattle.algebra.specs.Ring.{CommRing}
-use Rattle.algebra.specs.Four.{Exponents}
 use Rattle.algebra.specs.Field.{Field}
+use Rattle.algebra.specs.Four.{Exponents}
 use Rattle.poly.specs.Terms.{Polynomial}
 use Rattle.poly.specs.Value.{value}
 use Rattle.divisor.specs.Rule.{DividesBoth, Kept, Unknowns, First, Equations, Solution, OnlySolution, divisor, Verdict, none, several, rejected, accepted}

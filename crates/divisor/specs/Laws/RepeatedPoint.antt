@@ -5,9 +5,9 @@ use mathlib.Core.List.{List, [], _∷_}
 use lib.ListN.{length}
 use Prim.Native.Nat.{ℕ, suc, _<_}
 use native.Mathlib.Omega.{arith}
+use Rattle.algebra.specs.Field.{Field}
 use Rattle.algebra.specs.Series.{Seq}
 use Rattle.algebra.specs.Four.{Exponents}
-use Rattle.algebra.specs.Field.{Field}
 use Rattle.field.specs.Numbers.{NO_GOOD_POINT}
 use Rattle.poly.specs.Terms.{Polynomial}
 use Rattle.poly.specs.Value.{Point}

@@ -4,13 +4,14 @@ use mathlib.Core.List.{List, [], _∷_, _++_, map}
 use Prim.Native.Nat.{ℕ, zero, suc, _+_ as _+ₙ_, _<_}
 use native.Mathlib.Omega.{arith}
 use lib.ListN.{length, replicate}
-use Rattle.algebra.specs.Ring.{CommRing, zero-add, zero-mul}
-use Rattle.algebra.specs.Solver.{_⊕_, _⊗_, _⊖_, ⊝, _≗_, k1, ring2, ring3, ring4}
-use Rattle.algebra.specs.Four.{Exponents}
-use Rattle.algebra.specs.Mono.{mono, mono-times}
-use Rattle.algebra.specs.Divides.{pow}
+use Rattle.algebra.specs.Ring.{CommRing, pow}
 use Rattle.algebra.specs.Field.{Field}
+use Rattle.algebra.specs.Mono.{mono}
+use Rattle.algebra.specs.Four.{Exponents}
 use Rattle.algebra.specs.Linear.{eval, SolvesAll}
+use Rattle.algebra.specs.Laws.Ring.{zero-add, zero-mul}
+use Rattle.algebra.specs.Laws.Solver.{_⊕_, _⊗_, _⊖_, ⊝, _≗_, k1, ring2, ring3, ring4}
+use Rattle.algebra.specs.Laws.Mono.{mono-times}
 use Rattle.poly.specs.Value.{Point, number-at, value}
 use Rattle.divisor.specs.Rule.{Kept}
 use Rattle.divisor.specs.Models.Rows.{monomial-at, only-at, row, rows-at, with-coefficients}

@@ -5,8 +5,8 @@ use Prim.Native.Nat.{ℕ, suc, _+_ as _+ₙ_}
 use native.Mathlib.Omega.{arith}
 use lib.ListN.{length, length-append}
 use Rattle.algebra.specs.Ring.{CommRing}
-use Rattle.algebra.specs.Four.{Exponents}
 use Rattle.algebra.specs.Field.{Field}
+use Rattle.algebra.specs.Four.{Exponents}
 use Rattle.algebra.specs.Monomial.{Term}
 use Rattle.algebra.specs.Linear.{SolvesAll}
 use Rattle.algebra.specs.Linear as linear

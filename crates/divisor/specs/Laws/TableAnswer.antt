@@ -7,8 +7,9 @@ use Prim.Native.Nat.{ℕ, zero, suc, _-_, _<_}
 use native.Mathlib.Omega.{arith}
 use lib.ListN.{length, getD, length-set}
 use Rattle.algebra.specs.Field.{Field}
-use Rattle.algebra.specs.Linear.{Table as Equations, fresh, has-failed, has-free, none, one, several, OnlySolution, Meets, steps, solution, answer}
-use Rattle.algebra.specs.LinearLaws.{solve-meets}
+use Rattle.algebra.specs.Linear.{none, one, several, Meets, OnlySolution}
+use Rattle.algebra.specs.Models.Elimination.{Table as Equations, fresh, has-failed, has-free, steps, solution, answer}
+use Rattle.algebra.specs.Laws.Linear.{solve-meets}
 use Rattle.field.specs.Moduli.{Listed}
 use Rattle.field.specs.ModuliLaws.{listed-positive}
 use Rattle.field.specs.Prime.{Prime}

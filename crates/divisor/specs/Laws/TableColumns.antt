@@ -7,7 +7,7 @@ use native.Mathlib.Decide.{ℕ-discrete}
 use native.Mathlib.Omega.{arith}
 use lib.Dec.{eqb}
 use borrow.Author.Tests.{eq-eqb, ne-eqb}
-use Rattle.algebra.specs.Linear.{Table as Equations, solvable, failed, free, pivot, fresh, has-failed, has-free}
+use Rattle.algebra.specs.Models.Elimination.{Table as Equations, solvable, failed, free, pivot, fresh, has-failed, has-free}
 use Rattle.field.specs.Fp.{Fp}
 use Rattle.divisor.specs.declared.table.Table.{Table}
 use Rattle.divisor.specs.declared.table.Kind.{Kind}

@@ -6,8 +6,8 @@ use native.Mathlib.Omega.{arith}
 use lib.ListN.{length, getD, set}
 use lib.Seq.{getD-set-other}
 use Rattle.algebra.specs.Field.{Field}
-use Rattle.algebra.specs.Solver.{_⊕_, _⊗_, ⊝, _≗_, k0, ring2}
-use Rattle.algebra.specs.Linear.{times, plus-times}
+use Rattle.algebra.specs.Models.Elimination.{times, plus-times}
+use Rattle.algebra.specs.Laws.Solver.{_⊕_, _⊗_, ⊝, _≗_, k0, ring2}
 use Rattle.field.specs.Prime.{Prime}
 use Rattle.field.specs.PrimeLaws.{prime-positive}
 use Rattle.field.specs.Fp.{Fp, el, add, mul, neg, inv}

@@ -9,9 +9,10 @@ use native.Mathlib.Omega.{arith}
 use lib.Dec.{eqb}
 use lib.ListN.{length, getD, set, length-set}
 use lib.Seq.{getD-set-same}
-use Rattle.algebra.specs.Ring.{add-cancel}
 use Rattle.algebra.specs.Field.{Field}
-use Rattle.algebra.specs.Linear.{eval, before, solution}
+use Rattle.algebra.specs.Linear.{eval}
+use Rattle.algebra.specs.Models.Elimination.{before, solution}
+use Rattle.algebra.specs.Laws.Ring.{add-cancel}
 use Rattle.field.specs.ModuliLaws.{listed-positive}
 use Rattle.field.specs.Prime.{Prime}
 use Rattle.field.specs.PrimeLaws.{prime-positive}

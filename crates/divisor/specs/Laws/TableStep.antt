@@ -9,7 +9,7 @@ use lib.Dec.{eqb}
 use borrow.Author.Tests.{ne-eqb}
 use lib.Seq.{getD-set-same, getD-set-other}
 use Rattle.algebra.specs.Field.{Field}
-use Rattle.algebra.specs.Linear.{Table as Equations, solvable, failed, free, pivot, times, plus-times, step}
+use Rattle.algebra.specs.Models.Elimination.{Table as Equations, solvable, failed, free, pivot, times, plus-times, step}
 use Rattle.field.specs.Prime.{Prime}
 use Rattle.field.specs.Fp.{Fp, el, neg, inv}
 use Rattle.field.specs.FpLaws.{el-nonzero}

@@ -4,9 +4,9 @@ use mathlib.Core.List.{List, [], _∷_, _++_, map}
 use Prim.Native.Nat.{ℕ, zero, suc}
 use lib.ListN.{length, replicate}
 use Rattle.algebra.specs.Ring.{CommRing}
-use Rattle.algebra.specs.Four.{Exponents}
-use Rattle.algebra.specs.Mono.{mono}
 use Rattle.algebra.specs.Field.{Field}
+use Rattle.algebra.specs.Mono.{mono}
+use Rattle.algebra.specs.Four.{Exponents}
 use Rattle.algebra.specs.Monomial.{Term}
 use Rattle.poly.specs.Terms.{Polynomial}
 use Rattle.poly.specs.Value.{Point, number-at}

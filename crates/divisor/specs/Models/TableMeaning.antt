@@ -5,7 +5,8 @@ use mathlib.Core.List.{List, [], _∷_, map}
 use Prim.Native.Nat.{ℕ, zero, suc}
 use lib.Dec.{eqb}
 use lib.ListN.{getD}
-use Rattle.algebra.specs.Linear.{Table as Equations, solvable, failed, free, pivot, NoSolution, OnlySolution, DifferentSolutions}
+use Rattle.algebra.specs.Linear.{NoSolution, OnlySolution, DifferentSolutions}
+use Rattle.algebra.specs.Models.Elimination.{Table as Equations, solvable, failed, free, pivot}
 use Rattle.field.specs.Prime.{Prime}
 use Rattle.field.specs.Fp.{Fp, el}
 use Rattle.field.specs.Modulo.{Modulo}

@@ -11,7 +11,8 @@ use borrow.Author.Tests.{ltb-true, ltb-false}
 use Rattle.poly.specs.Keys.{keys}
 use Rattle.poly.specs.Terms.{key-of, coefficient-of}
 use Rattle.poly.specs.Lists.{WrongModulo, wrong-term, coefficient-zero, coefficient-large}
-use Rattle.poly.specs.Models.Search.{Searching, Searched}
+use Rattle.poly.specs.Search.{Searched}
+use Rattle.poly.specs.Models.Search.{Searching}
 use Rattle.poly.specs.Models.Lists.{key-before}
 use Rattle.poly.specs.Laws.Search.{search-begins, search-goes-on, search-stops, search-ends}
 use Rattle.poly.specs.Laws.ListCheck.{key-before-first, key-before-next, key-is-wrong, term-is-right}

@@ -33,7 +33,7 @@ cells-all P h n i new none = elim (decLt i n) [
 ]
 
 -- a list that is right at each place is the list
-cells-is : (h : ℕ → ℕ) (n : ℕ) (r : List ℕ) → length r ≡ n → ((i : ℕ) → i < n → getD r i 0 ≡ h i) → r ≡ cells h n
+pub cells-is : (h : ℕ → ℕ) (n : ℕ) (r : List ℕ) → length r ≡ n → ((i : ℕ) → i < n → getD r i 0 ≡ h i) → r ≡ cells h n
 cells-is h n r e s =
     ext-getD 0 r (cells h n) (e ∙ sym (cells-length h n)) (λ i l. let b : i < n = omega arith in s i b ∙ sym (cells-at h n i b))
 

@@ -6,12 +6,14 @@ use native.Mathlib.Nat.{mod-lt}
 use native.Mathlib.Decide.{decLt}
 use native.Mathlib.Omega.{arith}
 use lib.ListN.{length, getD, set, length-set}
-use Rattle.algebra.specs.Ring.{CommRing, zero-add}
-use Rattle.algebra.specs.Solver.{_⊕_, _⊗_, _⊖_, ⊝, _≗_, k0, ring1, ring2, ring3, ring4}
-use Rattle.algebra.specs.Series.{S4}
+use Rattle.algebra.specs.Ring.{CommRing}
+use Rattle.algebra.specs.SeriesRing.{S4}
 use Rattle.algebra.specs.Four.{Exponents, _⊞_, _≺_, coef}
+use Rattle.algebra.specs.Monomial.{term, polynomial, monomial}
 use Rattle.algebra.specs.Lead.{Lead, Upto}
-use Rattle.algebra.specs.Monomial.{term, polynomial, monomial, monomial-at, monomial-off, monomial-add, monomial-zero, monomial-neg, monomial-mul}
+use Rattle.algebra.specs.Laws.Ring.{zero-add}
+use Rattle.algebra.specs.Laws.Solver.{_⊕_, _⊗_, _⊖_, ⊝, _≗_, k0, ring1, ring2, ring3, ring4}
+use Rattle.algebra.specs.Laws.Monomial.{monomial-at, monomial-off, monomial-add, monomial-zero, monomial-neg, monomial-mul}
 use Rattle.field.specs.Fp.{Fp, el, add, neg, mul}
 use Rattle.field.specs.FpLaws.{el-nonzero}
 use Rattle.field.specs.Prime.{Prime}

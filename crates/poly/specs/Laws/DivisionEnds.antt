@@ -8,13 +8,13 @@ use Prim.Native.Nat.{ℕ, _-_, _≤_, _<_}
 use native.Mathlib.Omega.{arith}
 use lib.ListN.{length, getD, replicate, length-map, length-replicate}
 use native.Mathlib.Decide.{decLt}
-use Rattle.algebra.specs.Ring.{zero-add}
-use Rattle.algebra.specs.Series.{S4}
+use Rattle.algebra.specs.SeriesRing.{S4}
+use Rattle.algebra.specs.Polynomials.{domain}
 use Rattle.algebra.specs.Four.{Exponents, _⊞_, _≼_}
-use Rattle.algebra.specs.Field.{domain}
 use Rattle.algebra.specs.Monomial.{Term}
 use Rattle.algebra.specs.Division.{stop, Division}
-use Rattle.algebra.specs.DivisionLaws.{division-says}
+use Rattle.algebra.specs.Laws.Ring.{zero-add}
+use Rattle.algebra.specs.Laws.Division.{division-says}
 use Rattle.field.specs.Fp.{Fp, el, inv, mul}
 use Rattle.field.specs.FpLaws.{el-val, el-nonzero, Fp-mul-comm}
 use Rattle.field.specs.InverseLaws.{mul-inv}

@@ -9,13 +9,13 @@ use native.Mathlib.Decide.{ℕ-discrete}
 use native.Mathlib.Omega.{arith}
 use lib.ListN.{length, getD}
 use Rattle.algebra.specs.Ring.{CommRing}
-use Rattle.algebra.specs.Series.{S4}
+use Rattle.algebra.specs.SeriesRing.{S4}
+use Rattle.algebra.specs.Polynomials.{domain}
 use Rattle.algebra.specs.Four.{Exponents, _⊞_, _≼_, _≺_, coef}
-use Rattle.algebra.specs.Lead.{Lead}
 use Rattle.algebra.specs.Monomial.{term, monomial}
-use Rattle.algebra.specs.Field.{domain}
+use Rattle.algebra.specs.Lead.{Lead}
 use Rattle.algebra.specs.Division.{Sizes, Over, Goes, done, stop, step, Division}
-use Rattle.algebra.specs.DivisionLaws.{under-step}
+use Rattle.algebra.specs.Laws.Division.{under-step}
 use Rattle.field.specs.Fp.{Fp, el, mul}
 use Rattle.field.specs.FpLaws.{el-below-inj, Fp-mul-assoc, Fp-mul-one}
 use Rattle.field.specs.Prime.{Prime}

@@ -6,12 +6,17 @@ use native.Mathlib.Decide.{decLt}
 use native.Mathlib.Nat.{mod-eq-of-lt, mul-zero as mul-zeroₙ, zero-mod}
 use native.Mathlib.Omega.{arith}
 use lib.ListN.{getD}
-use Rattle.algebra.specs.Ring.{CommRing, neg-zero, mul-zero}
+use Rattle.algebra.specs.Ring.{CommRing}
 use Rattle.algebra.specs.Series.{conv}
-use Rattle.algebra.specs.Degree.{Ends, conv-ends}
-use Rattle.algebra.specs.Mono.{mono, mono-low, mono-high, mono-ends}
-use Rattle.algebra.specs.GreatestCommon.{GreatestCommon, Associate}
-use Rattle.algebra.specs.Univariate.{Poly, PolyD, less, greatest-less, over-lead, over-lead-associate}
+use Rattle.algebra.specs.Degree.{Ends}
+use Rattle.algebra.specs.GreatestCommon.{GreatestCommon}
+use Rattle.algebra.specs.Univariate.{Poly, PolyD, over-lead}
+use Rattle.algebra.specs.Mono.{mono}
+use Rattle.algebra.specs.Laws.Ring.{neg-zero, mul-zero}
+use Rattle.algebra.specs.Laws.Degree.{conv-ends}
+use Rattle.algebra.specs.Laws.Mono.{mono-low, mono-high, mono-ends}
+use Rattle.algebra.specs.Laws.GreatestCommon.{Associate}
+use Rattle.algebra.specs.Laws.Univariate.{less, greatest-less, over-lead-associate}
 use Rattle.field.specs.Fp.{Fp, el, add, mul, neg, inv}
 use Rattle.field.specs.FpLaws.{el-val, el-mod, el-inj, el-mul, el-nonzero}
 use Rattle.field.specs.Prime.{Prime}

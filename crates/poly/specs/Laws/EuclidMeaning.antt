@@ -4,8 +4,8 @@ use mathlib.Core.List.{List}
 use Prim.Native.Nat.{ℕ, zero, suc, _-_, _≤_, _<_}
 use native.Mathlib.Decide.{ℕ-discrete}
 use native.Mathlib.Omega.{arith}
-use Rattle.algebra.specs.GreatestCommon.{greatest-swap, greatest-zero, greatest-first, greatest-second}
 use Rattle.algebra.specs.Univariate.{Poly, PolyD}
+use Rattle.algebra.specs.Laws.GreatestCommon.{greatest-swap, greatest-zero, greatest-first, greatest-second}
 use Rattle.field.specs.Fp.{Fp}
 use Rattle.field.specs.Prime.{Prime}
 use Rattle.field.specs.PrimeLaws.{prime-positive}

@@ -6,9 +6,10 @@ use native.Mathlib.Decide.{decLe}
 use native.Mathlib.Omega.{arith}
 use Rattle.algebra.specs.Ring.{CommRing}
 use Rattle.algebra.specs.Four.{coef}
+use Rattle.algebra.specs.Monomial.{polynomial}
 use Rattle.algebra.specs.GreatestExponent.{Variable, in-x, in-y, in-z, in-w, exponent, Within, GreatestExponent}
-use Rattle.algebra.specs.Monomial.{polynomial, monomial-off}
 use Rattle.algebra.specs.Division.{Most, Sizes}
+use Rattle.algebra.specs.Laws.Monomial.{monomial-off}
 use Rattle.field.specs.Fp.{el}
 use Rattle.field.specs.Prime.{Prime}
 use Rattle.field.specs.Modulo.{Modulo}

@@ -3,11 +3,15 @@
 use mathlib.Core.Path.{_≡_, ap}
 use Prim.Native.Nat.{ℕ, suc, _≤_}
 use native.Mathlib.Omega.{arith}
-use Rattle.algebra.specs.Series.{Seq, SeriesR}
-use Rattle.algebra.specs.Degree.{Top, series-top}
-use Rattle.algebra.specs.Divides.{quotient-top}
-use Rattle.algebra.specs.Field.{Field, domain}
-use Rattle.algebra.specs.Univariate.{ends-fin, monic-top, over-lead, over-lead-monic, over-lead-greatest, monic-greatest-unique}
+use Rattle.algebra.specs.Series.{Seq}
+use Rattle.algebra.specs.SeriesRing.{SeriesR}
+use Rattle.algebra.specs.Degree.{Top}
+use Rattle.algebra.specs.Laws.Degree.{series-top}
+use Rattle.algebra.specs.Laws.Divides.{quotient-top}
+use Rattle.algebra.specs.Field.{Field}
+use Rattle.algebra.specs.Polynomials.{domain}
+use Rattle.algebra.specs.Univariate.{over-lead}
+use Rattle.algebra.specs.Laws.Univariate.{ends-fin, monic-top, over-lead-monic, over-lead-greatest, monic-greatest-unique}
 use Rattle.poly.specs.Terms.{Polynomial}
 use Rattle.poly.specs.Value.{Point, value, x-degree}
 use Rattle.poly.specs.Image.{Bad, Image}

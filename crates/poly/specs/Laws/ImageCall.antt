@@ -14,8 +14,9 @@ use Rattle.poly.specs.declared.ImageRecord.{ImageRecord}
 use Rattle.poly.specs.Terms.{Polynomial, terms-of}
 use Rattle.poly.specs.Value.{Point}
 use Rattle.poly.specs.Lists.{of-lists}
-use Rattle.poly.specs.ImageCall.{ImageCall, image-call, of-point, image-table, point-of, refusal, PointAnswer, bad, good, ImageAnswer, refused, answered}
-use Rattle.poly.specs.Models.Image.{Fine, image-of}
+use Rattle.poly.specs.ImageCall.{ImageCall, image-call, of-point, image-table, Fine, point-of, refusal}
+use Rattle.poly.specs.ImageCall.{PointAnswer, bad, good, AnswersPoint, ImageAnswer, refused, answered}
+use Rattle.poly.specs.Models.Image.{image-of}
 use Rattle.poly.specs.Laws.EightMeaning.{series-injective}
 use Rattle.poly.specs.Laws.Image.{image-unique}
 use Rattle.poly.specs.Laws.ImageModel.{image-of-answers}
@@ -37,13 +38,11 @@ module _ (p : ℕ) (A B point : List ℕ) where
     pub image-passes : f .number ≡ 0 → Passes (image-table (image-call p A B point))
     image-passes z = tested-passes (image-table (image-call p A B point)) tt f t z .0
 
-    pub image-answered : f .number ≡ 0 → {r : ImageRecord} → r ≡ image-of p A B point → ImageAnswer (image-call p A B point) r
-    image-answered z e =
+    pub image-answered : f .number ≡ 0 → (r : ImageRecord) → AnswersPoint p A B point r → ImageAnswer (image-call p A B point) r
+    image-answered z r h =
         let pass = image-passes z in
-        let right = lists-are-right p A B (image-fine pass .lists) in
-        rw e
-        (answered pass (right .is-listed) (image-of p A B point)
-        (image-of-answers (listed-prime (right .is-listed)) point A B (right .first) (right .second)))
+        let listed = lists-are-right p A B (image-fine pass .lists) .is-listed in
+        answered pass listed r (h (listed-prime listed))
 
 -- a point settles its answer
 pub point-determined : (p : ℕ) (P : Prime p) (A B : Polynomial (Modulo p P)) (at : Point (Modulo p P .ring)) (r q : ImageRecord)
@@ -55,6 +54,20 @@ point-determined p P A B at r q (good d u h i) (good e v k j) =
     let w = image-unique (Modulo p P) A B at d e _ _ i j in
     let c : u ≡ v = ext-getD 0 u v (h .eight ∙ sym (k .eight)) (λ n l. series-injective p u v h k (w .1) n) in
     λ i. record { fault = none; coefficients = c i; degree = w .0 i }
+
+-- of inputs in order the model's record answers the point, and no other does
+pub model-answers : (p : ℕ) (A B point : List ℕ) → Passes (of-lists p A B) → {r : ImageRecord} → r ≡ image-of p A B point
+    → AnswersPoint p A B point r
+model-answers p A B point h e P =
+    let right = lists-are-right p A B h in
+    subst (PointAnswer p P _ _ _) (sym e) (image-of-answers P point A B (right .first) (right .second))
+
+pub point-model : (p : ℕ) (A B point : List ℕ) → Passes (of-lists p A B) → (r : ImageRecord) → AnswersPoint p A B point r
+    → r ≡ image-of p A B point
+point-model p A B point h r s =
+    let right = lists-are-right p A B h in
+    let P = listed-prime (right .is-listed) in
+    point-determined p P _ _ _ r _ (s P) (image-of-answers P point A B (right .first) (right .second))
 
 image-table-one-place : (c : ImageCall) → OnePlaceEach (image-table c)
 image-table-one-place c =

@@ -6,7 +6,8 @@ use Prim.Native.Nat.{ℕ, _+_, _-_, _≤_}
 use native.Mathlib.Omega.{arith}
 use borrow.Author.Tests.{leb-true, le-leb}
 use lib.Dec.{leb}
-use Rattle.algebra.specs.Four.{Exponents, _⊞_, _≼_, exponents-path, exponents-cancel}
+use Rattle.algebra.specs.Four.{Exponents, _⊞_, _≼_}
+use Rattle.algebra.specs.Laws.Four.{exponents-path, exponents-cancel}
 use Rattle.poly.specs.Keys.{key, exponents}
 use Rattle.poly.specs.Laws.Keys.{Digits, digits-of, key-of-exponents, exponents-of-key, key-add}
 use Rattle.poly.specs.Models.Division.{at-most, fits-in}

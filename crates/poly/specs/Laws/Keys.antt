@@ -2,7 +2,8 @@
 use mathlib.Core.Path.{_≡_, sym, _∙_, ap, ap₂}
 use Prim.Native.Nat.{ℕ, _+_, _*_, _/_, _%_, _<_}
 use native.Mathlib.Omega.{arith}
-use Rattle.algebra.specs.Four.{Exponents, _⊞_, _≺_, by-x, by-y, by-z, by-w, exponents-path, Order, lower, equal, higher, compare}
+use Rattle.algebra.specs.Four.{Exponents, _⊞_, _≺_, by-x, by-y, by-z, by-w}
+use Rattle.algebra.specs.Laws.Four.{exponents-path, Order, lower, equal, higher, compare}
 use Rattle.poly.specs.Keys.{key, exponents}
 
 split-8 : (k : ℕ) → k / 8 ≡ 8 * (k / 64) + k / 8 % 8

@@ -15,7 +15,7 @@ use Rattle.poly.specs.Keys.{keys}
 use Rattle.poly.specs.Terms.{key-of}
 use Rattle.poly.specs.Lists.{WrongTerm, wrong-key}
 use Rattle.poly.specs.LeadingPart.{of-list, x-of, IsLeading, Leading, refused, answered, LeadingPart}
-use Rattle.poly.specs.Models.Search.{Searched}
+use Rattle.poly.specs.Search.{Searched}
 use Rattle.poly.specs.Models.Lists.{Lower}
 use Rattle.poly.specs.Laws.Lists.{none-wrong, FallFrom, keys-fall}
 

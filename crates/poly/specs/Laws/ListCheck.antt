@@ -14,7 +14,7 @@ use Rattle.poly.specs.Keys.{keys}
 use Rattle.poly.specs.Terms.{key-of, coefficient-of, coefficient-limit}
 use Rattle.poly.specs.Lists.{most-terms, Count, WrongKey, above, not-below, WrongTerm, wrong-key, coefficient-zero, WrongModulo, wrong-term, coefficient-large, of-lists}
 use Rattle.poly.specs.LeadingPart.{of-list}
-use Rattle.poly.specs.Models.Search.{Searched}
+use Rattle.poly.specs.Search.{Searched}
 use Rattle.poly.specs.Models.Lists.{of-terms, key-before}
 use Rattle.poly.specs.Laws.Search.{searched-first, searched-none}
 

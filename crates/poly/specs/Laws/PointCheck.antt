@@ -11,7 +11,7 @@ use Rattle.field.specs.RefusalLaws.{placed-never, never-placed, tested-line, te
 use Rattle.field.specs.declared.Fault.{Fault}
 use Rattle.poly.specs.Lists.{WrongNumber}
 use Rattle.poly.specs.ImageCall.{of-point}
-use Rattle.poly.specs.Models.Search.{Searched}
+use Rattle.poly.specs.Search.{Searched}
 use Rattle.poly.specs.Laws.Lists.{none-wrong}
 use Rattle.poly.specs.Laws.Search.{searched-first, searched-none}
 

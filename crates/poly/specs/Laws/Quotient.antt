@@ -4,11 +4,10 @@ use mathlib.Core.List.{List, [], _∷_}
 use Prim.Native.Nat.{ℕ, _≤_, _<_}
 use native.Mathlib.Omega.{arith}
 use lib.ListN.{length}
-use Rattle.algebra.specs.Series.{S4}
-use Rattle.algebra.specs.Four.{D4}
-use Rattle.algebra.specs.Field.{domain}
-use Rattle.algebra.specs.Divides.{cancel}
-use Rattle.algebra.specs.Lead.{lead-nonzero}
+use Rattle.algebra.specs.SeriesRing.{S4}
+use Rattle.algebra.specs.Polynomials.{D4, domain}
+use Rattle.algebra.specs.Laws.Divides.{cancel}
+use Rattle.algebra.specs.Laws.Lead.{lead-nonzero}
 use Rattle.field.specs.Prime.{Prime}
 use Rattle.field.specs.Moduli.{Listed}
 use Rattle.field.specs.ModuliLaws.{listed-prime, listed-unique}

@@ -6,9 +6,10 @@ use native.Mathlib.Nat.{mod-lt}
 use native.Mathlib.Omega.{arith}
 use lib.ListN.{length, getD, set, length-set}
 use lib.Seq.{getD-set-other}
-use Rattle.algebra.specs.Ring.{CommRing, zero-add}
-use Rattle.algebra.specs.Series.{S4}
+use Rattle.algebra.specs.Ring.{CommRing}
+use Rattle.algebra.specs.SeriesRing.{S4}
 use Rattle.algebra.specs.Monomial.{monomial, polynomial}
+use Rattle.algebra.specs.Laws.Ring.{zero-add}
 use Rattle.field.specs.Fp.{el}
 use Rattle.field.specs.Prime.{Prime}
 use Rattle.field.specs.PrimeLaws.{prime-positive}

@@ -7,10 +7,10 @@ use native.Mathlib.Nat.{mod-lt}
 use native.Mathlib.Decide.{ℕ-discrete}
 use native.Mathlib.Omega.{arith}
 use Rattle.algebra.specs.Ring.{CommRing}
-use Rattle.algebra.specs.Field.{domain}
+use Rattle.algebra.specs.Polynomials.{domain}
 use Rattle.algebra.specs.Monomial.{Term, FallsBelow, Falls}
 use Rattle.algebra.specs.Division.{Division}
-use Rattle.algebra.specs.DivisionLaws.{division-falls, division-quotient, division-determined}
+use Rattle.algebra.specs.Laws.Division.{division-falls, division-quotient, division-determined}
 use Rattle.field.specs.Fp.{el}
 use Rattle.field.specs.Prime.{Prime}
 use Rattle.field.specs.PrimeLaws.{prime-positive}

@@ -5,7 +5,8 @@ use native.Mathlib.Decide.{decLt}
 use native.Mathlib.Omega.{arith}
 use borrow.Author.Count.{below-none, below-more}
 use Rattle.field.specs.Refusal.{first}
-use Rattle.poly.specs.Models.Search.{Searching, Searched}
+use Rattle.poly.specs.Search.{Searched}
+use Rattle.poly.specs.Models.Search.{Searching}
 
 module _ {Wrong : ℕ → Type 0} {n : ℕ} where
   pub search-begins : Searching Wrong n 0

@@ -8,9 +8,10 @@ use borrow.Author.Tests.{eq-eqb, ne-eqb}
 use lib.ListN.{length, getD, set, length-set}
 use lib.Seq.{getD-set-same, getD-set-other}
 use Rattle.algebra.specs.Ring.{CommRing}
-use Rattle.algebra.specs.Solver.{_⊕_, _⊖_, ⊝, _≗_, k0, ring1, ring2}
-use Rattle.algebra.specs.Series.{S4}
-use Rattle.algebra.specs.Monomial.{monomial, monomial-neg, polynomial}
+use Rattle.algebra.specs.SeriesRing.{S4}
+use Rattle.algebra.specs.Monomial.{monomial, polynomial}
+use Rattle.algebra.specs.Laws.Solver.{_⊕_, _⊖_, ⊝, _≗_, k0, ring1, ring2}
+use Rattle.algebra.specs.Laws.Monomial.{monomial-neg}
 use Rattle.field.specs.Fp.{Fp, el}
 use Rattle.field.specs.Prime.{Prime}
 use Rattle.field.specs.PrimeLaws.{prime-positive}

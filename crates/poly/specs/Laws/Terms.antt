@@ -5,12 +5,14 @@ use mathlib.Core.List.{List, [], _∷_}
 use Prim.Native.Nat.{ℕ, suc, _≤_, _<_}
 use native.Mathlib.Decide.{decLt}
 use native.Mathlib.Omega.{arith}
-use Rattle.algebra.specs.Ring.{CommRing, zero-add, add-cancel}
-use Rattle.algebra.specs.Series.{S4}
-use Rattle.algebra.specs.Four.{Exponents, _≺_, coef, D4}
+use Rattle.algebra.specs.Ring.{CommRing}
+use Rattle.algebra.specs.SeriesRing.{S4}
+use Rattle.algebra.specs.Polynomials.{D4, domain}
+use Rattle.algebra.specs.Four.{Exponents, _≺_, coef}
+use Rattle.algebra.specs.Monomial.{term, polynomial}
 use Rattle.algebra.specs.Lead.{Lead}
-use Rattle.algebra.specs.Field.{domain}
-use Rattle.algebra.specs.Monomial.{term, polynomial, monomial-at, monomial-off}
+use Rattle.algebra.specs.Laws.Ring.{zero-add, add-cancel}
+use Rattle.algebra.specs.Laws.Monomial.{monomial-at, monomial-off}
 use Rattle.field.specs.Prime.{Prime}
 use Rattle.field.specs.Fp.{el}
 use Rattle.field.specs.FpLaws.{el-below-inj, el-nonzero}

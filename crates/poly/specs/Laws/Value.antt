@@ -4,15 +4,18 @@ use mathlib.Core.List.{[], _∷_}
 use Prim.Native.Nat.{ℕ, suc, _≤_}
 use native.Mathlib.Omega.{arith}
 use Rattle.algebra.specs.Ring.{CommRing}
-use Rattle.algebra.specs.Series.{SeriesR, S4}
-use Rattle.algebra.specs.Degree.{Ends, Finite, SeriesD}
-use Rattle.algebra.specs.Mono.{mono-off}
-use Rattle.algebra.specs.Divides.{mono-fin}
-use Rattle.algebra.specs.Four.{D4}
-use Rattle.algebra.specs.Field.{Field, domain}
-use Rattle.algebra.specs.Monomial.{polynomial, polynomial-fin, monomial, monomial-fin}
+use Rattle.algebra.specs.Field.{Field}
+use Rattle.algebra.specs.SeriesRing.{SeriesR, S4}
+use Rattle.algebra.specs.Degree.{Ends}
+use Rattle.algebra.specs.Domain.{Finite}
+use Rattle.algebra.specs.Polynomials.{SeriesD, D4, domain}
+use Rattle.algebra.specs.Monomial.{polynomial, monomial}
 use Rattle.algebra.specs.Evaluation.{Evaluation}
-use Rattle.algebra.specs.Evaluate.{at-point, at-point-mono}
+use Rattle.algebra.specs.Evaluate.{at-point}
+use Rattle.algebra.specs.Laws.Mono.{mono-off}
+use Rattle.algebra.specs.Laws.Divides.{mono-fin}
+use Rattle.algebra.specs.Laws.Monomial.{polynomial-fin, monomial-fin}
+use Rattle.algebra.specs.Laws.Evaluate.{at-point-mono}
 use Rattle.poly.specs.Terms.{Polynomial}
 use Rattle.poly.specs.Value.{Point, value}
 

@@ -6,8 +6,10 @@ use native.Mathlib.Decide.{ℕ-discrete}
 use native.Mathlib.Omega.{arith}
 use lib.ListN.{length, getD, set, replicate, length-set}
 use lib.Seq.{getD-set-same, getD-set-other}
-use Rattle.algebra.specs.Ring.{CommRing, zero-add}
-use Rattle.algebra.specs.Mono.{mono, mono-at, mono-off}
+use Rattle.algebra.specs.Ring.{CommRing}
+use Rattle.algebra.specs.Mono.{mono}
+use Rattle.algebra.specs.Laws.Ring.{zero-add}
+use Rattle.algebra.specs.Laws.Mono.{mono-at, mono-off}
 use Rattle.field.specs.Prime.{Prime}
 use Rattle.field.specs.PrimeLaws.{prime-positive}
 use Rattle.field.specs.Fp.{Fp, el, add, mul}

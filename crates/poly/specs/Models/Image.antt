@@ -1,25 +1,17 @@
--- The model of the image at a point, as the code works it: the two values by tables of powers, then Euclid's algorithm; and what that asks for.
-use mathlib.Core.Path.{_≡_}
+-- The model of the image at a point, as the code works it: the two values by tables of powers, then Euclid's algorithm.
 use mathlib.Core.Bool.{true, false}
 use mathlib.Core.List.{List}
-use Prim.Native.Nat.{ℕ, _-_, _<_}
+use Prim.Native.Nat.{ℕ, _-_}
 use lib.Dec.{eqb}
-use lib.ListN.{length, getD}
+use lib.ListN.{getD}
 use Rattle.field.specs.Numbers.{NO_GOOD_POINT}
-use Rattle.field.specs.Refusal.{fault, none, Passes}
+use Rattle.field.specs.Refusal.{fault, none}
 use Rattle.poly.specs.declared.ImageRecord.{ImageRecord}
-use Rattle.poly.specs.Lists.{of-lists}
 use Rattle.poly.specs.LeadingPart.{x-of}
 use Rattle.poly.specs.ImageCall.{refusal}
 use Rattle.poly.specs.Models.Powers.{powers}
 use Rattle.poly.specs.Models.Value.{value-of}
 use Rattle.poly.specs.Models.Eight.{size, gcd}
-
--- inputs of which nothing is refused: the lines of the modulus and the lists pass, and the point is three numbers below p
-pub record Fine (p : ℕ) (A B point : List ℕ) : Type 0 where
-  pub lists : Passes (of-lists p A B)
-  pub three : length point ≡ 3
-  pub below : (i : ℕ) → i < 3 → getD point i 0 < p
 
 -- the value at a point of three numbers
 unfoldable pub value-at : ℕ → List ℕ → List ℕ → List ℕ

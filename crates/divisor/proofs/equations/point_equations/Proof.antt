@@ -5,10 +5,11 @@ use mathlib.Core.Logic.{⊎-elim}
 use Prim.Native.Nat.{ℕ, _-_, _≤_}
 use native.Mathlib.Omega.{arith}
 use native.Mathlib.Nat.{mod-lt}
+use lib.ListN.{getD}
 use Rattle.field.specs.ModuliLaws.{listed-above, listed-positive}
 use Rattle.poly.specs.Coefficients.{Eight}
 use Rattle.poly.specs.Models.Powers.{powers}
-use Rattle.poly.specs.Laws.Powers.{powers-eight}
+use Rattle.poly.specs.Laws.Powers.{powers-eight, powers-model}
 use Rattle.divisor.specs.Models.Table.{with-row, TableReady}
 use Rattle.divisor.specs.Models.Equation.{Equations-to}
 use Rattle.divisor.specs.Laws.TableTurns.{blank-adds-nothing}
@@ -26,6 +27,20 @@ abbrev μ-loop : tie.MeasureT-loop
 -- at the loop: where the function began
 abbrev start : tie.At-loop Inv-loop μ-loop → tie.Start Inv-loop μ-loop
 start l = l .before .before .before .before .before .before .before .before .before .before
+
+-- at the loop: the tables of powers are the model's
+module _ (l : tie.At-loop Inv-loop μ-loop) where
+  abbrev coordinate : ℕ → ℕ
+  coordinate k = getD (start l .args .point .now) k 0
+
+  y-table : l .before .before .before .before .before .powers .result ≡ powers (start l .args .p) (coordinate 0)
+  y-table = powers-model _ _ _ (l .before .before .before .before .before .powers .ensures)
+
+  z-table : l .before .before .before .powers2 .result ≡ powers (start l .args .p) (coordinate 1)
+  z-table = powers-model _ _ _ (l .before .before .before .powers2 .ensures)
+
+  w-table : l .before .powers3 .result ≡ powers (start l .args .p) (coordinate 2)
+  w-table = powers-model _ _ _ (l .before .powers3 .ensures)
 
 shared-slice-read-powers : tie.Need-shared-slice-read-powers Inv-loop μ-loop
 shared-slice-read-powers c = search needs
@@ -70,9 +85,9 @@ equation-requires c κs =
     let above = listed-above (s .pre .table .listed) in
     record {
       listed = s .pre .table .listed;
-      y-powers = subst (Eight (a .p)) (sym (c .before .before .before .before .before .before .before .powers .ensures)) (powers-eight (a .p) _ above);
-      z-powers = subst (Eight (a .p)) (sym (c .before .before .before .before .before .powers2 .ensures)) (powers-eight (a .p) _ above);
-      w-powers = subst (Eight (a .p)) (sym (c .before .before .before .powers3 .ensures)) (powers-eight (a .p) _ above);
+      y-powers = subst (Eight (a .p)) (sym (y-table (c .before .before))) (powers-eight (a .p) _ above);
+      z-powers = subst (Eight (a .p)) (sym (z-table (c .before .before))) (powers-eight (a .p) _ above);
+      w-powers = subst (Eight (a .p)) (sym (w-table (c .before .before))) (powers-eight (a .p) _ above);
       small = s .pre .small;
       behind = s .pre .behind;
       within = omega (arith, s .pre .within, s .pre .table .columns .most);
@@ -122,16 +137,14 @@ added c =
 loop-again : tie.Need-loop-again Inv-loop μ-loop
 loop-again c =
     let e = c .before .before in
-    let s = start (e .before .before .before) in
+    let at = e .before .before .before in
+    let s = start at in
     let a = s .args in
-    let l = e .before .before .before .loop in
-    let y = e .before .before .before .before .before .before .before .before .powers .ensures in
-    let z = e .before .before .before .before .before .before .powers2 .ensures in
-    let w = e .before .before .before .before .powers3 .ensures in (
+    let l = at .loop in (
       omega arith,
       point-next (a .p) (a .t) (a .skeleton .now) (a .point .now) (a .image .now) (a .column) (l .i) (l .s) _ (e .equation .result) (c .if1 .s)
           (listed-positive (s .pre .table .listed)) (s .pre .eight .below (l .i)) refl
-          (equation-with y z w (e .equation .ensures))
+          (equation-with (y-table at) (z-table at) (w-table at) (e .equation .ensures))
           (l .inv .1) (added c),
     )
 

@@ -5,7 +5,9 @@ use Prim.Native.Nat.{ℕ, _-_, _/_, _≤_, _<_}
 use native.Mathlib.Omega.{arith}
 use lib.ListN.{length}
 use Rattle.poly.specs.declared.ImageRecord.{ImageRecord}
-use Rattle.poly.specs.Models.Image.{Fine, image-of}
+use Rattle.poly.specs.ImageCall.{Fine}
+use Rattle.poly.specs.Models.Image.{image-of}
+use Rattle.poly.specs.Laws.ImageCall.{point-model}
 use Rattle.divisor.specs.Models.Looks.{look-at, Looks}
 use Rattle.divisor.specs.Laws.Parts.{part-is}
 use Rattle.divisor.specs.Laws.Stores.{looks-start, looks-next}
@@ -53,7 +55,9 @@ seen-is : (c : tie.After-image-at Inv-loop μ-loop) → let a = c .before .befor
     c .image-at .result ≡ look-at (a .p) (a .first .now) (a .second .now) (a .points .now) (c .before .before .before .loop .i)
 seen-is c =
     let a = c .before .before .before .before .before .before .before .before .args in
-    c .image-at .ensures ∙ ap (image-of (a .p) (a .first .now) (a .second .now)) (part-is 3 (c .before .before .before .loop .i) (a .points .now))
+    point-model (a .p) (a .first .now) (a .second .now) _ (c .before .before .before .before .before .before .before .before .pre .lists) _
+    (c .image-at .ensures)
+    ∙ ap (image-of (a .p) (a .first .now) (a .second .now)) (part-is 3 (c .before .before .before .loop .i) (a .points .now))
 
 size-requires : tie.Need-size-requires Inv-loop μ-loop
 size-requires c κs =

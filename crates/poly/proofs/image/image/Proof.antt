@@ -1,4 +1,4 @@
--- `poly::image::image` meets its contract: a refusal of the table, or the answer at the point by the model. Assumes nothing.
+-- `poly::image::image` meets its contract: a refusal of the table, or the answer at the point. Assumes nothing.
 use Rattle.poly.specs.Laws.ImageCall.{image-fine, image-passes, image-refused, image-answered}
 use borrow.Author.Needs.{needs}
 use Rattle.poly.proofs.image.image.Statement.{statement}
@@ -27,7 +27,7 @@ returns-2 : tie.Need-returns-2
 returns-2 c =
     let tested = c .before .before .before in
     let a = tested .before .before .before .before .args in
-    image-answered (a .p) (a .first .now) (a .second .now) (a .point .now) _ (tested .image-fault .ensures) (c .before .if1 .left) (c .image-at .ensures)
+    image-answered (a .p) (a .first .now) (a .second .now) (a .point .now) _ (tested .image-fault .ensures) (c .before .if1 .left) _ (c .image-at .ensures)
 
 pub image-spec : {M : Type 1} → statement M
 image-spec =

@@ -1,19 +1,23 @@
 -- `poly::image::image_at` meets its contract: the tables, A's value and the test of the point, B's value and what is made of both are
--- the model's. Assumes nothing.
+-- the model's, whose record answers the point.
 use mathlib.Core.Path.{_≡_, sym, ap, _∙_, subst}
 use mathlib.Core.List.{List}
 use Prim.Native.Nat.{ℕ}
 use native.Mathlib.Omega.{arith}
 use lib.ListN.{getD}
 use Rattle.field.specs.ModuliLaws.{listed-prime, listed-above, listed-positive}
+use Rattle.poly.specs.declared.ImageRecord.{ImageRecord}
 use Rattle.poly.specs.Coefficients.{Eight}
 use Rattle.poly.specs.Keys.{exponents}
 use Rattle.poly.specs.LeadingPart.{x-of}
 use Rattle.poly.specs.Models.Value.{Ready, value-of}
-use Rattle.poly.specs.ImageCall.{refusal}
+use Rattle.poly.specs.ImageCall.{refusal, AnswersPoint}
+use Rattle.poly.specs.Models.Powers.{powers}
 use Rattle.poly.specs.Models.Eight.{gcd}
 use Rattle.poly.specs.Models.Image.{value-at, image-record, image-of}
 use Rattle.poly.specs.Laws.RightLists.{RightList, RightLists, lists-are-right}
+use Rattle.poly.specs.Laws.Powers.{powers-model}
+use Rattle.poly.specs.Laws.ImageCall.{model-answers}
 use Rattle.poly.specs.Laws.ImageModel.{values-bad, values-good, size-positive, tables-ready, value-by-tables, value-at-eight, first-power-small}
 use borrow.Author.Needs.{needs}
 use Rattle.poly.proofs.image.image_at.Statement.{statement}
@@ -43,15 +47,20 @@ module _ (c : tie.After-powers3) where
   abbrev ws : List ℕ
   ws = c .powers3 .result
 
+  y-table : ys ≡ powers p (getD point 0 0)
+  y-table = powers-model p _ ys (c .before .before .before .before .powers .ensures)
+
+  z-table : zs ≡ powers p (getD point 1 0)
+  z-table = powers-model p _ zs (c .before .before .powers2 .ensures)
+
+  w-table : ws ≡ powers p (getD point 2 0)
+  w-table = powers-model p _ ws (c .powers3 .ensures)
+
   ready : (ts : List ℕ) → RightList p ts → Ready p ys zs ws ts
-  ready =
-      tables-ready p point ys zs ws (c .before .before .before .before .powers .ensures) (c .before .before .powers2 .ensures) (c .powers3 .ensures)
-      (listed-above (right start .is-listed))
+  ready = tables-ready p point ys zs ws y-table z-table w-table (listed-above (right start .is-listed))
 
   worked : (ts : List ℕ) {r : List ℕ} → r ≡ value-of p ys zs ws ts → r ≡ value-at p point ts
-  worked ts e =
-      e
-      ∙ value-by-tables p point ys zs ws (c .before .before .before .before .powers .ensures) (c .before .before .powers2 .ensures) (c .powers3 .ensures) ts
+  worked ts e = e ∙ value-by-tables p point ys zs ws y-table z-table w-table ts
 
   in-range : (ts : List ℕ) {r : List ℕ} → r ≡ value-of p ys zs ws ts → Eight p r
   in-range ts e = subst (Eight p) (sym (worked ts e)) (value-at-eight (listed-prime (right start .is-listed)) point ts)
@@ -76,6 +85,10 @@ module _ (c : tie.After-x) where
   -- the number that is tested is the model's
   lead : getD (c .before .before .before .value .result) (c .x .result) 0 ≡ getD (value-at (p tables) (point tables) A) (x-of (getD A 0 0)) 0
   lead = λ i. getD (first-value i) (power i) 0
+
+  -- the model's record answers the point
+  answers : {r : ImageRecord} → r ≡ image-of (p tables) A B (point tables) → AnswersPoint (p tables) A B (point tables) r
+  answers = model-answers (p tables) A B (point tables) (start tables .pre .lists)
 
 shared-slice-read-powers : tie.Need-shared-slice-read-powers
 shared-slice-read-powers c = search needs
@@ -128,7 +141,8 @@ returns : tie.Need-returns
 unfolding image-of
 returns c =
     let at-x = c .before .before .before in
-    c .refused .ensures ∙ ap refusal (c .before .at .ensures) ∙ sym (values-bad _ _ _ _ (sym (lead at-x) ∙ c .before .before .if1 .taken))
+    answers at-x
+    (c .refused .ensures ∙ ap refusal (c .before .at .ensures) ∙ sym (values-bad _ _ _ _ (sym (lead at-x) ∙ c .before .before .if1 .taken)))
 
 value-requires-2 : tie.Need-value-requires-2
 value-requires-2 c κs = ready (tables (c .before)) (B (c .before)) (right (start (tables (c .before))) .second)
@@ -150,9 +164,10 @@ unfolding image-of
 returns-2 c =
     let at-x = c .before .before .before in
     let k = tables at-x in
-    c .image-of-values .ensures
+    answers at-x
+    (c .image-of-values .ensures
     ∙ (λ i. image-record (gcd (p k) (first-value at-x i) (worked k (B at-x) (c .before .value2 .ensures) i)))
-    ∙ sym (values-good _ _ _ _ (λ z. c .before .before .if1 .left (lead at-x ∙ z)))
+    ∙ sym (values-good _ _ _ _ (λ z. c .before .before .if1 .left (lead at-x ∙ z))))
 
 pub image-at-spec : {M : Type 1} → statement M
 image-at-spec =

@@ -1,14 +1,15 @@
 -- `poly::value::powers` meets its contract: the loop fills the table from 1 on. Assumes nothing.
 use borrow.Author.Needs.{needs}
 use mathlib.Core.List.{List}
-use mathlib.Core.Path.{_≡_, refl, ap, _∙_}
+use mathlib.Core.Path.{_≡_, refl, sym, ap, _∙_, subst}
 use Prim.Native.Nat.{ℕ, _-_, _*_, _%_, _≤_}
 use native.Mathlib.Omega.{arith}
 use lib.ListN.{length, replicate}
+use Rattle.poly.specs.Powers.{Powers}
 use Rattle.poly.specs.Models.Cells.{Filled}
 use Rattle.poly.specs.Laws.Cells.{filled-start, filled-next, filled-end}
 use Rattle.poly.specs.Models.Powers.{power, powers}
-use Rattle.poly.specs.Laws.Powers.{power-start, power-next}
+use Rattle.poly.specs.Laws.Powers.{power-start, power-next, powers-are}
 use Rattle.poly.proofs.value.powers.Statement.{statement}
 use Rattle.poly.proofs.value.powers.Tie as tie
 
@@ -67,7 +68,8 @@ unfolding powers
 returns c =
     let l = c .before .loop in
     let a = c .before .before .args in
-    filled-end (power (a .p) (a .y)) _ 8 (l .i) (l .r) (l .inv .3) (l .inv .2) (omega arith)
+    subst (Powers (a .p) (a .y)) (sym (filled-end (power (a .p) (a .y)) _ 8 (l .i) (l .r) (l .inv .3) (l .inv .2) (omega arith)))
+    (powers-are (a .p) (a .y))
 
 pub powers-spec : {M : Type 1} → statement M
 powers-spec =

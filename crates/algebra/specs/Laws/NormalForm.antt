@@ -1,13 +1,14 @@
 -- Expressions whose normal forms agree are equal in every commutative ring.
 use mathlib.Core.Path.{_≡_, refl, sym, _∙_, ap, ap₂, subst}
 use mathlib.Core.List.{List, [], _∷_}
-use Prim.Native.Nat.{ℕ, zero, suc, _+_ as _+ₙ_, _*_ as _*ₙ_, compare, Ordering, Ordering·lt, Ordering·eq, Ordering·gt}
-use Prim.Native.Nat.{compare·zero-suc, compare·suc-zero, compare·suc-suc}
+use Prim.Native.Nat.{ℕ, zero, suc, _+_ as _+ₙ_, _*_ as _*ₙ_, compare, Ordering, Ordering·lt, Ordering·eq, Ordering·gt, compare·zero-suc, compare·suc-zero}
+use Prim.Native.Nat.{compare·suc-suc}
 use native.Mathlib.Nat.{suc-add, zero-add as zero-addₙ, suc-mul, zero-mul as zero-mulₙ}
-use Rattle.algebra.specs.Ring.{CommRing, add-left-comm, mul-left-comm, zero-add, zero-mul, mul-zero, one-mul, distrib-l}
-use Rattle.algebra.specs.Ring.{neg-mul, mul-neg, neg-neg, neg-dist, neg-zero, add-neg-cancel}
-use Rattle.algebra.specs.NormalForm.{Expr, var, k0, k1, _⊕_, _⊗_, ⊝, Sum, none, more, choose, insert, join, then, order, put, both, scaled, times}
-use Rattle.algebra.specs.NormalForm.{NormalForm, normal, EqualAnd, Equal, Same, Agree}
+use Rattle.algebra.specs.Ring.{CommRing}
+use Rattle.algebra.specs.Models.NormalForm.{_⊕_, Expr, var, k0, k1, _⊗_, ⊝, Sum, none, more, choose, insert, join, then, order, put, both, scaled}
+use Rattle.algebra.specs.Models.NormalForm.{times, NormalForm, normal, EqualAnd, Equal, Same, Agree}
+use Rattle.algebra.specs.Laws.Ring.{zero-add, add-left-comm, mul-left-comm, one-mul, distrib-l, add-neg-cancel, zero-mul, mul-zero, neg-mul, mul-neg}
+use Rattle.algebra.specs.Laws.Ring.{neg-neg, neg-zero, neg-dist}
 
 compare-eq : (m n : ℕ) → Equal (compare m n) → m ≡ n
 compare-eq zero zero t = refl

@@ -2,8 +2,9 @@
 use mathlib.Core.Path.{_≡_, refl, sym, _∙_, ap, ap₂, fun-ext}
 use Prim.Native.Nat.{ℕ, zero, suc}
 use Rattle.algebra.specs.Ring.{CommRing}
-use Rattle.algebra.specs.Solver.{_⊕_, _≗_, ring4}
-use Rattle.algebra.specs.Series.{Seq, tail, constS, conv, SeriesR}
+use Rattle.algebra.specs.Series.{Seq, tail, constS, conv}
+use Rattle.algebra.specs.SeriesRing.{SeriesR}
+use Rattle.algebra.specs.Laws.Solver.{_⊕_, _≗_, ring4}
 
 -- ring homomorphisms
 pub record Hom (R S : CommRing) : Type 0 where
@@ -41,7 +42,7 @@ abbrev pub flip : {A : Type 0} → (ℕ → ℕ → A) → ℕ → ℕ → A
 flip f = λ b a. f a b
 
 module _ (R : CommRing) where
-  open CommRing R using (Car, 𝟙, add as _+_, mul as _*_)
+  open CommRing R using (Car, add as _+_, mul as _*_)
 
   infixl 60 _+_
   infixl 70 _*_

@@ -1,15 +1,28 @@
--- Each polynomial but 0 has a greatest exponent in each variable, and those of two factors add.
-use mathlib.Core.Path.{_≡_, sym, _∙_, ap, fun-ext, subst}
-use Prim.Native.Nat.{ℕ, suc, _+_ as _+ₙ_, _<_}
+-- A polynomial has one greatest exponent at most in each variable; each but 0 has one, and those of two factors add.
+use mathlib.Core.Path.{_≡_, sym, subst, _∙_, ap, fun-ext}
+use Prim.Native.Nat.{ℕ, _<_, suc, _+_ as _+ₙ_}
+use native.Mathlib.Decide.{decLt}
 use native.Mathlib.Omega.{arith}
 use Rattle.algebra.specs.Ring.{CommRing}
-use Rattle.algebra.specs.Series.{SeriesR, S2, S3, S4}
-use Rattle.algebra.specs.Degree.{Ends, Top, Domain, SeriesD, top-mul, series-top, series-dec0}
-use Rattle.algebra.specs.Finite.{Keeps}
-use Rattle.algebra.specs.Four.{Exponents, coef, D2, D3, D4}
-use Rattle.algebra.specs.Lead.{lead-exists}
-use Rattle.algebra.specs.GreatestExponent.{Variable, exponent, Within, GreatestExponent, greatest-unique}
-use Rattle.algebra.specs.Front.{Front, front}
+use Rattle.algebra.specs.SeriesRing.{SeriesR, S2, S3, S4}
+use Rattle.algebra.specs.Degree.{Ends, Top}
+use Rattle.algebra.specs.Domain.{Domain}
+use Rattle.algebra.specs.Polynomials.{SeriesD, D2, D3, D4}
+use Rattle.algebra.specs.Four.{Exponents, coef}
+use Rattle.algebra.specs.GreatestExponent.{Variable, exponent, Within, GreatestExponent}
+use Rattle.algebra.specs.Laws.Degree.{top-mul, series-dec0, series-top}
+use Rattle.algebra.specs.Laws.Lead.{lead-exists}
+use Rattle.algebra.specs.Laws.Finite.{Keeps}
+use Rattle.algebra.specs.Laws.Front.{Front, front}
+
+module _ (R : CommRing) where
+  pub greatest-unique : (v : Variable) (m n : ℕ) (f : S4 R .Car) → GreatestExponent R v m f → GreatestExponent R v n f → m ≡ n
+  greatest-unique v m n f s t = go (decLt m n) (decLt n m)
+    where
+      go : Dec (m < n) → Dec (n < m) → m ≡ n
+      go (yes l) b = absurd (t .stands (s .within (t .place) (subst (λ k. m < k) (sym (t .reached)) l)))
+      go (no a) (yes l) = absurd (s .stands (t .within (s .place) (subst (λ k. n < k) (sym (s .reached)) l)))
+      go (no a) (no b) = omega arith
 
 module _ (R : CommRing) (D : Domain R) (v : Variable) where
   F : Front R D v

@@ -4,9 +4,11 @@ use Prim.Native.Nat.{ℕ, zero, suc, _+_ as _+ₙ_, _≤_, _<_}
 use native.Mathlib.Decide.{ℕ-discrete, decLe}
 use native.Mathlib.Omega.{arith}
 use Rattle.algebra.specs.Ring.{CommRing}
-use Rattle.algebra.specs.Series.{Seq, SeriesR}
-use Rattle.algebra.specs.Degree.{Domain, SeriesD}
-use Rattle.algebra.specs.Maps.{Hom, SeriesH, flipH}
+use Rattle.algebra.specs.Series.{Seq}
+use Rattle.algebra.specs.SeriesRing.{SeriesR}
+use Rattle.algebra.specs.Domain.{Domain}
+use Rattle.algebra.specs.Polynomials.{SeriesD}
+use Rattle.algebra.specs.Laws.Maps.{Hom, SeriesH, flipH}
 
 -- h 0 + .. + h (N - 1), a bound of each
 unfoldable pub sum : ℕ → (ℕ → ℕ) → ℕ

@@ -5,14 +5,18 @@ use Prim.Native.Nat.{ℕ, zero, suc, _+_ as _+ₙ_, _-_ as _-ₙ_, _≤_}
 use native.Mathlib.Decide.{decLe}
 use native.Mathlib.Omega.{arith}
 use Rattle.algebra.specs.Ring.{CommRing}
-use Rattle.algebra.specs.Solver.{_⊕_, _⊗_, _⊖_, _≗_, k0, ring2, ring4}
+use Rattle.algebra.specs.Field.{Field}
 use Rattle.algebra.specs.Series.{Seq, addS, negS, zeroS, conv}
-use Rattle.algebra.specs.Degree.{Ends, Top, Ends-weaken, finite-top}
+use Rattle.algebra.specs.Degree.{Ends, Top}
+use Rattle.algebra.specs.Polynomials.{domain}
+use Rattle.algebra.specs.GreatestCommon.{GreatestCommon}
+use Rattle.algebra.specs.Univariate.{Poly, PolyD, Fin, over-lead, MonicGreatest}
 use Rattle.algebra.specs.Mono.{mono}
-use Rattle.algebra.specs.Divides.{mono-fin}
-use Rattle.algebra.specs.Field.{Field, domain}
-use Rattle.algebra.specs.GreatestCommon.{GreatestCommon, greatest-swap, greatest-subtract}
-use Rattle.algebra.specs.Univariate.{Monic, Poly, PolyD, Fin, ends-fin, less, less-ends, over-lead, over-lead-monic, over-lead-greatest}
+use Rattle.algebra.specs.Laws.Solver.{_⊕_, _⊗_, _⊖_, k0, _≗_, ring2, ring4}
+use Rattle.algebra.specs.Laws.Degree.{Ends-weaken, finite-top}
+use Rattle.algebra.specs.Laws.Divides.{mono-fin}
+use Rattle.algebra.specs.Laws.GreatestCommon.{greatest-swap, greatest-subtract}
+use Rattle.algebra.specs.Laws.Univariate.{ends-fin, less, less-ends, over-lead-monic, over-lead-greatest}
 
 module _ (F : Field) where
   open CommRing (F .ring) using (Car, 𝟘, mul as _*_)
@@ -72,23 +76,16 @@ module _ (F : Field) where
       ∙ ap (λ (u : Seq (F .ring)). addS (F .ring) u (negS (F .ring) (conv (F .ring) (d .quo) g))) (d .eq))
       (greatest-swap (Poly F) (PolyD F) g (d .rest) h s))
 
-  -- the monic greatest common divisor of f and g
-  pub record MonicGreatest (f g : Seq (F .ring)) : Type 0 where
-    pub degree : ℕ
-    pub gcd : Seq (F .ring)
-    pub monic : Monic (F .ring) degree gcd
-    pub greatest : GreatestCommon (Poly F) (PolyD F) f g gcd
-
   -- it exists: f is not zero, and g ends at N
-  pub monic-greatest : (N m : ℕ) (f g : Seq (F .ring)) → Top (F .ring) m f → Ends (F .ring) N g → MonicGreatest f g
+  pub monic-greatest : (N m : ℕ) (f g : Seq (F .ring)) → Top (F .ring) m f → Ends (F .ring) N g → MonicGreatest F f g
   monic-greatest N m f g tf hg = step N m f g tf hg (finite-top (F .ring) (domain F) g (ends-fin F N g hg))
     where
-      alone : (m : ℕ) (f g : Seq (F .ring)) → Top (F .ring) m f → ((i : ℕ) → g i ≡ 𝟘) → MonicGreatest f g
+      alone : (m : ℕ) (f g : Seq (F .ring)) → Top (F .ring) m f → ((i : ℕ) → g i ≡ 𝟘) → MonicGreatest F f g
       alone m f g tf z =
           record { degree = m; gcd = over-lead F m f; monic = over-lead-monic F m f tf; greatest = over-lead-greatest F m f g tf (fun-ext z) }
 
       step : (N m : ℕ) (f g : Seq (F .ring)) → Top (F .ring) m f → Ends (F .ring) N g
-          → ((i : ℕ) → g i ≡ 𝟘) ⊎ ((n : ℕ) × Top (F .ring) n g) → MonicGreatest f g
+          → ((i : ℕ) → g i ≡ 𝟘) ⊎ ((n : ℕ) × Top (F .ring) n g) → MonicGreatest F f g
       step zero m f g tf hg (inl z) = alone m f g tf z
       step zero m f g tf hg (inr t) = absurd (t .1 .nonzero (hg (t .0) (omega arith)))
       step (suc N) m f g tf hg (inl z) = alone m f g tf z

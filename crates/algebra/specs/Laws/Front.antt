@@ -1,12 +1,13 @@
 -- Bringing a variable to the front, where its greatest exponent is the degree: swaps of two variables are homomorphisms.
 use mathlib.Core.Path.{_≡_, refl, _∙_, ap}
 use Rattle.algebra.specs.Ring.{CommRing}
-use Rattle.algebra.specs.Series.{SeriesR, S2, S3, S4}
-use Rattle.algebra.specs.Degree.{Domain, SeriesD}
-use Rattle.algebra.specs.Maps.{Hom, SeriesH, flipH}
-use Rattle.algebra.specs.Finite.{Keeps, keeps-map, keeps-flip}
-use Rattle.algebra.specs.Four.{Exponents, coef, D2, D3, D4}
+use Rattle.algebra.specs.SeriesRing.{SeriesR, S2, S3, S4}
+use Rattle.algebra.specs.Domain.{Domain}
+use Rattle.algebra.specs.Polynomials.{SeriesD, D2, D3, D4}
+use Rattle.algebra.specs.Four.{Exponents, coef}
 use Rattle.algebra.specs.GreatestExponent.{Variable, in-x, in-y, in-z, in-w, exponent}
+use Rattle.algebra.specs.Laws.Maps.{Hom, SeriesH, flipH}
+use Rattle.algebra.specs.Laws.Finite.{Keeps, keeps-map, keeps-flip}
 
 module _ (R : CommRing) where
   -- a homomorphism that brings the variable v to the front, and where each monomial goes

@@ -1,4 +1,4 @@
--- Expressions of a commutative ring, their normal forms, and when two normal forms agree: all of it computes, for `Solver`.
+-- Expressions of a commutative ring, their normal forms, and when two normal forms agree: all of it computes, for the solver.
 use mathlib.Core.List.{List, [], _∷_}
 use Prim.Native.Nat.{ℕ, _+_ as _+ₙ_, _*_ as _*ₙ_, compare, Ordering, Ordering·lt, Ordering·eq, Ordering·gt}
 

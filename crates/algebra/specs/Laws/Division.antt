@@ -6,17 +6,23 @@ use mathlib.Core.List.{List, _∷_}
 use Prim.Native.Nat.{_+_ as _+ₙ_, _≤_, _<_}
 use native.Mathlib.Decide.{decLe}
 use native.Mathlib.Omega.{arith}
-use Rattle.algebra.specs.Ring.{CommRing, zero-mul}
-use Rattle.algebra.specs.Solver.{_⊕_, _⊗_, _⊖_, _≗_, ring2, ring3}
-use Rattle.algebra.specs.Series.{S4}
-use Rattle.algebra.specs.Degree.{Domain}
-use Rattle.algebra.specs.Divides.{Div, cancel}
-use Rattle.algebra.specs.Four.{Exponents, _⊞_, _≼_, _≺_, Order, lower, equal, higher, compare, below-cancel, exponents-cancel, exponents-path, coef, D4}
-use Rattle.algebra.specs.Lead.{Lead, Upto, lead-unique, lead-of-product, lead-exists, lead-nonzero, coef-of-product, upto-of-product}
-use Rattle.algebra.specs.GreatestExponent.{Variable, in-x, in-y, in-z, in-w, exponent, greatest-unique}
-use Rattle.algebra.specs.GreatestExponentLaws.{factor-within}
-use Rattle.algebra.specs.Monomial.{Term, term, polynomial, monomial-at, monomial-off, monomial-above, monomial-fin, polynomial-fin, FallsBelow, Falls}
+use Rattle.algebra.specs.Ring.{CommRing}
+use Rattle.algebra.specs.SeriesRing.{S4}
+use Rattle.algebra.specs.Domain.{Domain}
+use Rattle.algebra.specs.Polynomials.{D4}
+use Rattle.algebra.specs.Divides.{Div}
+use Rattle.algebra.specs.Four.{Exponents, _⊞_, _≼_, _≺_, coef}
+use Rattle.algebra.specs.Monomial.{Term, term, polynomial, FallsBelow, Falls}
+use Rattle.algebra.specs.Lead.{Upto, Lead}
+use Rattle.algebra.specs.GreatestExponent.{Variable, in-x, in-y, in-z, in-w, exponent}
 use Rattle.algebra.specs.Division.{Most, Sizes, Over, Goes, done, stop, step, Division}
+use Rattle.algebra.specs.Laws.Ring.{zero-mul}
+use Rattle.algebra.specs.Laws.Solver.{_⊕_, _⊗_, _⊖_, _≗_, ring2, ring3}
+use Rattle.algebra.specs.Laws.Divides.{cancel}
+use Rattle.algebra.specs.Laws.Four.{exponents-path, Order, lower, equal, higher, compare, below-cancel, exponents-cancel}
+use Rattle.algebra.specs.Laws.Monomial.{monomial-at, monomial-off, monomial-above, monomial-fin, polynomial-fin}
+use Rattle.algebra.specs.Laws.Lead.{lead-nonzero, lead-unique, coef-of-product, upto-of-product, lead-of-product, lead-exists}
+use Rattle.algebra.specs.Laws.GreatestExponent.{greatest-unique, factor-within}
 
 module _ (R : CommRing) (D : Domain R) (every : (c : R .Car) → D .P c) where
   abbrev Poly : Type 0

@@ -6,11 +6,13 @@ use mathlib.Core.Logic.{_↔_}
 use Prim.Native.Nat.{ℕ, zero, suc}
 use native.Mathlib.Omega.{arith}
 use lib.ListN.{length}
-use Rattle.algebra.specs.Ring.{CommRing, zero-add, mul-zero, one-mul, neg-unique, neg-add}
-use Rattle.algebra.specs.Solver.{_⊕_, _⊗_, ⊝, _≗_, k0, k1, ring2, ring4, ring6}
+use Rattle.algebra.specs.Ring.{CommRing}
 use Rattle.algebra.specs.Field.{Field}
-use Rattle.algebra.specs.Linear.{Table, solvable, failed, free, pivot, fresh, has-failed, has-free, none, one, several, solution, solve}
-use Rattle.algebra.specs.Linear.{eval, Solves, SolvesAll, Solution, Meets, times, plus-times, step, steps}
+use Rattle.algebra.specs.Linear.{none, one, several, eval, Solves, SolvesAll, Solution, Meets}
+use Rattle.algebra.specs.Models.Elimination.{Table, solvable, failed, free, pivot, fresh, has-failed, has-free, times, plus-times, step, steps}
+use Rattle.algebra.specs.Models.Elimination.{solution, solve}
+use Rattle.algebra.specs.Laws.Ring.{zero-add, one-mul, neg-add, mul-zero, neg-unique}
+use Rattle.algebra.specs.Laws.Solver.{_⊕_, _⊗_, ⊝, k0, k1, _≗_, ring2, ring4, ring6}
 
 module _ (K : Field) where
   open CommRing (K .ring) using (Car, 𝟘, 𝟙, add as _+_, mul as _*_, neg)

@@ -1,0 +1,26 @@
+-- Laws of the definitions, each file one subject.
+pub mod Ring
+pub mod Field
+pub mod NormalForm
+pub mod Solver
+pub mod Series
+pub mod Degree
+pub mod Mono
+pub mod Divides
+pub mod SameDegree
+pub mod GreatestCommon
+pub mod Univariate
+pub mod MonicGreatest
+pub mod Four
+pub mod Monomial
+pub mod Lead
+pub mod Maps
+pub mod Finite
+pub mod Front
+pub mod GreatestExponent
+pub mod Division
+pub mod Linear
+pub mod Evaluation
+pub mod Substitution
+pub mod Evaluate
+pub mod GoodValue
