@@ -31,13 +31,13 @@ use Rattle.case_file.specs.Reading.{fault-number, reading, read-one, alone, rea
 use Rattle.case_file.specs.Examples.{example}
 use Rattle.console.specs.OfFile.{asked}
 use Rattle.console.specs.CandidateOfFile.{CandidateOfFile}
-use Rattle.proved_table.specs.Row.{result, Holds, Shows, Multiplies, Each}
+use Rattle.proved_table.specs.Row.{result, Holds, Determined, Shows, Multiplies, Each}
 use Rattle.proved_table.specs.TermDivision.{each-at-most, plus, less, less-all, before-all, leads, divided, division}
 use Rattle.proved_table.specs.Computed.{tried, divided-by, by-answer, with-counts, by-kept, by-least, by-looks, computed}
 use Rattle.proved_table.specs.Decisions.{count-decided, not-below-decided, key-decided, term-decided, number-decided, checks-append}
 use Rattle.proved_table.specs.Decisions.{list-checks, skeleton-checks, points-checks, point-checks, checks, image-checks}
 use Rattle.proved_table.specs.Test.{same-numbers, agrees, passes, answers, test, image-passes, image-agrees, image-test, multiplies}
-use Rattle.proved_table.specs.TestLaws.{tested, image-tested, multiplied, each-tested}
+use Rattle.proved_table.specs.TestLaws.{tested, holds-determined, image-tested, multiplied, each-tested, each-follows}
 use Rattle.proved_table.specs.Table.{images, products, p1, table}
 
 pub table-passes : every test table ≡ true
@@ -50,6 +50,10 @@ table-passes = refl
 
 pub table-holds : Each Holds table
 table-holds = each-tested test Holds tested table table-passes
+
+-- no other result meets the contract of a row's call
+pub table-determined : Each Determined table
+table-determined = each-follows Holds Determined holds-determined table table-holds
 
 -- the images that the rows name are those
 pub images-hold : Each Shows images

@@ -44,6 +44,11 @@ result r output work = record { found = r .found; output = written (r .terms) ou
 abbrev pub Holds : Row → Type 0
 Holds r = (output work : List ℕ) → length (r .skeleton) ≤ length output → work-room ≤ length work → Candidate (call r output work) (result r output work)
 
+-- and nothing else is: every result that meets the contract of the row's call is the row's
+abbrev pub Determined : Row → Type 0
+Determined r = (output work : List ℕ) → length (r .skeleton) ≤ length output → work-room ≤ length work
+    → (q : Result) → Candidate (call r output work) q → q ≡ result r output work
+
 -- an image that a row names
 pub record ImageRow : Type 0 where
   pub call : ImageCall

@@ -1,4 +1,4 @@
--- A row that passes the test holds, and so do an image and a product; and each of a list does. Assumes nothing.
+-- A row that passes the test holds, and so do an image and a product; and each of a list does. A row that holds is the only result of its call.
 use mathlib.Core.Path.{_≡_, refl, ap, ap₂, subst}
 use mathlib.Core.Bool.{Bool, true, false, false≢true, and-eq-true-iff}
 use mathlib.Core.List.{List, [], _∷_}
@@ -22,7 +22,8 @@ use Rattle.poly.specs.Laws.ImageCall.{image-answered}
 use Rattle.divisor.specs.declared.CandidateRecord.{CandidateRecord}
 use Rattle.divisor.specs.Rule.{report}
 use Rattle.divisor.specs.Candidate.{Call, table, Candidate}
-use Rattle.proved_table.specs.Row.{Row, call, result, Holds, ImageRow, Shows, Product, Multiplies, Each}
+use Rattle.divisor.specs.Laws.CandidateDetermined.{candidate-determined}
+use Rattle.proved_table.specs.Row.{Row, call, result, Holds, Determined, ImageRow, Shows, Product, Multiplies, Each}
 use Rattle.proved_table.specs.TermDivisionLaws.{nothing-left-means}
 use Rattle.proved_table.specs.Decisions.{image-checks}
 use Rattle.proved_table.specs.Computed.{Computed, unanswered, answered}
@@ -92,6 +93,9 @@ module _ (r : Row) (output work : List ℕ) (long : length (r .skeleton) ≤ len
 pub tested : (r : Row) → test r ≡ true → Holds r
 tested r h output work long room = tested-here r output work long room h
 
+pub holds-determined : (r : Row) → Holds r → Determined r
+holds-determined r h output work long room q meets = candidate-determined (call r output work) q (result r output work) meets (h output work long room)
+
 pub image-tested : (r : ImageRow) → image-test r ≡ true → Shows r
 unfolding image-test image-passes image-agrees
 image-tested r h =
@@ -120,3 +124,7 @@ each-tested f F law [] h = tt
 each-tested f F law (x ∷ xs) h =
     let both = and-eq-true-iff (f x) (every f xs) .0 h in
     (law x (both .0), each-tested f F law xs (both .1))
+
+pub each-follows : {X : Type 0} (F G : X → Type 0) → ((x : X) → F x → G x) → (xs : List X) → Each F xs → Each G xs
+each-follows F G law [] h = tt
+each-follows F G law (x ∷ xs) h = (law x (h .0), each-follows F G law xs (h .1))
