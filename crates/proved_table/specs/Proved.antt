@@ -1,5 +1,6 @@
--- P1 to P12 hold: the table passes its test, by computing. P1 is also what the bytes of document 01 are answered; and beside the table stand
--- the images that its rows name and the products that give its polynomials. Assumes nothing.
+-- P1 to P12 hold, and so do the rows beside them: they pass their test, by computing. No other result meets the contract of a row's call.
+-- P1 is also what the bytes of document 01 are answered; and beside the table stand the images that its rows name and the products that give its
+-- polynomials.
 use mathlib.Core.Path.{_≡_, refl}
 use mathlib.Core.Bool.{true}
 use mathlib.Core.Logic.{Dec·not, Dec·and}
@@ -38,18 +39,23 @@ use Rattle.proved_table.specs.Decisions.{count-decided, not-below-decide
 use Rattle.proved_table.specs.Decisions.{list-checks, skeleton-checks, points-checks, point-checks, checks, image-checks}
 use Rattle.proved_table.specs.Test.{same-numbers, agrees, passes, answers, test, image-passes, image-agrees, image-test, multiplies}
 use Rattle.proved_table.specs.TestLaws.{tested, holds-determined, image-tested, multiplied, each-tested, each-follows}
+use Rattle.proved_table.specs.MoreRows.{more-rows}
 use Rattle.proved_table.specs.Table.{images, products, p1, table}
 
-pub table-passes : every test table ≡ true
+pub table-passes : (every test table ≡ true) × (every test more-rows ≡ true)
 unfolding ℕ-discrete decLe decLt mono pow listed listed-decided el add mul neg chase inv Fp-discrete Dec·not Dec·and placed-check look first-check
     decided cells power powers plus-term value-from value-of size-to scaled monic less-at subtract remainder euclid gcd value-at image-of-values
     image-of points-of size-of lesser least-from alike kept-of leading scaled-terms compare-by compare each-at-most plus less before-all leads
     divided division tried divided-by by-answer with-counts by-kept by-least by-looks computed count-decided not-below-decided key-decided
     term-decided number-decided checks-append list-checks skeleton-checks points-checks checks same-numbers agrees passes answers test
-table-passes = refl
+table-passes = (refl, refl)
 
 pub table-holds : Each Holds table
-table-holds = each-tested test Holds tested table table-passes
+table-holds = each-tested test Holds tested table (table-passes .0)
+
+-- the rows beside those of document 01 hold
+pub more-rows-hold : Each Holds more-rows
+more-rows-hold = each-tested test Holds tested more-rows (table-passes .1)
 
 -- no other result meets the contract of a row's call
 pub table-determined : Each Determined table
