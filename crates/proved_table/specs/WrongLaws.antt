@@ -9,13 +9,20 @@ use lib.Dec.{eqb}
 use lib.ListN.{length, getD, drop, replicate, take-append-drop}
 use borrow.Author.Tests.{eqb-false}
 use Rattle.poly.specs.Room.{work-room, written, zeroed, cleared}
+use Rattle.poly.specs.declared.ImageRecord.{ImageRecord}
+use Rattle.poly.specs.Quotient.{QuotientResult}
+use Rattle.poly.specs.Laws.Quotient.{quotient-determined}
+use Rattle.poly.specs.Laws.ImageCall.{image-determined}
 use Rattle.divisor.specs.Candidate.{Result}
-use Rattle.proved_table.specs.Row.{Row}
-use Rattle.proved_table.specs.Test.{numbers, test}
-use Rattle.proved_table.specs.TestLaws.{tested, holds-determined}
-use Rattle.proved_table.specs.Wrong.{Wrong, Begins, work-left, Refuted}
+use Rattle.case_file.specs.Reading.{read}
+use Rattle.case_file.specs.Handed.{contents}
+use Rattle.proved_table.specs.Row.{quotient-call-of}
+use Rattle.proved_table.specs.Test.{numbers, test, quotient-numbers, quotient-test, image-numbers, image-test}
+use Rattle.proved_table.specs.TestLaws.{tested, holds-determined, quotient-tested, image-tested}
+use Rattle.proved_table.specs.Wrong.{Wrong, Begins, work-left, Refuted, QuotientRefuted, ImageRefuted, FileRefuted}
 use Rattle.proved_table.specs.WrongResults.{WrongCandidate}
-use Rattle.proved_table.specs.WrongTest.{clash, left-full, differs, wrong-test}
+use Rattle.proved_table.specs.WrongServices.{WrongQuotient, WrongImage, WrongFile}
+use Rattle.proved_table.specs.WrongTest.{clash, left-full, differs, wrong-test, wrong-quotient-test, wrong-image-test, file-numbers, wrong-file-test}
 
 -- lists that begin with lists that clash are not equal
 clash-means : (xs ys more rest : List ℕ) → clash xs ys ≡ true → xs ++ more ≡ ys ++ rest → ⊥
@@ -91,3 +98,22 @@ refuted w h output work long room b c meets =
     let e = holds-determined (w .row) (tested (w .row) (both .0)) output work long room _ meets in
     differs-means w (λ r. numbers r []) (w .row .found) (w .row .terms) (both .1) output work b c
     (ap (λ (r : Result). r .found) e) (ap (λ (r : Result). r .output) e) (ap (λ (r : Result). r .work) e)
+
+pub quotient-refuted : (w : WrongQuotient) → wrong-quotient-test w ≡ true → QuotientRefuted w
+unfolding wrong-quotient-test
+quotient-refuted w h output work long room b c meets =
+    let both = and-eq-true-iff (quotient-test (w .row)) _ .0 h in
+    let e = quotient-determined (quotient-call-of (w .row) output work) _ _ meets (quotient-tested (w .row) (both .0) output work long room) in
+    differs-means w (λ r. quotient-numbers r []) (w .row .found) (w .row .terms) (both .1) output work b c
+    (ap (λ (r : QuotientResult). r .found) e) (ap (λ (r : QuotientResult). r .output) e) (ap (λ (r : QuotientResult). r .work) e)
+
+pub image-refuted : (w : WrongImage) → wrong-image-test w ≡ true → ImageRefuted w
+unfolding wrong-image-test
+image-refuted w h meets =
+    let both = and-eq-true-iff (image-test (w .row)) _ .0 h in
+    clash-differ (image-numbers (w .found)) (image-numbers (w .row .found)) (both .1)
+    (ap (λ (r : ImageRecord). image-numbers r) (image-determined (w .row .call) (w .found) (w .row .found) meets (image-tested (w .row) (both .0))))
+
+pub file-refuted : (w : WrongFile) → wrong-file-test w ≡ true → FileRefuted w
+unfolding wrong-file-test
+file-refuted w h e = clash-differ (file-numbers (w .found)) (file-numbers (contents (read (w .row .bytes)))) h (ap file-numbers e)
