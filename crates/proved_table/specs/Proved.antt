@@ -33,7 +33,7 @@ use Rattle.case_file.specs.Written.{records, packed, bytes}
 use Rattle.case_file.specs.Examples.{example}
 use Rattle.console.specs.OfFile.{asked}
 use Rattle.console.specs.CandidateOfFile.{CandidateOfFile}
-use Rattle.proved_table.specs.Row.{result, Holds, Determined, Divided, Reads, Shows, Multiplies, Each}
+use Rattle.proved_table.specs.Row.{result, Holds, Determined, QuotientHolds, Reads, Shows, Multiplies, Each}
 use Rattle.proved_table.specs.TermDivision.{each-at-most, plus, less, less-all, before-all, leads, divided, division}
 use Rattle.proved_table.specs.Computed.{tried, divided-by, by-answer, with-counts, by-kept, by-least, by-looks, computed}
 use Rattle.proved_table.specs.Decisions.{count-decided, not-below-decided, key-decided, term-decided, number-decided, checks-append}
@@ -78,11 +78,11 @@ pub more-images-hold : Each Shows more-images
 more-images-hold = each-tested image-test Shows image-tested more-images (images-pass .1)
 
 -- the quotients are those
-pub quotients-hold : Each Divided quotients
+pub quotients-hold : Each QuotientHolds quotients
 unfolding ℕ-discrete decLe decLt listed listed-decided el add mul neg chase inv Fp-discrete Dec·not Dec·and placed-check look first-check decided
     compare-by compare each-at-most plus less less-all before-all leads divided division divided-by count-decided not-below-decided key-decided
     term-decided list-checks same-numbers right-lists multiplies quotient-agrees quotient-test
-quotients-hold = each-tested quotient-test Divided quotient-tested quotients refl
+quotients-hold = each-tested quotient-test QuotientHolds quotient-tested quotients refl
 
 -- the files are read so
 pub files-hold : Each Reads files

@@ -70,8 +70,8 @@ abbrev pub quotient-result-of : QuotientRow → List ℕ → List ℕ → Quotie
 quotient-result-of r output work = quotient-result (r .found) (written (r .terms) output) (cleared work)
 
 -- in every output and work room that are long enough that is the quotient
-abbrev pub Divided : QuotientRow → Type 0
-Divided r = (output work : List ℕ) → keys ≤ length output → work-room ≤ length work
+abbrev pub QuotientHolds : QuotientRow → Type 0
+QuotientHolds r = (output work : List ℕ) → keys ≤ length output → work-room ≤ length work
     → Quotient (quotient-call-of r output work) (quotient-result-of r output work)
 
 -- a file, and what the reader hands back

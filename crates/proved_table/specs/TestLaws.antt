@@ -30,7 +30,7 @@ use Rattle.divisor.specs.declared.CandidateRecord.{CandidateRecord}
 use Rattle.divisor.specs.Rule.{report}
 use Rattle.divisor.specs.Candidate.{Call, table, Candidate}
 use Rattle.divisor.specs.Laws.CandidateDetermined.{candidate-determined}
-use Rattle.proved_table.specs.Row.{Row, call, result, Holds, Determined, QuotientRow, quotient-call-of, quotient-result-of, Divided}
+use Rattle.proved_table.specs.Row.{Row, call, result, Holds, Determined, QuotientRow, quotient-call-of, quotient-result-of, QuotientHolds}
 use Rattle.proved_table.specs.Row.{ImageRow, Shows, Product, Multiplies, Each}
 use Rattle.proved_table.specs.TermDivision.{Outcome, divides, does-not, open-still}
 use Rattle.proved_table.specs.TermDivisionLaws.{Means, nothing-left-means}
@@ -119,26 +119,26 @@ unfolding right-lists
 lists-pass p A B h = decided-passes (of-lists p A B) tt (list-checks p A B) (eqb-true _ 0 h)
 
 module _ (r : QuotientRow) (output work : List ℕ) (long : keys ≤ length output) (room : work-room ≤ length work) where
-  abbrev qc : QuotientCall
-  qc = quotient-call-of r output work
+  abbrev asked : QuotientCall
+  asked = quotient-call-of r output work
 
-  quotient-lines-pass : right-lists (r .modulus) (r .first-list) (r .second-list) ≡ true → Passes (quotient-table qc)
+  quotient-lines-pass : right-lists (r .modulus) (r .first-list) (r .second-list) ≡ true → Passes (quotient-table asked)
   quotient-lines-pass h = passes-append (of-lists (r .modulus) (r .first-list) (r .second-list)) (of-rooms (length output) keys (length work))
       (lists-pass (r .modulus) (r .first-list) (r .second-list) h) (rooms-pass output work keys long room)
 
   -- a record and terms of the same numbers as the row's give the row's result
   quotient-known : (found : QuotientRecord) (terms : List ℕ) → same-numbers (quotient-numbers (r .found) (r .terms)) (quotient-numbers found terms) ≡ true
-      → Quotient qc (quotient-result found (written terms output) (cleared work)) → Quotient qc (quotient-result-of r output work)
+      → Quotient asked (quotient-result found (written terms output) (cleared work)) → Quotient asked (quotient-result-of r output work)
   quotient-known found terms h x =
-      subst (λ (l : List ℕ). Quotient qc (quotient-result (record-of l) (written (drop 3 l) output) (cleared work))) (sym (same-is _ _ h)) x
+      subst (λ (l : List ℕ). Quotient asked (quotient-result (record-of l) (written (drop 3 l) output) (cleared work))) (sym (same-is _ _ h)) x
     where
       record-of : List ℕ → QuotientRecord
       record-of l = record { fault = record { number = getD l 0 0; place = getD l 1 0 }; terms = getD l 2 0 }
 
-  quotient-settled : Passes (quotient-table qc) → (listed : Listed (r .modulus)) (o : Outcome)
+  quotient-settled : Passes (quotient-table asked) → (listed : Listed (r .modulus)) (o : Outcome)
       → Means (Modulo (r .modulus) (listed-prime listed)) (poly (r .modulus) (listed-prime listed) (r .first-list))
       (poly (r .modulus) (listed-prime listed) (r .second-list)) o
-      → quotient-agrees r (listed-prime listed) o ≡ true → Quotient qc (quotient-result-of r output work)
+      → quotient-agrees r (listed-prime listed) o ≡ true → Quotient asked (quotient-result-of r output work)
   unfolding quotient-agrees
   quotient-settled pass listed divides m h =
       let first = and-eq-true-iff _ (same-numbers _ _) .0 h in
@@ -153,7 +153,7 @@ module _ (r : QuotientRow) (output work : List ℕ) (long : keys ≤ length outp
       quotient-known (record { fault = fault DOES_NOT_DIVIDE 0; terms = 0 }) [] h (no-quotient pass listed m)
   quotient-settled pass listed open-still m h = absurd (false≢true h)
 
-  quotient-tested-here : quotient-test r ≡ true → Quotient qc (quotient-result-of r output work)
+  quotient-tested-here : quotient-test r ≡ true → Quotient asked (quotient-result-of r output work)
   unfolding quotient-test
   quotient-tested-here h = go (listed-decided (r .modulus)) (and-eq-true-iff (right-lists (r .modulus) (r .first-list) (r .second-list)) _ .0 h .1)
     where
@@ -163,14 +163,14 @@ module _ (r : QuotientRow) (output work : List ℕ) (long : keys ≤ length outp
       go : (d : Dec (Listed (r .modulus))) → elim d as (λ _. Bool) [
         | yes h ↦ quotient-agrees r (listed-prime h) (divided-by (r .modulus) (listed-prime h) (r .second-list) (r .first-list))
         | no n ↦ false
-      ] ≡ true → Quotient qc (quotient-result-of r output work)
+      ] ≡ true → Quotient asked (quotient-result-of r output work)
       go (yes listed) k =
           let right = lists-are-right (r .modulus) (r .first-list) (r .second-list) (lists-pass (r .modulus) (r .first-list) (r .second-list) lists) in
           quotient-settled (quotient-lines-pass lists) listed _
           (divided-by-means (r .modulus) (listed-prime listed) (r .second-list) (r .first-list) (right .second .some) (right .second .falls)) k
       go (no n) k = absurd (false≢true k)
 
-pub quotient-tested : (r : QuotientRow) → quotient-test r ≡ true → Divided r
+pub quotient-tested : (r : QuotientRow) → quotient-test r ≡ true → QuotientHolds r
 quotient-tested r h output work long room = quotient-tested-here r output work long room h
 
 pub image-tested : (r : ImageRow) → image-test r ≡ true → Shows r

@@ -123,21 +123,29 @@ lists-exchanged = wrong-file file-example (handed-back 0 0 17 example-second exa
 abbrev pub high-byte-first : WrongFile
 high-byte-first = wrong-file file-short (handed-back 0 0 4352 [] [] [] [])
 
--- the points are counted, not their numbers
-abbrev pub points-counted : WrongFile
-points-counted = wrong-file file-example
-    (record {
+-- document 01's file with other counts
+abbrev pub example-counted : (first second skeleton points : ℕ) → Contents
+example-counted first second skeleton points =
+    record {
       fault = none;
       modulus = 17;
       first = padded 256 example-first;
-      «first_count» = 2;
+      «first_count» = first;
       second = padded 256 example-second;
-      «second_count» = 3;
+      «second_count» = second;
       skeleton = padded 32 example-skeleton;
-      «skeleton_count» = 2;
+      «skeleton_count» = skeleton;
       points = padded 96 (at (0 ∷ []));
-      «points_count» = 1;
-    })
+      «points_count» = points;
+    }
+
+-- the points are counted, not their numbers
+abbrev pub points-counted : WrongFile
+points-counted = wrong-file file-example (example-counted 2 3 2 1)
+
+-- the length of the first array in place of the count
+abbrev pub room-for-the-count : WrongFile
+room-for-the-count = wrong-file file-example (example-counted 256 3 2 3)
 
 -- the limit is tested before the body: 25 for a key whose body is cut
 abbrev pub limit-before-body : WrongFile
@@ -149,4 +157,5 @@ empty-accepted = wrong-file file-empty (reader-refuses 0 0)
 
 abbrev pub wrong-files : List WrongFile
 wrong-files =
-    bytes-after-end ∷ modulus-left ∷ length-for-the-place ∷ lists-exchanged ∷ high-byte-first ∷ points-counted ∷ limit-before-body ∷ empty-accepted ∷ []
+    bytes-after-end ∷ modulus-left ∷ length-for-the-place ∷ lists-exchanged ∷ high-byte-first ∷ points-counted ∷ room-for-the-count
+    ∷ limit-before-body ∷ empty-accepted ∷ []
