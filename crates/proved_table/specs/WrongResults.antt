@@ -62,6 +62,10 @@ all-points-kept = wrong-candidate p10 (report 0 3 0 0 4 3) (p10 .terms)
 abbrev pub unlucky-counted-bad : WrongCandidate
 unlucky-counted-bad = wrong-candidate p10 (report 0 3 2 0 2 3) (p10 .terms)
 
+-- invented point counts: P10's divisor, with one unlucky point more than there are points
+abbrev pub one-point-more : WrongCandidate
+one-point-more = wrong-candidate p10 (report 0 3 1 2 2 3) (p10 .terms)
+
 -- every multiplier fixed at 1: P10 then has no solution
 abbrev pub multipliers-one : WrongCandidate
 multipliers-one = wrong-candidate p10 (report 13 3 1 1 2 0) []
@@ -110,7 +114,7 @@ bad-not-counted = wrong-candidate p2 (report 12 0 0 0 0 0) []
 abbrev pub wrong-results : List WrongCandidate
 wrong-results =
     refuses-all ∷ refuses-the-modulus ∷ always-one ∷ writes-nothing ∷ writes-one-term ∷ writes-past-the-count ∷ first-kept-point
-    ∷ divides-only-first ∷ divides-only-second ∷ all-points-kept ∷ unlucky-counted-bad
+    ∷ divides-only-first ∷ divides-only-second ∷ all-points-kept ∷ unlucky-counted-bad ∷ one-point-more
     ∷ multipliers-one ∷ determined-accepted ∷ first-degree-met ∷ equations-counted ∷ equations-counted-again ∷ division-as-values
     ∷ not-monic ∷ zeros-kept ∷ work-room-left ∷ refusal-writes ∷ bad-not-counted
     ∷ []
