@@ -55,7 +55,7 @@ values-below h (suc n) [] = tt
 values-below h (suc n) (x ∷ v) = (val-lt h x, values-below h n v)
 
 -- what the division of lists says of their polynomials
-divided-by-means : (p : ℕ) (P : Prime p) (G f : List ℕ) → 0 < length G → Falling p keys G
+pub divided-by-means : (p : ℕ) (P : Prime p) (G f : List ℕ) → 0 < length G → Falling p keys G
     → Means (Modulo p P) (poly p P f) (poly p P G) (divided-by p P G f)
 unfolding divided-by
 divided-by-means p P [] f l h = absurd (omega arith)

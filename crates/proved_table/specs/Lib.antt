@@ -1,7 +1,11 @@
--- The proved table: P1 to P12 of document 01 as one table, proved from the definitions by one computed test.
--- Row and Table are what is to be believed; the others compute the test and prove it right.
+-- The proved table: P1 to P12 of document 01 as one table, proved from the definitions by one computed test; and wrong results that the contracts refute.
+-- Row, Table, MoreRows, Wrong, WrongResults and WrongServices are what is to be believed; the others compute the tests and prove them right.
 pub mod Row
 pub mod Table
+pub mod MoreRows
+pub mod Wrong
+pub mod WrongResults
+pub mod WrongServices
 pub mod TermDivision
 pub mod TermDivisionLaws
 pub mod Decisions
@@ -9,4 +13,7 @@ pub mod Computed
 pub mod ComputedLaws
 pub mod Test
 pub mod TestLaws
+pub mod WrongTest
+pub mod WrongLaws
 pub mod Proved
+pub mod Refuted

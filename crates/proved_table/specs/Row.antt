@@ -1,5 +1,5 @@
--- A row of the proved table: what is asked, and the record and the terms that are to be found. Beside the rows, images and products.
--- What it means that each holds.
+-- A row of the proved table: what is asked, and the record and the terms that are to be found. Beside the rows, quotients, files, images and
+-- products. What it means that each holds.
 use mathlib.Core.Path.{_≡_}
 use mathlib.Core.List.{List, [], _∷_}
 use Prim.Native.Nat.{ℕ, _≤_}
@@ -8,11 +8,17 @@ use Rattle.algebra.specs.SeriesRing.{S4}
 use Rattle.field.specs.Prime.{Prime}
 use Rattle.field.specs.Modulo.{Modulo}
 use Rattle.poly.specs.declared.ImageRecord.{ImageRecord}
+use Rattle.poly.specs.declared.QuotientRecord.{QuotientRecord}
+use Rattle.poly.specs.Keys.{keys}
 use Rattle.poly.specs.Terms.{poly}
 use Rattle.poly.specs.ImageCall.{ImageCall, ImageAnswer}
+use Rattle.poly.specs.Quotient.{QuotientCall, quotient-call, QuotientResult, quotient-result, Quotient}
 use Rattle.poly.specs.Room.{work-room, written, cleared}
 use Rattle.divisor.specs.declared.CandidateRecord.{CandidateRecord}
 use Rattle.divisor.specs.Candidate.{Call, Result, Candidate}
+use Rattle.case_file.specs.declared.Contents.{Contents}
+use Rattle.case_file.specs.Reading.{read}
+use Rattle.case_file.specs.Handed.{contents}
 
 pub record Row : Type 0 where
   pub modulus : ℕ
@@ -43,6 +49,38 @@ result r output work = record { found = r .found; output = written (r .terms) ou
 -- in every output and work room that are long enough that is the candidate
 abbrev pub Holds : Row → Type 0
 Holds r = (output work : List ℕ) → length (r .skeleton) ≤ length output → work-room ≤ length work → Candidate (call r output work) (result r output work)
+
+-- and nothing else is: every result that meets the contract of the row's call is the row's
+abbrev pub Determined : Row → Type 0
+Determined r = (output work : List ℕ) → length (r .skeleton) ≤ length output → work-room ≤ length work
+    → (q : Result) → Candidate (call r output work) q → q ≡ result r output work
+
+-- a row of the quotient: what is asked, and the record and the terms that are to be found
+pub record QuotientRow : Type 0 where
+  pub modulus : ℕ
+  pub first-list : List ℕ
+  pub second-list : List ℕ
+  pub found : QuotientRecord
+  pub terms : List ℕ
+
+abbrev pub quotient-call-of : QuotientRow → List ℕ → List ℕ → QuotientCall
+quotient-call-of r output work = quotient-call (r .modulus) (r .first-list) (r .second-list) output work
+
+abbrev pub quotient-result-of : QuotientRow → List ℕ → List ℕ → QuotientResult
+quotient-result-of r output work = quotient-result (r .found) (written (r .terms) output) (cleared work)
+
+-- in every output and work room that are long enough that is the quotient
+abbrev pub QuotientHolds : QuotientRow → Type 0
+QuotientHolds r = (output work : List ℕ) → keys ≤ length output → work-room ≤ length work
+    → Quotient (quotient-call-of r output work) (quotient-result-of r output work)
+
+-- a file, and what the reader hands back
+pub record FileRow : Type 0 where
+  pub bytes : List ℕ
+  pub found : Contents
+
+abbrev pub Reads : FileRow → Type 0
+Reads r = r .found ≡ contents (read (r .bytes))
 
 -- an image that a row names
 pub record ImageRow : Type 0 where

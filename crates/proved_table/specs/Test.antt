@@ -1,5 +1,5 @@
 -- The test of a row, computed: no line refuses its inputs, and what the rule answers is the row's record and terms.
--- The tests of an image and of a product.
+-- The tests of a quotient, of an image and of a product.
 use mathlib.Core.Bool.{Bool, true, false, _&&_}
 use mathlib.Core.List.{List, [], _∷_}
 use Prim.Native.Nat.{ℕ}
@@ -9,18 +9,21 @@ use Rattle.field.specs.Prime.{Prime}
 use Rattle.field.specs.Moduli.{Listed}
 use Rattle.field.specs.ModuliLaws.{listed-prime, listed-decided}
 use Rattle.field.specs.Modulo.{Modulo}
+use Rattle.field.specs.Numbers.{DOES_NOT_DIVIDE}
 use Rattle.field.specs.Refusal.{Line}
 use Rattle.field.specs.RefusalDecision.{Checks, decided}
 use Rattle.poly.specs.declared.ImageRecord.{ImageRecord}
+use Rattle.poly.specs.declared.QuotientRecord.{QuotientRecord}
 use Rattle.poly.specs.Terms.{terms-of}
+use Rattle.poly.specs.Lists.{of-lists}
 use Rattle.poly.specs.ImageCall.{image-table}
 use Rattle.poly.specs.Models.Image.{image-of}
 use Rattle.divisor.specs.declared.CandidateRecord.{CandidateRecord}
 use Rattle.divisor.specs.Rule.{report}
-use Rattle.proved_table.specs.Row.{Row, ImageRow, Product}
-use Rattle.proved_table.specs.TermDivision.{less-all}
-use Rattle.proved_table.specs.Decisions.{lines, checks, image-checks}
-use Rattle.proved_table.specs.Computed.{Computed, unanswered, answered, computed}
+use Rattle.proved_table.specs.Row.{Row, QuotientRow, ImageRow, Product}
+use Rattle.proved_table.specs.TermDivision.{less-all, Outcome, divides, does-not, open-still}
+use Rattle.proved_table.specs.Decisions.{list-checks, lines, checks, image-checks}
+use Rattle.proved_table.specs.Computed.{Computed, unanswered, answered, divided-by, computed}
 
 unfoldable pub same-numbers : List ℕ → List ℕ → Bool
 same-numbers [] [] = true
@@ -54,6 +57,39 @@ module _ (r : Row) where
   unfoldable pub test : Bool
   test = passes && (elim (listed-decided (r .modulus)) [ yes h ↦ answers h | no n ↦ false ])
 
+-- no line of the modulus and the two lists applies
+unfoldable pub right-lists : ℕ → List ℕ → List ℕ → Bool
+right-lists p A B = eqb (decided (of-lists p A B) (list-checks p A B) .number) 0
+
+-- the numbers of a quotient's record, and terms behind them
+abbrev pub quotient-numbers : QuotientRecord → List ℕ → List ℕ
+quotient-numbers r terms = r .fault .number ∷ r .fault .place ∷ r .terms ∷ terms
+
+-- f less the product of the two leaves nothing
+unfoldable pub multiplies : (p : ℕ) → Prime p → Product → Bool
+multiplies p P q = elim (less-all (Modulo p P) (terms-of p P (q .whole)) (terms-of p P (q .first)) (terms-of p P (q .second))) [ [] ↦ true | t ∷ ts ↦ false ]
+
+module _ (r : QuotientRow) where
+  -- the product that the row's terms make
+  abbrev pub product-of : Product
+  product-of = record { whole = r .first-list; first = r .second-list; second = r .terms }
+
+  -- by what the division finds: the row's terms are the quotient, or the row has 15 and no terms
+  unfoldable pub quotient-agrees : Prime (r .modulus) → Outcome → Bool
+  quotient-agrees P divides =
+      right-lists (r .modulus) (r .first-list) (r .terms) && multiplies (r .modulus) P product-of
+      && same-numbers (quotient-numbers (r .found) (r .terms)) (0 ∷ 0 ∷ length (r .terms) ∷ r .terms)
+  quotient-agrees P does-not = same-numbers (quotient-numbers (r .found) (r .terms)) (DOES_NOT_DIVIDE ∷ 0 ∷ 0 ∷ [])
+  quotient-agrees P open-still = false
+
+  unfoldable pub quotient-test : Bool
+  quotient-test =
+      right-lists (r .modulus) (r .first-list) (r .second-list)
+      && (elim (listed-decided (r .modulus)) [
+        | yes h ↦ quotient-agrees (listed-prime h) (divided-by (r .modulus) (listed-prime h) (r .second-list) (r .first-list))
+        | no n ↦ false
+      ])
+
 -- the numbers of an image's record
 abbrev pub image-numbers : ImageRecord → List ℕ
 image-numbers r = r .fault .number ∷ r .fault .place ∷ r .degree ∷ r .coefficients
@@ -69,7 +105,3 @@ module _ (r : ImageRow) where
 
   unfoldable pub image-test : Bool
   image-test = image-passes && image-agrees
-
--- f less the product of the two leaves nothing
-unfoldable pub multiplies : (p : ℕ) → Prime p → Product → Bool
-multiplies p P q = elim (less-all (Modulo p P) (terms-of p P (q .whole)) (terms-of p P (q .first)) (terms-of p P (q .second))) [ [] ↦ true | t ∷ ts ↦ false ]

@@ -1,0 +1,133 @@
+-- Rows beside those of document 01, for wrong versions that P1 to P12 do not tell from the right one; and rows of the quotient, the image and the
+-- reader. Modulo 17 unless said, z = w = 0.
+use mathlib.Core.List.{List, [], _∷_, _++_}
+use Prim.Native.Nat.{ℕ}
+use lib.ListN.{length, replicate}
+use Rattle.field.specs.Numbers.{DOES_NOT_DIVIDE, NO_GOOD_POINT}
+use Rattle.field.specs.Refusal.{fault, none}
+use Rattle.poly.specs.ImageCall.{image-call, refusal}
+use Rattle.divisor.specs.Rule.{report}
+use Rattle.case_file.specs.declared.Contents.{Contents}
+use Rattle.case_file.specs.Handed.{padded}
+use Rattle.case_file.specs.Written.{records}
+use Rattle.case_file.specs.Examples.{example}
+use Rattle.proved_table.specs.Row.{Row, QuotientRow, ImageRow, FileRow}
+use Rattle.proved_table.specs.Table.{key-xy, term-xy, at, row, E, F, K, A₂, B₂, A₁₁, image}
+
+-- x and x + y, y = 0, skeleton x: the image is x, which divides the first and not the second: 15
+abbrev pub divides-first : Row
+divides-first =
+    row 17 (term-xy 1 1 0 ∷ []) (term-xy 1 1 0 ∷ term-xy 1 0 1 ∷ []) (key-xy 1 0 ∷ []) (at (0 ∷ [])) (report 15 1 0 0 1 0) []
+
+-- the two exchanged: x divides the second and not the first
+abbrev pub divides-second : Row
+divides-second =
+    row 17 (term-xy 1 1 0 ∷ term-xy 1 0 1 ∷ []) (term-xy 1 1 0 ∷ []) (key-xy 1 0 ∷ []) (at (0 ∷ [])) (report 15 1 0 0 1 0) []
+
+-- x² twice, y = 0, skeleton x², x, 1: x², the zero coefficients dropped
+abbrev pub zeros-dropped : Row
+zeros-dropped =
+    row 17 (term-xy 1 2 0 ∷ []) (term-xy 1 2 0 ∷ []) (key-xy 2 0 ∷ key-xy 1 0 ∷ key-xy 0 0 ∷ []) (at (0 ∷ [])) (report 0 2 0 0 1 1) (term-xy 1 2 0 ∷ [])
+
+abbrev pub more-rows : List Row
+more-rows = divides-first ∷ divides-second ∷ zeros-dropped ∷ []
+
+-- the quotient's terms, and 15
+abbrev pub exact : ℕ → List ℕ → List ℕ → List ℕ → QuotientRow
+exact p A B terms = record { modulus = p; first-list = A; second-list = B; found = record { fault = none; terms = length terms }; terms = terms }
+
+abbrev pub not-exact : ℕ → List ℕ → List ℕ → QuotientRow
+not-exact p A B = record { modulus = p; first-list = A; second-list = B; found = record { fault = fault DOES_NOT_DIVIDE 0; terms = 0 }; terms = [] }
+
+-- F over E: x - y + 1
+abbrev pub f-over-e : QuotientRow
+f-over-e = exact 17 F E (term-xy 1 1 0 ∷ term-xy 16 0 1 ∷ term-xy 1 0 0 ∷ [])
+
+-- E over F: E is not a multiple of F
+abbrev pub e-over-f : QuotientRow
+e-over-f = not-exact 17 E F
+
+-- K over E: K - E is 3 x³ + 12 y² + 9 y, whose leading term E's does not divide
+abbrev pub k-over-e : QuotientRow
+k-over-e = not-exact 17 K E
+
+-- (3 y x + 1) (x - y) over 3 y x + 1: x - y
+abbrev pub a₂-over-factor : QuotientRow
+a₂-over-factor = exact 17 A₂ (term-xy 3 1 1 ∷ term-xy 1 0 0 ∷ []) (term-xy 1 1 0 ∷ term-xy 16 0 1 ∷ [])
+
+-- modulo 7, x + y over x + y⁷
+abbrev pub equal-as-values : QuotientRow
+equal-as-values = not-exact 7 A₁₁ (term-xy 1 1 0 ∷ term-xy 1 0 7 ∷ [])
+
+abbrev pub quotients : List QuotientRow
+quotients = f-over-e ∷ e-over-f ∷ k-over-e ∷ a₂-over-factor ∷ equal-as-values ∷ []
+
+-- the polynomials of P2 at y = 0, where the first has no x² any more: 12
+abbrev pub image-bad : ImageRow
+image-bad = record { call = image-call 17 A₂ B₂ (at (0 ∷ [])); found = refusal (fault NO_GOOD_POINT 0) }
+
+-- and at y = 1: 3 x + 1 made monic, x + 6
+abbrev pub image-two : ImageRow
+image-two = image A₂ B₂ 1 1 (6 ∷ 1 ∷ 0 ∷ 0 ∷ 0 ∷ 0 ∷ 0 ∷ 0 ∷ [])
+
+-- K twice at y = 1: x³ + 12; it is the second of `images`
+abbrev pub image-k : ImageRow
+image-k = image K K 1 3 (12 ∷ 0 ∷ 0 ∷ 1 ∷ 0 ∷ 0 ∷ 0 ∷ 0 ∷ [])
+
+-- 3 x and y at y = 0, where the second is 0: 3 x made monic
+abbrev pub image-of-first : ImageRow
+image-of-first = image (term-xy 3 1 0 ∷ []) (term-xy 1 0 1 ∷ []) 0 1 (0 ∷ 1 ∷ 0 ∷ 0 ∷ 0 ∷ 0 ∷ 0 ∷ 0 ∷ [])
+
+abbrev pub more-images : List ImageRow
+more-images = image-bad ∷ image-two ∷ image-of-first ∷ []
+
+-- what the reader hands back: number and place, the modulus, the four lists
+abbrev pub handed-back : ℕ → ℕ → ℕ → List ℕ → List ℕ → List ℕ → List ℕ → Contents
+handed-back number place modulus first second skeleton points =
+    record {
+      fault = fault number place;
+      modulus = modulus;
+      first = padded 256 first;
+      «first_count» = length first;
+      second = padded 256 second;
+      «second_count» = length second;
+      skeleton = padded 32 skeleton;
+      «skeleton_count» = length skeleton;
+      points = padded 96 points;
+      «points_count» = length points;
+    }
+
+abbrev pub reader-refuses : ℕ → ℕ → Contents
+reader-refuses number place = handed-back number place 0 [] [] [] []
+
+-- the lists of document 01's file
+abbrev pub example-first : List ℕ
+example-first = term-xy 1 2 0 ∷ term-xy 16 0 0 ∷ []
+
+abbrev pub example-second : List ℕ
+example-second = term-xy 1 2 0 ∷ term-xy 2 1 0 ∷ term-xy 1 0 0 ∷ []
+
+abbrev pub example-skeleton : List ℕ
+example-skeleton = key-xy 1 0 ∷ key-xy 0 0 ∷ []
+
+abbrev pub file-example : FileRow
+file-example = record { bytes = example; found = handed-back 0 0 17 example-first example-second example-skeleton (at (0 ∷ [])) }
+
+-- a modulus and an end
+abbrev pub file-short : FileRow
+file-short = record { bytes = 1 ∷ 17 ∷ 0 ∷ 6 ∷ []; found = handed-back 0 0 17 [] [] [] [] }
+
+-- and a byte after it: 23 at that byte
+abbrev pub file-byte-more : FileRow
+file-byte-more = record { bytes = 1 ∷ 17 ∷ 0 ∷ 6 ∷ 0 ∷ []; found = reader-refuses 23 4 }
+
+-- 32 keys, and the kind byte of one more whose body is cut: 21 at that byte
+abbrev pub file-cut-key : FileRow
+file-cut-key = record { bytes = 1 ∷ 17 ∷ 0 ∷ records 4 (replicate 32 (0 ∷ [])) ++ (4 ∷ []); found = reader-refuses 21 99 }
+
+-- nothing: 24 at the length of the file
+abbrev pub file-empty : FileRow
+file-empty = record { bytes = []; found = reader-refuses 24 0 }
+
+abbrev pub files : List FileRow
+files = file-example ∷ file-short ∷ file-byte-more ∷ file-cut-key ∷ file-empty ∷ []
