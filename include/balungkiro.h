@@ -10,9 +10,10 @@
  * Skeleton     1 to 32 keys, strictly falling.
  * Points       1 to 32 triples y, z, w, flat, each number below p.
  *
- * A list is lent as a pointer and how many numbers it has. No input is asked to be right: what is wrong is refused by number.
- * What is asked of every pointer, also beside a length 0: it is not null, it is aligned for its type, and that many numbers stand behind it.
- * What a call may change (no `const`) overlaps nothing else that is lent to the call.
+ * A list is passed as a pointer and a count of numbers. Every input is answered: what is wrong is refused by number.
+ *
+ * The caller's duties, which no contract checks: every pointer, also one beside a count of 0, is not null and aligned for its type; that many
+ * numbers stand behind it; and what a call may change (no `const`) overlaps nothing else that is passed to the call.
  *
  * Every record begins with number and place. Acceptance is 0, 0. A refusal has the first number of this table that applies:
  *
@@ -50,7 +51,7 @@ enum {
     BALUNGKIRO_COEFFICIENTS = 8,     /* of an image, x^0 to x^7 */
     BALUNGKIRO_QUOTIENT = 4096,      /* the terms that a quotient's output has room for */
     BALUNGKIRO_WORK = 8192,          /* the numbers of the work room */
-    BALUNGKIRO_FILE = 4096           /* as many bytes of a case file settle what is read: no need to lend more */
+    BALUNGKIRO_FILE = 4096           /* no byte of a case file after these changes what is read */
 };
 
 /* The common divisor of first and second that the images at the points fix, in the monomials of the skeleton.
@@ -87,7 +88,7 @@ void balungkiro_image(uint16_t modulus,
                       uint16_t coefficients[BALUNGKIRO_COEFFICIENTS],
                       size_t record[3]);
 
-/* The leading part, all terms with the highest power of x: the head of the caller's own list, which has so many terms as this hands back.
+/* The leading part, all terms with the highest power of x: the head of the caller's own list; the result is how many terms it has.
  * 0 where balungkiro_check_list refuses the list, and only there. */
 size_t balungkiro_leading_part(const uint32_t *terms, size_t count);
 

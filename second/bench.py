@@ -1,4 +1,4 @@
-"""The bench examples P1 to P12 of document 01, with the answers it gives."""
+"""The bench examples P1 to P12 of docs/RULE.md, with the answers it gives."""
 
 from typing import NamedTuple
 

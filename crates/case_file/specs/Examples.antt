@@ -1,4 +1,4 @@
--- Worked examples: the case file of document 01, and one refusal of each number.
+-- Worked examples: the example file of docs/RULE.md, and one refusal of each number.
 use Prim.Native.Nat.{ℕ}
 use mathlib.Core.Path.{_≡_, refl}
 use mathlib.Core.List.{List, [], _∷_}

@@ -61,7 +61,7 @@ module _ (K : Field) where
     pub factor : R .Car
     pub multiple : S4 R .mul (polynomial R G) (constant factor) ≡ C
 
--- First half: where the number is 0, what stands first in the output divides A and B, has the degree d in x, and no common divisor has more x.
+-- First half: where the number is 0, what stands first in the output divides A and B, has the degree d in x, and no common divisor has a higher one.
 abbrev pub AcceptedIsGreatest : Call → Result → Type 0
 AcceptedIsGreatest c r =
     r .found .fault .number ≡ 0

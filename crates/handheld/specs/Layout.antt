@@ -1,4 +1,4 @@
--- How what a service answers is laid out in what a caller of the static library has lent. A record is numbers, in the order of document 01.
+-- How what a service answers is laid out in what a caller of the static library has lent. A record is numbers, in the order of docs/RULE.md.
 use mathlib.Core.List.{List, [], _∷_}
 use Prim.Native.Nat.{ℕ}
 use Rattle.field.specs.declared.Fault.{Fault}

@@ -1,4 +1,4 @@
--- The proved table: P1 to P12 of document 01 as one table, proved from the definitions by one computed test; and wrong results that the contracts refute.
+-- The proved table: P1 to P12 (docs/RULE.md) as one table, proved from the definitions by one computed test; and wrong results that the contracts refute.
 -- Row, Table, MoreRows, Wrong, WrongResults and WrongServices are what is to be believed; the others compute the tests and prove them right.
 pub mod Row
 pub mod Table

@@ -1,4 +1,4 @@
--- Rows beside those of document 01, for wrong versions that P1 to P12 do not tell from the right one; and rows of the quotient, the image and the
+-- Rows beside P1 to P12, for wrong versions that P1 to P12 do not tell from the right one; and rows of the quotient, the image and the
 -- reader. Modulo 17 unless said, z = w = 0.
 use mathlib.Core.List.{List, [], _∷_, _++_}
 use Prim.Native.Nat.{ℕ}
@@ -100,7 +100,7 @@ handed-back number place modulus first second skeleton points =
 abbrev pub reader-refuses : ℕ → ℕ → Contents
 reader-refuses number place = handed-back number place 0 [] [] [] []
 
--- the lists of document 01's file
+-- the lists of the example file
 abbrev pub example-first : List ℕ
 example-first = term-xy 1 2 0 ∷ term-xy 16 0 0 ∷ []
 

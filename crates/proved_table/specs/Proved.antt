@@ -1,5 +1,5 @@
 -- P1 to P12 hold, and so do the rows beside them: they pass their test, by computing. No other result meets the contract of a row's call.
--- P1 is also what the bytes of document 01 are answered; and beside the table stand the images that its rows name and the products that give its
+-- P1 is also what the bytes of the example file are answered; and beside the table stand the images that its rows name and the products that give its
 -- polynomials, and rows of the quotient, the image and the reader.
 use mathlib.Core.Path.{_≡_, refl}
 use mathlib.Core.Bool.{true}
@@ -55,7 +55,7 @@ table-passes = (refl, refl)
 pub table-holds : Each Holds table
 table-holds = each-tested test Holds tested table (table-passes .0)
 
--- the rows beside those of document 01 hold
+-- the rows beside P1 to P12 hold
 pub more-rows-hold : Each Holds more-rows
 more-rows-hold = each-tested test Holds tested more-rows (table-passes .1)
 
@@ -99,7 +99,7 @@ pub products-hold : (P : Prime 17) → Each (Multiplies 17 P) products
 unfolding decLe decLt el add mul neg Fp-discrete compare-by compare plus less less-all multiplies
 products-hold P = each-tested (multiplies 17 P) (Multiplies 17 P) (multiplied 17 P) products refl
 
--- the candidate of the case file of document 01 is P1's record, with P1's terms first in the output
+-- the candidate of the example file is P1's record, with P1's terms first in the output
 pub example-answered : (output work : List ℕ) → length (p1 .skeleton) ≤ length output → work-room ≤ length work
     → CandidateOfFile output work example (result p1 output work)
 unfolding read read-one reading alone fault-number added flat follows numbers little

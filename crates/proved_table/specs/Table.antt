@@ -1,4 +1,4 @@
--- P1 to P12 of document 01, as it gives them: modulo 17 unless said, z = w = 0.
+-- P1 to P12, as docs/RULE.md has them: modulo 17 unless said, z = w = 0.
 use mathlib.Core.List.{List, [], _∷_}
 use Prim.Native.Nat.{ℕ}
 use Rattle.field.specs.Refusal.{none}
@@ -60,7 +60,7 @@ A₁₂ = term-xy 3 0 1 ∷ []
 abbrev pub p7-terms : List ℕ
 p7-terms = term-xy 1 3 0 ∷ term-xy 12 0 1 ∷ []
 
--- the lists that document 01 gives as products; and K, which is more than what P7 accepts, by y + 2, and has no more x
+-- the lists that are given as products; and K, which is what P7 accepts times y + 2, and has the same degree in x
 abbrev pub products : List Product
 products =
     record { whole = F; first = term-xy 1 1 0 ∷ term-xy 16 0 1 ∷ term-xy 1 0 0 ∷ []; second = E }

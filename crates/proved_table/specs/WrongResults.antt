@@ -1,4 +1,4 @@
--- The wrong results of the candidate, each with the row that tells it from the right one: first the versions that document 01 forbids, then the
+-- The wrong results of the candidate, each with the row that tells it from the right one: first the versions that the specification forbids, then the
 -- shortcuts that it names, then further ones.
 use mathlib.Core.Bool.{true, false}
 use mathlib.Core.List.{List, [], _∷_, _++_}

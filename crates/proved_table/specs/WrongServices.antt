@@ -123,7 +123,7 @@ lists-exchanged = wrong-file file-example (handed-back 0 0 17 example-second exa
 abbrev pub high-byte-first : WrongFile
 high-byte-first = wrong-file file-short (handed-back 0 0 4352 [] [] [] [])
 
--- document 01's file with other counts
+-- the example file with other counts
 abbrev pub example-counted : (first second skeleton points : ℕ) → Contents
 example-counted first second skeleton points =
     record {
