@@ -1,6 +1,6 @@
 // Asking a service and printing its answer behind a label.
 ghost use Rattle.poly.specs.declared.QuotientRecord.{QuotientRecord};
-ghost use Rattle.poly.specs.Quotient.{quotient-call, quotient-result, Quotient};
+ghost use Rattle.poly.specs.QuotientCall.{quotient-call, quotient-result, Quotient};
 ghost use Rattle.divisor.specs.declared.CandidateRecord.{CandidateRecord};
 ghost use Rattle.divisor.specs.Candidate.{candidate-call, candidate-result, Candidate};
 use crate::lists::MODULUS;

@@ -10,10 +10,10 @@ use Rattle.case_file.specs.declared.Counts.{Counts as CaseCounts}
 use Rattle.case_file.specs.Reading.{read}
 use Rattle.case_file.specs.Handed.{fault}
 use Rattle.divisor.specs.Candidate.{Call, candidate-call, Result, Candidate}
-use Rattle.divisor.specs.Laws.CandidateDetermined.{candidate-determined}
+use Rattle.divisor.specs.answer.CandidateDetermined.{candidate-determined}
 use Rattle.console.specs.Lists.{Lists}
-use Rattle.console.specs.OfFileLaws.{lists-fault, lists-modulus, of-file-refused, of-file-asked, of-file-has, of-file-determined}
-use Rattle.console.specs.TermsFirst.{none-first, candidate-first}
+use Rattle.console.specs.answer.OfFile.{lists-fault, lists-modulus, of-file-refused, of-file-asked, of-file-has, of-file-determined}
+use Rattle.console.specs.answer.TermsFirst.{none-first, candidate-first}
 use Rattle.console.specs.CandidateOfFile.{unread, call, CandidateOfFile, Answered}
 
 abbrev TermsFirst : Result → Type 0

@@ -7,7 +7,7 @@ use lib.ListN.{length, length-append}
 use lib.Seq.{take-at}
 use Rattle.case_file.specs.Handed.{padded}
 use Rattle.console.specs.Lists.{First}
-use Rattle.console.specs.TermsFirst.{counts-within}
+use Rattle.console.specs.answer.TermsFirst.{counts-within}
 
 pub padded-first : (m n : ℕ) (array numbers : List ℕ) → n ≡ length numbers → array ≡ padded m numbers → First n array numbers
 unfolding padded

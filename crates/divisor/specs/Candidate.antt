@@ -9,14 +9,14 @@ use Rattle.algebra.specs.Four.{Exponents}
 use Rattle.field.specs.Fp.{el}
 use Rattle.field.specs.Prime.{Prime}
 use Rattle.field.specs.Moduli.{Listed}
-use Rattle.field.specs.ModuliLaws.{listed-prime}
+use Rattle.field.specs.modulus.Laws.{listed-prime}
 use Rattle.field.specs.Modulo.{Modulo}
 use Rattle.field.specs.Numbers.{SKELETON_COUNT, SKELETON_KEY, POINTS_COUNT, POINT_NUMBER}
 use Rattle.field.specs.Refusal.{Line, line, whole, first, Refuses, Passes}
 use Rattle.field.specs.declared.Fault.{Fault}
 use Rattle.poly.specs.Keys.{exponents}
 use Rattle.poly.specs.Terms.{Polynomial, terms-of, numbers-of}
-use Rattle.poly.specs.Value.{Point}
+use Rattle.poly.specs.PointValue.{Point}
 use Rattle.poly.specs.Lists.{Count, WrongKey, WrongNumber, of-lists}
 use Rattle.poly.specs.Room.{of-rooms, written, cleared}
 use Rattle.divisor.specs.declared.CandidateRecord.{CandidateRecord}

@@ -12,8 +12,8 @@ use Rattle.algebra.specs.Monomial.{polynomial, monomial}
 use Rattle.field.specs.Moduli.{Listed}
 use Rattle.field.specs.Refusal.{Passes}
 use Rattle.poly.specs.Terms.{Polynomial}
-use Rattle.poly.specs.Value.{Point}
-use Rattle.poly.specs.Image.{Divides, Bad}
+use Rattle.poly.specs.PointValue.{Point}
+use Rattle.poly.specs.PointImage.{Divides, Bad}
 use Rattle.divisor.specs.Rule.{DividesBoth, Kept, Sorted, Unknowns, OnlySolution}
 use Rattle.divisor.specs.Candidate.{Call, table, Numbers, A, B, monomials, lent-points, handed-out, Result}
 

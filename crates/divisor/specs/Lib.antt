@@ -3,5 +3,13 @@ pub mod Rule
 pub mod Candidate
 pub mod Demands
 pub mod Repeated
-pub mod Models
-pub mod Laws
+pub mod equations
+pub mod points
+pub mod sorting
+pub mod monic
+pub mod table
+pub mod verdict
+pub mod checks
+pub mod answer
+pub mod demand
+pub mod twice

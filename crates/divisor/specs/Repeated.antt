@@ -11,8 +11,8 @@ use Rattle.field.specs.Moduli.{Listed}
 use Rattle.field.specs.Refusal.{Line, Refuses, Passes}
 use Rattle.field.specs.declared.Fault.{Fault}
 use Rattle.poly.specs.Terms.{Polynomial}
-use Rattle.poly.specs.Value.{Point}
-use Rattle.poly.specs.Image.{Bad, Image}
+use Rattle.poly.specs.PointValue.{Point}
+use Rattle.poly.specs.PointImage.{Bad, Image}
 use Rattle.poly.specs.ImageCall.{point-of}
 use Rattle.poly.specs.Lists.{of-lists}
 use Rattle.divisor.specs.declared.CandidateRecord.{CandidateRecord}

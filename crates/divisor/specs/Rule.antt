@@ -11,8 +11,8 @@ use Rattle.algebra.specs.Monomial.{Term, polynomial}
 use Rattle.field.specs.Numbers.{NO_GOOD_POINT, NO_SOLUTION, SEVERAL_SOLUTIONS, DOES_NOT_DIVIDE}
 use Rattle.field.specs.Refusal.{fault}
 use Rattle.poly.specs.Terms.{Polynomial}
-use Rattle.poly.specs.Value.{Point, value}
-use Rattle.poly.specs.Image.{Divides, Bad, Image}
+use Rattle.poly.specs.PointValue.{Point, value}
+use Rattle.poly.specs.PointImage.{Divides, Bad, Image}
 use Rattle.divisor.specs.declared.CandidateRecord.{CandidateRecord}
 
 -- what the caller is told where the inputs pass: the place is 0

@@ -3,8 +3,8 @@
 ghost use mathlib.Core.Path.{_≡_};
 ghost use Prim.Native.Nat.{_+_, _-_, _/_};
 ghost use lib.ListN.{length};
-ghost use Rattle.divisor.specs.Models.Equation.{EquationReady, IsEquation, PointReady, Equations-to};
-ghost use Rattle.divisor.specs.Models.Looks.{next-column, ColumnReady, EquationsReady, Equations-before};
+ghost use Rattle.divisor.specs.equations.Model.{EquationReady, IsEquation, PointReady, Equations-to};
+ghost use Rattle.divisor.specs.points.Model.{next-column, ColumnReady, EquationsReady, Equations-before};
 use crate::sorting::Sizes;
 use crate::table::COLUMNS;
 use crate::table::Row;

@@ -1,6 +1,6 @@
 // Layer 3, the candidate: the common divisor that images and equations fix, or a refusal.
 ghost use Rattle.divisor.specs.Candidate.{candidate-call, candidate-result, table as table-of, Candidate};
-ghost use Rattle.divisor.specs.Models.Verdict.{NoGoodPoint};
+ghost use Rattle.divisor.specs.verdict.Model.{NoGoodPoint};
 ghost use Rattle.field.specs.Refusal.{Passes};
 ghost use Rattle.poly.specs.Room.{work-room};
 ghost use Prim.Native.Nat.{_≤_};

@@ -1,9 +1,9 @@
 // The divisor of a solution: zero coefficients dropped, the others divided by the leading one, as terms.
 ghost use mathlib.Core.Path.{_≡_};
 ghost use lib.ListN.{take};
-ghost use Rattle.divisor.specs.Models.Monic.{leading as leading-of, Solvable, Monic};
-ghost use Rattle.divisor.specs.Models.Parts.{Within};
-ghost use Rattle.divisor.specs.Models.Table.{COLUMNS as columns-most};
+ghost use Rattle.divisor.specs.monic.Model.{leading as leading-of, Solvable, Monic};
+ghost use Rattle.divisor.specs.points.PartsModel.{Within};
+ghost use Rattle.divisor.specs.table.Model.{COLUMNS as columns-most};
 use crate::checks::KEYS;
 use crate::table::Cells;
 use field::Element;

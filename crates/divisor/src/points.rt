@@ -1,6 +1,6 @@
 // The images of the points in the work room: eight numbers for each, the first point's first.
-ghost use Rattle.divisor.specs.Models.Looks.{LookReady, Looks, StoreReady, Stored};
-ghost use Rattle.divisor.specs.Models.Sorting.{size-of};
+ghost use Rattle.divisor.specs.points.Model.{LookReady, Looks, StoreReady, Stored};
+ghost use Rattle.divisor.specs.sorting.Model.{size-of};
 ghost use mathlib.Core.Path.{_≡_};
 ghost use Prim.Native.Nat.{_/_, _<_};
 ghost use lib.ListN.{length};

@@ -2,8 +2,8 @@
 ghost use mathlib.Core.Path.{_≡_};
 ghost use lib.ListN.{take};
 ghost use Rattle.divisor.specs.Candidate.{most-points};
-ghost use Rattle.divisor.specs.Models.Parts.{Within};
-ghost use Rattle.divisor.specs.Models.Sorting.{lesser as lesser-of, least, alike as alike-of};
+ghost use Rattle.divisor.specs.points.PartsModel.{Within};
+ghost use Rattle.divisor.specs.sorting.Model.{lesser as lesser-of, least, alike as alike-of};
 use crate::checks::POINTS;
 use field::Number;
 

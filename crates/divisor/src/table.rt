@@ -3,7 +3,7 @@
 // no solution.
 ghost use mathlib.Core.Path.{_≡_};
 ghost use Rattle.poly.specs.Search.{Searched};
-ghost use Rattle.divisor.specs.Models.Table.{COLUMNS as columns-most, Entry, Columns, Column, Back, TableReady, Ready, empty-table, minus, scaled-row, with-row, kind, value, values, solved};
+ghost use Rattle.divisor.specs.table.Model.{COLUMNS as columns-most, Entry, Columns, Column, Back, TableReady, Ready, empty-table, minus, scaled-row, with-row, kind, value, values, solved};
 use crate::checks::KEYS;
 use crate::checks::POINTS;
 use field::Element;

@@ -4,10 +4,10 @@ use Prim.Native.Nat.{ℕ, _-_, _*_, _/_, _%_, _<_}
 use native.Mathlib.Omega.{arith}
 use native.Mathlib.Nat.{mod-eq-of-lt, mod-lt}
 use Rattle.field.specs.Prime.{Prime}
-use Rattle.field.specs.PrimeLaws.{prime-leaves, prime-positive}
+use Rattle.field.specs.modulus.Prime.{prime-leaves, prime-positive}
 use Rattle.field.specs.Fp.{Fp, el, mul, neg}
-use Rattle.field.specs.FpLaws.{el-inj, el-mod, el-mul, el-neg, Fp-mul-one}
-use Rattle.field.specs.InverseLaws.{inverse-turn}
+use Rattle.field.specs.element.Fp.{el-inj, el-mod, el-mul, el-neg, Fp-mul-one}
+use Rattle.field.specs.element.Inverse.{inverse-turn}
 
 pub record Chased (p a r t : ℕ) : Type 0 where
   pub holds : mul (el p a) (el p t) ≡ el p r

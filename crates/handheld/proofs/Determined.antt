@@ -6,16 +6,16 @@ use lib.ListN.{length}
 use Rattle.field.specs.declared.Element.{Element}
 use Rattle.field.specs.Refusal.{Tested}
 use Rattle.field.specs.Arithmetic.{AskSum, AskDifference, AskProduct, AskInverse}
-use Rattle.field.specs.ArithmeticLaws.{sum-determined, difference-determined, product-determined, inverse-determined}
+use Rattle.field.specs.services.Laws.{sum-determined, difference-determined, product-determined, inverse-determined}
 use Rattle.poly.specs.LeadingPart.{of-list, Leading}
-use Rattle.poly.specs.Quotient.{QuotientCall, Quotient}
+use Rattle.poly.specs.QuotientCall.{QuotientCall, Quotient}
 use Rattle.poly.specs.ImageCall.{ImageCall, ImageAnswer}
-use Rattle.poly.specs.Laws.ListCheck.{list-check-determined}
-use Rattle.poly.specs.Laws.LeadingPart.{leading-terms-determined}
-use Rattle.poly.specs.Laws.Quotient.{quotient-determined}
-use Rattle.poly.specs.Laws.ImageCall.{image-determined}
+use Rattle.poly.specs.list.Check.{list-check-determined}
+use Rattle.poly.specs.list.Leading.{leading-terms-determined}
+use Rattle.poly.specs.quotient.Laws.{quotient-determined}
+use Rattle.poly.specs.image.Call.{image-determined}
 use Rattle.divisor.specs.Candidate.{Call, Candidate}
-use Rattle.divisor.specs.Laws.CandidateDetermined.{candidate-determined}
+use Rattle.divisor.specs.answer.CandidateDetermined.{candidate-determined}
 use Rattle.case_file.specs.Reading.{read}
 use Rattle.case_file.specs.Handed.{contents}
 use Rattle.handheld.specs.Layout.{Laid, laid, of-fault, of-answer, of-quotient, of-candidate, of-image, of-contents}

@@ -4,7 +4,7 @@ use Prim.Native.Nat.{ℕ}
 use Rattle.field.specs.declared.Fault.{Fault}
 use Rattle.field.specs.declared.Answer.{Answer}
 use Rattle.poly.specs.declared.ImageRecord.{ImageRecord}
-use Rattle.poly.specs.Quotient.{QuotientResult}
+use Rattle.poly.specs.QuotientCall.{QuotientResult}
 use Rattle.divisor.specs.Candidate.{Result}
 use Rattle.case_file.specs.declared.Contents.{Contents}
 

@@ -7,7 +7,7 @@ ghost use Rattle.field.specs.Refusal.{Tested};
 ghost use Rattle.field.specs.Contract.{element};
 ghost use Rattle.field.specs.Arithmetic.{AskSum, AskDifference, AskProduct, AskInverse};
 ghost use Rattle.poly.specs.LeadingPart.{of-list, Leading};
-ghost use Rattle.poly.specs.Quotient.{quotient-call, Quotient};
+ghost use Rattle.poly.specs.QuotientCall.{quotient-call, Quotient};
 ghost use Rattle.poly.specs.ImageCall.{image-call, ImageAnswer};
 ghost use Rattle.divisor.specs.Candidate.{candidate-call, Candidate};
 ghost use Rattle.case_file.specs.Reading.{read};

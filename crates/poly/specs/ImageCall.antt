@@ -6,15 +6,15 @@ use Prim.Native.Nat.{ℕ, _<_}
 use Rattle.field.specs.Prime.{Prime}
 use Rattle.field.specs.Fp.{el}
 use Rattle.field.specs.Moduli.{Listed}
-use Rattle.field.specs.ModuliLaws.{listed-prime}
+use Rattle.field.specs.modulus.Laws.{listed-prime}
 use Rattle.field.specs.Modulo.{Modulo}
 use Rattle.field.specs.Numbers.{POINTS_COUNT, POINT_NUMBER, NO_GOOD_POINT}
 use Rattle.field.specs.Refusal.{Line, line, whole, first, fault, none, Refuses, Passes}
 use Rattle.field.specs.declared.Fault.{Fault}
 use Rattle.poly.specs.declared.ImageRecord.{ImageRecord}
 use Rattle.poly.specs.Terms.{Polynomial, terms-of}
-use Rattle.poly.specs.Value.{Point}
-use Rattle.poly.specs.Image.{Bad, Image}
+use Rattle.poly.specs.PointValue.{Point}
+use Rattle.poly.specs.PointImage.{Bad, Image}
 use Rattle.poly.specs.Lists.{WrongNumber, of-lists}
 use Rattle.poly.specs.Coefficients.{Eight, series}
 

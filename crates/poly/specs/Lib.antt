@@ -1,8 +1,8 @@
 -- Layer 2, polynomials: definitions, models of the code, and laws.
 pub mod Keys
 pub mod Terms
-pub mod Value
-pub mod Image
+pub mod PointValue
+pub mod PointImage
 pub mod Lists
 pub mod Search
 pub mod Powers
@@ -10,7 +10,15 @@ pub mod Room
 pub mod Coefficients
 pub mod LeadingPart
 pub mod ImageCall
-pub mod Quotient
+pub mod QuotientCall
 pub mod TrialDivision
-pub mod Models
-pub mod Laws
+pub mod key
+pub mod list
+pub mod points
+pub mod value
+pub mod euclid
+pub mod image
+pub mod division
+pub mod rooms
+pub mod quotient
+pub mod loops

@@ -10,7 +10,7 @@ use Rattle.field.specs.Moduli.{Listed}
 use Rattle.field.specs.Modulo.{Modulo}
 use Rattle.poly.specs.Keys.{keys}
 use Rattle.poly.specs.Terms.{poly}
-use Rattle.poly.specs.Image.{Divides}
+use Rattle.poly.specs.PointImage.{Divides}
 use Rattle.poly.specs.Room.{work-room, cleared}
 use Rattle.poly.specs.Lists.{Falling}
 

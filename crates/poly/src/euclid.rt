@@ -1,8 +1,8 @@
 // The greatest common divisor of two polynomials in x, each as eight numbers modulo p, the coefficient of x^0 first.
 ghost use mathlib.Core.Path.{_≡_};
 ghost use Prim.Native.Nat.{_-_, _<_};
-ghost use Rattle.poly.specs.Models.Eight.{size as size-of, scaled as scaled-of, monic as monic-of, subtract as subtract-of, remainder as remainder-of, gcd as gcd-of};
-ghost use Rattle.poly.specs.Models.EuclidSteps.{Divisible, Step, Reducible, Pair};
+ghost use Rattle.poly.specs.euclid.Model.{size as size-of, scaled as scaled-of, monic as monic-of, subtract as subtract-of, remainder as remainder-of, gcd as gcd-of};
+ghost use Rattle.poly.specs.euclid.Steps.{Divisible, Step, Reducible, Pair};
 use crate::Eight;
 use crate::POWERS;
 use field::Element;

@@ -3,7 +3,7 @@ ghost use mathlib.Core.Path.{_≡_};
 ghost use Prim.Native.Nat.{_+_, _*_};
 ghost use Rattle.poly.specs.Keys.{exponents};
 ghost use Rattle.poly.specs.Terms.{key-of, coefficient-of, keyed};
-ghost use Rattle.poly.specs.Models.Keys.{Packable};
+ghost use Rattle.poly.specs.key.Model.{Packable};
 use crate::Term;
 use field::Number;
 

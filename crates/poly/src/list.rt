@@ -5,7 +5,7 @@ ghost use Rattle.field.specs.Refusal.{Tested};
 ghost use Rattle.poly.specs.Lists.{WrongModulo, of-lists};
 ghost use Rattle.poly.specs.LeadingPart.{of-list, LeadingPart};
 ghost use Rattle.poly.specs.Search.{Searched};
-ghost use Rattle.poly.specs.Models.Lists.{of-terms, Lower};
+ghost use Rattle.poly.specs.list.Model.{of-terms, Lower};
 use crate::Term;
 use crate::key::Key;
 use field::Fault;

@@ -2,7 +2,7 @@
 ghost use mathlib.Core.Path.{_≡_};
 ghost use Prim.Native.Nat.{_<_};
 ghost use Rattle.poly.specs.Powers.{Powers};
-ghost use Rattle.poly.specs.Models.Value.{Ready, value-of};
+ghost use Rattle.poly.specs.value.Model.{Ready, value-of};
 use crate::Eight;
 use crate::POWERS;
 use crate::Term;

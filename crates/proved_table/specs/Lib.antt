@@ -6,14 +6,5 @@ pub mod MoreRows
 pub mod Wrong
 pub mod WrongResults
 pub mod WrongServices
-pub mod TermDivision
-pub mod TermDivisionLaws
-pub mod Decisions
-pub mod Computed
-pub mod ComputedLaws
-pub mod Test
-pub mod TestLaws
-pub mod WrongTest
-pub mod WrongLaws
-pub mod Proved
-pub mod Refuted
+pub mod test
+pub mod theorems

@@ -8,7 +8,7 @@ use Rattle.poly.specs.declared.ImageRecord.{ImageRecord}
 use Rattle.poly.specs.declared.QuotientRecord.{QuotientRecord}
 use Rattle.poly.specs.Keys.{keys}
 use Rattle.poly.specs.ImageCall.{ImageAnswer}
-use Rattle.poly.specs.Quotient.{quotient-result, Quotient}
+use Rattle.poly.specs.QuotientCall.{quotient-result, Quotient}
 use Rattle.poly.specs.Room.{work-room, written, cleared}
 use Rattle.divisor.specs.declared.CandidateRecord.{CandidateRecord}
 use Rattle.divisor.specs.Candidate.{candidate-result, Candidate}

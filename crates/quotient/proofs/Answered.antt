@@ -9,11 +9,11 @@ use Rattle.field.specs.declared.Fault.{Fault}
 use Rattle.case_file.specs.declared.Counts.{Counts as CaseCounts}
 use Rattle.case_file.specs.Reading.{read}
 use Rattle.case_file.specs.Handed.{fault}
-use Rattle.poly.specs.Quotient.{QuotientCall, quotient-call, QuotientResult, Quotient}
-use Rattle.poly.specs.Laws.Quotient.{quotient-determined}
+use Rattle.poly.specs.QuotientCall.{QuotientCall, quotient-call, QuotientResult, Quotient}
+use Rattle.poly.specs.quotient.Laws.{quotient-determined}
 use Rattle.console.specs.Lists.{Lists}
-use Rattle.console.specs.OfFileLaws.{lists-fault, lists-modulus, of-file-refused, of-file-asked, of-file-has, of-file-determined}
-use Rattle.console.specs.TermsFirst.{none-first, quotient-first}
+use Rattle.console.specs.answer.OfFile.{lists-fault, lists-modulus, of-file-refused, of-file-asked, of-file-has, of-file-determined}
+use Rattle.console.specs.answer.TermsFirst.{none-first, quotient-first}
 use Rattle.quotient.specs.QuotientOfFile.{unread, call, QuotientOfFile, Answered}
 
 abbrev TermsFirst : QuotientResult → Type 0

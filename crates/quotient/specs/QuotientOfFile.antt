@@ -7,7 +7,7 @@ use Rattle.field.specs.declared.Fault.{Fault}
 use Rattle.case_file.specs.Format.{modulus-kind, first-kind, second-kind}
 use Rattle.case_file.specs.Reading.{Reading}
 use Rattle.case_file.specs.Handed.{list}
-use Rattle.poly.specs.Quotient.{QuotientCall, quotient-call, QuotientResult, quotient-result, Quotient}
+use Rattle.poly.specs.QuotientCall.{QuotientCall, quotient-call, QuotientResult, quotient-result, Quotient}
 use Rattle.console.specs.OfFile.{OfFile}
 
 module _ (output work : List ℕ) where

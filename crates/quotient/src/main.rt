@@ -1,5 +1,5 @@
 // Reads a case file from standard input and prints A over B: `0 0` and a line for each term, or number and place.
-ghost use Rattle.poly.specs.Quotient.{quotient-result};
+ghost use Rattle.poly.specs.QuotientCall.{quotient-result};
 ghost use Rattle.quotient.specs.QuotientOfFile.{Answered};
 use console::input;
 use console::print;

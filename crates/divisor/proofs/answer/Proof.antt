@@ -4,11 +4,11 @@ use native.Mathlib.Omega.{arith}
 use Prim.Native.Nat.{_+_, _/_, _≤_}
 use lib.ListN.{length}
 use Rattle.poly.specs.Room.{work-room}
-use Rattle.poly.specs.Laws.Room.{zeroed-length}
+use Rattle.poly.specs.rooms.Laws.{zeroed-length}
 use Rattle.divisor.specs.Candidate.{Call, candidate-call}
-use Rattle.divisor.specs.Laws.Passed.{look-ready}
-use Rattle.divisor.specs.Laws.KeptPoints.{within, room-after, SomeGood, ready-equations, count-small, counts-fit}
-use Rattle.divisor.specs.Laws.Answer.{nothing-good, ready-table, ready-verdict, answered-so}
+use Rattle.divisor.specs.checks.Passed.{look-ready}
+use Rattle.divisor.specs.sorting.Kept.{within, room-after, SomeGood, ready-equations, count-small, counts-fit}
+use Rattle.divisor.specs.answer.Laws.{nothing-good, ready-table, ready-verdict, answered-so}
 use borrow.Author.Needs.{needs}
 use Rattle.divisor.proofs.answer.Statement.{statement}
 use Rattle.divisor.proofs.answer.Tie as tie

@@ -3,7 +3,7 @@ use mathlib.Core.Path.{ap}
 use borrow.Author.Needs.{needs}
 use Rattle.field.specs.declared.Fault.{Fault}
 use Rattle.poly.specs.Room.{work-room}
-use Rattle.poly.specs.Laws.Room.{zeroed-all}
+use Rattle.poly.specs.rooms.Laws.{zeroed-all}
 use Rattle.divisor.proofs.no_good_point.Statement.{statement}
 use Rattle.divisor.proofs.no_good_point.Tie as tie
 

@@ -1,7 +1,7 @@
 -- `field::ask_inverse` meets its contract: where no line applies, the operand is one that `inverse` asks for. Assumes nothing.
 use borrow.Author.Needs.{needs}
-use Rattle.field.specs.RefusalLaws.{tested-passes}
-use Rattle.field.specs.ArithmeticLaws.{operand-invertible, arithmetic-refused, arithmetic-answered}
+use Rattle.field.specs.fault.Laws.{tested-passes}
+use Rattle.field.specs.services.Laws.{operand-invertible, arithmetic-refused, arithmetic-answered}
 use Rattle.field.proofs.ask_inverse.Statement.{statement}
 use Rattle.field.proofs.ask_inverse.Tie as tie
 

@@ -1,7 +1,7 @@
 -- `field::ask_sum` meets its contract: where no line applies, the operands are those that `sum` asks for. Assumes nothing.
 use borrow.Author.Needs.{needs}
-use Rattle.field.specs.RefusalLaws.{tested-passes}
-use Rattle.field.specs.ArithmeticLaws.{operands-fit, arithmetic-refused, arithmetic-answered}
+use Rattle.field.specs.fault.Laws.{tested-passes}
+use Rattle.field.specs.services.Laws.{operands-fit, arithmetic-refused, arithmetic-answered}
 use Rattle.field.proofs.ask_sum.Statement.{statement}
 use Rattle.field.proofs.ask_sum.Tie as tie
 

@@ -5,8 +5,8 @@ use native.Mathlib.Omega.{arith}
 use borrow.Author.Needs.{needs}
 use borrow.Author.Tests.{not-true, not-false, ltb-true, ltb-false}
 use Rattle.field.specs.Moduli.{Listed}
-use Rattle.field.specs.ModuliLaws.{unlisted}
-use Rattle.field.specs.RefusalLaws.{placed-never, tested-line, tested-past, tested-end}
+use Rattle.field.specs.modulus.Laws.{unlisted}
+use Rattle.field.specs.fault.Laws.{placed-never, tested-line, tested-past, tested-end}
 use Rattle.field.proofs.first_operand_fault.Statement.{statement}
 use Rattle.field.proofs.first_operand_fault.Tie as tie
 

@@ -4,7 +4,7 @@ use mathlib.Core.Path.{refl}
 use borrow.Author.Needs.{needs}
 use Rattle.field.specs.declared.Fault.{Fault}
 use Rattle.field.specs.Refusal.{Tested}
-use Rattle.field.specs.RefusalLaws.{placed-never, tested-line, tested-past, tested-end, tested-stops, tested-goes-on}
+use Rattle.field.specs.fault.Laws.{placed-never, tested-line, tested-past, tested-end, tested-stops, tested-goes-on}
 use Rattle.field.specs.Arithmetic.{first-operand, no-inverse, inverse-operand}
 use Rattle.field.proofs.inverse_operand_fault.Statement.{statement}
 use Rattle.field.proofs.inverse_operand_fault.Tie as tie

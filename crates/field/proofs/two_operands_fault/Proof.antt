@@ -9,7 +9,7 @@ use borrow.Author.Tests.{not-true, not-false, ltb-false, eqb-false, le-ltb, ne-e
 use borrow.Author.Needs.{needs}
 use Rattle.field.specs.declared.Fault.{Fault}
 use Rattle.field.specs.Refusal.{Tested}
-use Rattle.field.specs.RefusalLaws.{placed-never, tested-line, tested-past, tested-end, tested-stops, tested-goes-on}
+use Rattle.field.specs.fault.Laws.{placed-never, tested-line, tested-past, tested-end, tested-stops, tested-goes-on}
 use Rattle.field.specs.Arithmetic.{first-operand, second-operand, two-operands}
 use Rattle.field.proofs.two_operands_fault.Statement.{statement}
 use Rattle.field.proofs.two_operands_fault.Tie as tie

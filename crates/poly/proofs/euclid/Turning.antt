@@ -5,12 +5,12 @@ use mathlib.Core.List.{List}
 use Prim.Native.Nat.{ℕ, _-_, _≤_, _<_}
 use native.Mathlib.Omega.{arith}
 use Rattle.field.specs.Prime.{Prime}
-use Rattle.field.specs.PrimeLaws.{prime-positive}
+use Rattle.field.specs.modulus.Prime.{prime-positive}
 use Rattle.poly.specs.Coefficients.{Eight}
-use Rattle.poly.specs.Models.Eight.{size, monic, remainder, euclid}
-use Rattle.poly.specs.Laws.EightNumbers.{remainder-eight}
-use Rattle.poly.specs.Laws.EightMeaning.{monic-eight}
-use Rattle.poly.specs.Laws.EightTurns.{turned, rest, euclid-end, turn-on, turn-falls}
+use Rattle.poly.specs.euclid.Model.{size, monic, remainder, euclid}
+use Rattle.poly.specs.euclid.Numbers.{remainder-eight}
+use Rattle.poly.specs.euclid.Meaning.{monic-eight}
+use Rattle.poly.specs.euclid.Turns.{turned, rest, euclid-end, turn-on, turn-falls}
 
 pub record Turning (p n₀ : ℕ) (f₀ g₀ : List ℕ) (n : ℕ) (f g : List ℕ) : Type 0 where
   pub sized : n ≡ size g

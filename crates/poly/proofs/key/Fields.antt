@@ -5,7 +5,7 @@ use native.Mathlib.Omega.{arith}
 use lib.Dec.{lit≤}
 use lib.Bits.{bitOr, or-shifted}
 use lib.Pow.{shl-exact}
-use Rattle.poly.specs.Models.Keys.{Packable}
+use Rattle.poly.specs.key.Model.{Packable}
 
 -- n holds nothing below bit k, and m nothing from it on
 pub join : (k q : ℕ) {n m : ℕ} → n ≡ q * 2 ^ k → m < 2 ^ k → bitOr n m ≡ n + m

@@ -12,10 +12,10 @@ use Rattle.poly.specs.Keys.{keys}
 use Rattle.poly.specs.Terms.{key-of, coefficient-of}
 use Rattle.poly.specs.Lists.{WrongModulo, wrong-term, coefficient-zero, coefficient-large}
 use Rattle.poly.specs.Search.{Searched}
-use Rattle.poly.specs.Models.Search.{Searching}
-use Rattle.poly.specs.Models.Lists.{key-before}
-use Rattle.poly.specs.Laws.Search.{search-begins, search-goes-on, search-stops, search-ends}
-use Rattle.poly.specs.Laws.ListCheck.{key-before-first, key-before-next, key-is-wrong, term-is-right}
+use Rattle.poly.specs.list.Searching.{Searching}
+use Rattle.poly.specs.list.Model.{key-before}
+use Rattle.poly.specs.list.Search.{search-begins, search-goes-on, search-stops, search-ends}
+use Rattle.poly.specs.list.Check.{key-before-first, key-before-next, key-is-wrong, term-is-right}
 
 pub record Walked (bound : ℕ) (ts : List ℕ) (before i : ℕ) : Type 0 where
   pub searching : Searching (WrongModulo bound ts) (length ts) i

@@ -1,6 +1,6 @@
 -- `quotient::quotient_of` meets its contract: the reader's refusal, or the service's answer to the lists that were read. Assumes nothing.
 use borrow.Author.Needs.{needs}
-use Rattle.console.specs.OfFileLaws.{lists-fault}
+use Rattle.console.specs.answer.OfFile.{lists-fault}
 use Rattle.quotient.proofs.Answered.{answered-refused, answered-asked}
 use Rattle.quotient.proofs.quotient_of.Statement.{statement}
 use Rattle.quotient.proofs.quotient_of.Tie as tie

@@ -1,6 +1,6 @@
 -- `bench_examples::ask::candidate_in` is safe: the terms that are printed stand first in the output. Assumes nothing.
 use borrow.Author.Needs.{needs}
-use Rattle.console.specs.TermsFirst.{candidate-first}
+use Rattle.console.specs.answer.TermsFirst.{candidate-first}
 use Rattle.bench_examples.proofs.ask.candidate_in.Statement.{statement}
 use Rattle.bench_examples.proofs.ask.candidate_in.Tie as tie
 

@@ -1,6 +1,6 @@
 -- `bench_examples::ask::quotient` is safe: the terms that are printed stand first in the output. Assumes nothing.
 use borrow.Author.Needs.{needs}
-use Rattle.console.specs.TermsFirst.{quotient-first}
+use Rattle.console.specs.answer.TermsFirst.{quotient-first}
 use Rattle.bench_examples.proofs.ask.quotient.Statement.{statement}
 use Rattle.bench_examples.proofs.ask.quotient.Tie as tie
 

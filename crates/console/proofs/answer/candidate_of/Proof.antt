@@ -1,6 +1,6 @@
 -- `console::answer::candidate_of` meets its contract: the reader's refusal, or the candidate's answer to the lists that were read. Assumes nothing.
 use borrow.Author.Needs.{needs}
-use Rattle.console.specs.OfFileLaws.{lists-fault}
+use Rattle.console.specs.answer.OfFile.{lists-fault}
 use Rattle.console.proofs.Answered.{answered-refused, answered-asked}
 use Rattle.console.proofs.answer.candidate_of.Statement.{statement}
 use Rattle.console.proofs.answer.candidate_of.Tie as tie

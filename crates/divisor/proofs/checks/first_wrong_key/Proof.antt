@@ -1,7 +1,7 @@
 -- `divisor::checks::first_wrong_key` meets its contract. The invariant: no key before i is wrong, and the key before is at hand. Assumes nothing.
 use Prim.Native.Nat.{_-_}
 use lib.ListN.{length}
-use Rattle.divisor.specs.Laws.Checks.{KeysSo, keys-start, keys-stop, keys-next, keys-end}
+use Rattle.divisor.specs.checks.Laws.{KeysSo, keys-start, keys-stop, keys-next, keys-end}
 use borrow.Author.Needs.{needs}
 use Rattle.divisor.proofs.checks.first_wrong_key.Statement.{statement}
 use Rattle.divisor.proofs.checks.first_wrong_key.Tie as tie

@@ -5,7 +5,7 @@ use mathlib.Core.Logic.{⊎-elim}
 use Prim.Native.Nat.{ℕ, _+_, _*_, _%_, _-_, _≤_}
 use native.Mathlib.Omega.{arith}
 use lib.ListN.{length, getD}
-use Rattle.divisor.specs.Laws.EquationTurns.{EquationSo, equation-start, equation-passed, equation-taken, equation-end}
+use Rattle.divisor.specs.equations.Turns.{EquationSo, equation-start, equation-passed, equation-taken, equation-end}
 use Rattle.divisor.proofs.equations.equation.Statement.{statement}
 use Rattle.divisor.proofs.equations.equation.Tie as tie
 

@@ -8,12 +8,12 @@ use native.Mathlib.Omega.{arith}
 use lib.ListN.{length, take, drop}
 use Rattle.field.specs.Prime.{Prime}
 use Rattle.poly.specs.Coefficients.{Eight}
-use Rattle.divisor.specs.Laws.TableKept.{empty-ready}
-use Rattle.divisor.specs.Models.Sorting.{alike}
-use Rattle.divisor.specs.Models.Looks.{kept-before, Equations-before}
-use Rattle.divisor.specs.Laws.Turns.{alike-same, alike-other}
-use Rattle.divisor.specs.Laws.Parts.{part-is, part-length}
-use Rattle.divisor.specs.Laws.LookTurns.{equations-start, equations-ready, equations-columns, equations-other, equations-same, points-sized, next-fits, equations-to-at, length-none, length-same, length-other}
+use Rattle.divisor.specs.table.Kept.{empty-ready}
+use Rattle.divisor.specs.sorting.Model.{alike}
+use Rattle.divisor.specs.points.Model.{kept-before, Equations-before}
+use Rattle.divisor.specs.sorting.Turns.{alike-same, alike-other}
+use Rattle.divisor.specs.points.Parts.{part-is, part-length}
+use Rattle.divisor.specs.points.Turns.{equations-start, equations-ready, equations-columns, equations-other, equations-same, points-sized, next-fits, equations-to-at, length-none, length-same, length-other}
 use Rattle.divisor.proofs.equations.equations.Statement.{statement}
 use Rattle.divisor.proofs.equations.equations.Tie as tie
 

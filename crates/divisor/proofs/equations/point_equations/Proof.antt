@@ -6,15 +6,15 @@ use Prim.Native.Nat.{ℕ, _-_, _≤_}
 use native.Mathlib.Omega.{arith}
 use native.Mathlib.Nat.{mod-lt}
 use lib.ListN.{getD}
-use Rattle.field.specs.ModuliLaws.{listed-above, listed-positive}
+use Rattle.field.specs.modulus.Laws.{listed-above, listed-positive}
 use Rattle.poly.specs.Coefficients.{Eight}
-use Rattle.poly.specs.Models.Powers.{powers}
-use Rattle.poly.specs.Laws.Powers.{powers-eight, powers-model}
-use Rattle.divisor.specs.Models.Table.{with-row, TableReady}
-use Rattle.divisor.specs.Models.Equation.{Equations-to}
-use Rattle.divisor.specs.Laws.TableTurns.{blank-adds-nothing}
-use Rattle.divisor.specs.Laws.EquationRow.{equation-ready}
-use Rattle.divisor.specs.Laws.PointTurns.{equation-with, point-start, point-ready, point-next}
+use Rattle.poly.specs.value.PowersModel.{powers}
+use Rattle.poly.specs.value.PowersLaws.{powers-eight, powers-model}
+use Rattle.divisor.specs.table.Model.{with-row, TableReady}
+use Rattle.divisor.specs.equations.Model.{Equations-to}
+use Rattle.divisor.specs.table.Turns.{blank-adds-nothing}
+use Rattle.divisor.specs.equations.RowLaws.{equation-ready}
+use Rattle.divisor.specs.equations.PointTurns.{equation-with, point-start, point-ready, point-next}
 use Rattle.divisor.proofs.equations.point_equations.Statement.{statement}
 use Rattle.divisor.proofs.equations.point_equations.Tie as tie
 

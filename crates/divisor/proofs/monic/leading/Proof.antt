@@ -4,8 +4,8 @@ use mathlib.Core.Path.{_≡_, refl, sym, _∙_}
 use Prim.Native.Nat.{_-_, _≤_}
 use native.Mathlib.Omega.{arith}
 use lib.ListN.{take, drop}
-use Rattle.divisor.specs.Models.Monic.{leading}
-use Rattle.divisor.specs.Laws.Turns.{leading-next, leading-found, leading-end}
+use Rattle.divisor.specs.monic.Model.{leading}
+use Rattle.divisor.specs.sorting.Turns.{leading-next, leading-found, leading-end}
 use Rattle.divisor.proofs.monic.leading.Statement.{statement}
 use Rattle.divisor.proofs.monic.leading.Tie as tie
 

@@ -6,14 +6,14 @@ use mathlib.Core.List.{List}
 use Prim.Native.Nat.{ℕ, _+_, _-_, _≤_, _<_}
 use native.Mathlib.Omega.{arith}
 use lib.ListN.{length, take, getD, length-set}
-use Rattle.field.specs.Link.{inverse-val}
-use Rattle.field.specs.ModuliLaws.{listed-prime, listed-positive}
+use Rattle.field.specs.element.Link.{inverse-val}
+use Rattle.field.specs.modulus.Laws.{listed-prime, listed-positive}
 use Rattle.field.specs.Fp.{el, inv}
 use Rattle.poly.specs.Terms.{keyed}
 use Rattle.divisor.specs.Candidate.{most-keys}
-use Rattle.divisor.specs.Models.Monic.{leading, scaled-terms}
-use Rattle.divisor.specs.Laws.MonicTerms.{leading-below}
-use Rattle.divisor.specs.Laws.Turns.{MadeSo, made-passed, made-taken, made-all}
+use Rattle.divisor.specs.monic.Model.{leading, scaled-terms}
+use Rattle.divisor.specs.monic.Terms.{leading-below}
+use Rattle.divisor.specs.sorting.Turns.{MadeSo, made-passed, made-taken, made-all}
 use Rattle.divisor.proofs.monic.made_monic.Statement.{statement}
 use Rattle.divisor.proofs.monic.made_monic.Tie as tie
 

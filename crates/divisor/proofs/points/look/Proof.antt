@@ -6,12 +6,12 @@ use native.Mathlib.Omega.{arith}
 use lib.ListN.{length}
 use Rattle.poly.specs.declared.ImageRecord.{ImageRecord}
 use Rattle.poly.specs.ImageCall.{Fine}
-use Rattle.poly.specs.Models.Image.{image-of}
-use Rattle.poly.specs.Laws.ImageCall.{point-model}
-use Rattle.divisor.specs.Models.Looks.{look-at, Looks}
-use Rattle.divisor.specs.Laws.Parts.{part-is}
-use Rattle.divisor.specs.Laws.Stores.{looks-start, looks-next}
-use Rattle.divisor.specs.Laws.Looking.{point-fine, look-small, look-eight}
+use Rattle.poly.specs.image.Model.{image-of}
+use Rattle.poly.specs.image.Call.{point-model}
+use Rattle.divisor.specs.points.Model.{look-at, Looks}
+use Rattle.divisor.specs.points.Parts.{part-is}
+use Rattle.divisor.specs.points.Stores.{looks-start, looks-next}
+use Rattle.divisor.specs.points.Looking.{point-fine, look-small, look-eight}
 use Rattle.divisor.proofs.points.look.Statement.{statement}
 use Rattle.divisor.proofs.points.look.Tie as tie
 

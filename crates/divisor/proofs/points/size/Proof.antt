@@ -2,7 +2,7 @@
 use borrow.Author.Needs.{needs}
 use native.Mathlib.Numerals.{add-one}
 use borrow.Author.Tests.{eq-eqb, ne-eqb}
-use Rattle.divisor.specs.Models.Sorting.{size-of}
+use Rattle.divisor.specs.sorting.Model.{size-of}
 use Rattle.divisor.proofs.points.size.Statement.{statement}
 use Rattle.divisor.proofs.points.size.Tie as tie
 

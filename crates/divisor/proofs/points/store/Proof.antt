@@ -3,8 +3,8 @@ use borrow.Author.Needs.{needs}
 use mathlib.Core.Path.{_≡_, subst}
 use Prim.Native.Nat.{ℕ, _-_, _≤_}
 use native.Mathlib.Omega.{arith}
-use Rattle.divisor.specs.Models.Looks.{Stored}
-use Rattle.divisor.specs.Laws.Stores.{stored-start, stored-next}
+use Rattle.divisor.specs.points.Model.{Stored}
+use Rattle.divisor.specs.points.Stores.{stored-start, stored-next}
 use Rattle.divisor.proofs.points.store.Statement.{statement}
 use Rattle.divisor.proofs.points.store.Tie as tie
 

@@ -5,8 +5,8 @@ use mathlib.Core.Logic.{⊎-elim}
 use Prim.Native.Nat.{_+_, _-_, _≤_}
 use native.Mathlib.Omega.{arith}
 use lib.ListN.{take, drop}
-use Rattle.divisor.specs.Models.Sorting.{alike}
-use Rattle.divisor.specs.Laws.Turns.{alike-same, alike-other, alike-end}
+use Rattle.divisor.specs.sorting.Model.{alike}
+use Rattle.divisor.specs.sorting.Turns.{alike-same, alike-other, alike-end}
 use Rattle.divisor.proofs.sorting.alike.Statement.{statement}
 use Rattle.divisor.proofs.sorting.alike.Tie as tie
 

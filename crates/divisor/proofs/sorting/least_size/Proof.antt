@@ -4,8 +4,8 @@ use mathlib.Core.Path.{_≡_, refl, sym, _∙_, ap}
 use Prim.Native.Nat.{ℕ, _+_, _-_, _≤_}
 use native.Mathlib.Omega.{arith}
 use lib.ListN.{take, drop}
-use Rattle.divisor.specs.Models.Sorting.{least-from}
-use Rattle.divisor.specs.Laws.Turns.{least-next, least-end}
+use Rattle.divisor.specs.sorting.Model.{least-from}
+use Rattle.divisor.specs.sorting.Turns.{least-next, least-end}
 use Rattle.divisor.proofs.sorting.least_size.Statement.{statement}
 use Rattle.divisor.proofs.sorting.least_size.Tie as tie
 

@@ -1,6 +1,6 @@
 -- `divisor::sorting::lesser` meets its contract: each way out is a case of the definition. Assumes nothing.
 use borrow.Author.Tests.{eq-eqb, ne-eqb, lt-ltb, le-ltb}
-use Rattle.divisor.specs.Models.Sorting.{lesser}
+use Rattle.divisor.specs.sorting.Model.{lesser}
 use Rattle.divisor.proofs.sorting.lesser.Statement.{statement}
 use Rattle.divisor.proofs.sorting.lesser.Tie as tie
 

@@ -1,8 +1,8 @@
 -- `divisor::table::first_entry` meets its contract. The loop keeps that no cell before j is other than 0. Assumes nothing.
 use Prim.Native.Nat.{_-_}
-use Rattle.poly.specs.Models.Search.{Searching}
-use Rattle.poly.specs.Laws.Search.{search-begins, search-goes-on, search-stops, search-ends}
-use Rattle.divisor.specs.Models.Table.{COLUMNS, Entry}
+use Rattle.poly.specs.list.Searching.{Searching}
+use Rattle.poly.specs.list.Search.{search-begins, search-goes-on, search-stops, search-ends}
+use Rattle.divisor.specs.table.Model.{COLUMNS, Entry}
 use borrow.Author.Needs.{needs}
 use Rattle.divisor.proofs.table.first_entry.Statement.{statement}
 use Rattle.divisor.proofs.table.first_entry.Tie as tie

@@ -3,8 +3,8 @@
 use native.Mathlib.Nat.{sub-zero}
 use mathlib.Core.Path.{_≡_, sym, ap, _∙_}
 use Prim.Native.Nat.{_-_, _≤_}
-use Rattle.divisor.specs.Models.Table.{kind, kind-from}
-use Rattle.divisor.specs.Laws.TableTurns.{kind-none, kind-some, kind-several, kind-turn, kind-one}
+use Rattle.divisor.specs.table.Model.{kind, kind-from}
+use Rattle.divisor.specs.table.Turns.{kind-none, kind-some, kind-several, kind-turn, kind-one}
 use borrow.Author.Needs.{needs}
 use Rattle.divisor.proofs.table.kind_of.Statement.{statement}
 use Rattle.divisor.proofs.table.kind_of.Tie as tie

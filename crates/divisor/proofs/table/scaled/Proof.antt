@@ -1,13 +1,13 @@
 -- `divisor::table::scaled` meets its contract. The loop's invariant is that of `subtract`, with the row times the inverse, which is the field's by the
 -- link of `field`. The measure is the number of columns left. Assumes nothing.
 use lib.ListN.{set}
-use Rattle.field.specs.ModuliLaws.{listed-prime}
+use Rattle.field.specs.modulus.Laws.{listed-prime}
 use Rattle.field.specs.Fp.{el, inv}
-use Rattle.field.specs.Link.{inverse-val}
+use Rattle.field.specs.element.Link.{inverse-val}
 use mathlib.Core.Path.{_≡_, sym, ap, _∙_}
 use Prim.Native.Nat.{ℕ, _+_, _-_, _*_, _%_, _≤_}
-use Rattle.divisor.specs.Models.Table.{cell, altered}
-use Rattle.divisor.specs.Laws.TableTurns.{altered-turn, altered-end}
+use Rattle.divisor.specs.table.Model.{cell, altered}
+use Rattle.divisor.specs.table.Turns.{altered-turn, altered-end}
 use borrow.Author.Needs.{needs}
 use Rattle.divisor.proofs.table.scaled.Statement.{statement}
 use Rattle.divisor.proofs.table.scaled.Tie as tie

@@ -2,7 +2,7 @@
 use mathlib.Core.Path.{_≡_, sym, ap, _∙_}
 use Rattle.divisor.specs.declared.table.Kind.{Kind}
 use Rattle.divisor.specs.declared.table.Kind.the-variants.{One}
-use Rattle.divisor.specs.Models.Table.{solved-as, solved}
+use Rattle.divisor.specs.table.Model.{solved-as, solved}
 use borrow.Author.Needs.{needs}
 use Rattle.divisor.proofs.table.solution.Statement.{statement}
 use Rattle.divisor.proofs.table.solution.Tie as tie

@@ -3,8 +3,8 @@
 use lib.ListN.{getD, set}
 use mathlib.Core.Path.{_≡_, sym, ap, _∙_}
 use Prim.Native.Nat.{ℕ, _+_, _-_, _*_, _%_, _≤_}
-use Rattle.divisor.specs.Models.Table.{cell, altered}
-use Rattle.divisor.specs.Laws.TableTurns.{altered-turn, altered-end}
+use Rattle.divisor.specs.table.Model.{cell, altered}
+use Rattle.divisor.specs.table.Turns.{altered-turn, altered-end}
 use borrow.Author.Needs.{needs}
 use Rattle.divisor.proofs.table.subtract.Statement.{statement}
 use Rattle.divisor.proofs.table.subtract.Tie as tie

@@ -4,8 +4,8 @@ use native.Mathlib.Nat.{mod-lt}
 use mathlib.Core.Path.{_≡_, sym, ap, _∙_, subst}
 use Prim.Native.Nat.{_+_, _-_, _%_, _<_, _≤_}
 use native.Mathlib.Omega.{arith}
-use Rattle.divisor.specs.Models.Table.{cell, total}
-use Rattle.divisor.specs.Laws.TableTurns.{total-turn, total-end}
+use Rattle.divisor.specs.table.Model.{cell, total}
+use Rattle.divisor.specs.table.Turns.{total-turn, total-end}
 use borrow.Author.Needs.{needs}
 use Rattle.divisor.proofs.table.value_at.Statement.{statement}
 use Rattle.divisor.proofs.table.value_at.Tie as tie

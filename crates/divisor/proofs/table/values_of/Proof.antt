@@ -4,8 +4,8 @@ use mathlib.Core.Path.{_≡_, sym, ap, _∙_}
 use Prim.Native.Nat.{_-_, _≤_}
 use native.Mathlib.Omega.{arith}
 use lib.ListN.{set}
-use Rattle.divisor.specs.Models.Table.{zeros, back}
-use Rattle.divisor.specs.Laws.TableTurns.{back-turn, back-end}
+use Rattle.divisor.specs.table.Model.{zeros, back}
+use Rattle.divisor.specs.table.Turns.{back-turn, back-end}
 use borrow.Author.Needs.{needs}
 use Rattle.divisor.proofs.table.values_of.Statement.{statement}
 use Rattle.divisor.proofs.table.values_of.Tie as tie

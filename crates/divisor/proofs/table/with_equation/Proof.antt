@@ -7,9 +7,9 @@ use native.Mathlib.Nat.{sub-zero}
 use native.Mathlib.Omega.{arith}
 use lib.ListN.{set}
 use Rattle.divisor.specs.declared.table.Table.{Table}
-use Rattle.divisor.specs.Models.Table.{cell, row-at, diagonal, insert, with-row, minus, scaled-row, Column}
-use Rattle.divisor.specs.Laws.TableTurns.{insert-skip, insert-kept, insert-minus, insert-end}
-use Rattle.divisor.specs.Laws.TableRows.{minus-below}
+use Rattle.divisor.specs.table.Model.{cell, row-at, diagonal, insert, with-row, minus, scaled-row, Column}
+use Rattle.divisor.specs.table.Turns.{insert-skip, insert-kept, insert-minus, insert-end}
+use Rattle.divisor.specs.table.Rows.{minus-below}
 use borrow.Author.Needs.{needs}
 use Rattle.divisor.proofs.table.with_equation.Statement.{statement}
 use Rattle.divisor.proofs.table.with_equation.Tie as tie

@@ -2,7 +2,7 @@
 use mathlib.Core.Path.{refl, sym}
 use native.Mathlib.Omega.{arith}
 use lib.Seq.{length-take-le}
-use Rattle.divisor.specs.Laws.Verdict.{can-divide, fits-output, settled-rejected, settled-accepted}
+use Rattle.divisor.specs.verdict.Laws.{can-divide, fits-output, settled-rejected, settled-accepted}
 use borrow.Author.Needs.{needs}
 use Rattle.divisor.proofs.verdict.divided.Statement.{statement}
 use Rattle.divisor.proofs.verdict.divided.Tie as tie

@@ -1,5 +1,5 @@
 -- `divisor::verdict::divides_both` meets its contract, from what the two trial divisions say. Assumes nothing.
-use Rattle.divisor.specs.Laws.Verdict.{divide-again, first-fails, then-second}
+use Rattle.divisor.specs.verdict.Laws.{divide-again, first-fails, then-second}
 use borrow.Author.Needs.{needs}
 use Rattle.divisor.proofs.verdict.divides_both.Statement.{statement}
 use Rattle.divisor.proofs.verdict.divides_both.Tie as tie

@@ -2,7 +2,7 @@
 use mathlib.Core.Path.{refl}
 use borrow.Author.Needs.{needs}
 use Rattle.poly.specs.Room.{work-room}
-use Rattle.poly.specs.Laws.Room.{zeroed-all}
+use Rattle.poly.specs.rooms.Laws.{zeroed-all}
 use Rattle.divisor.proofs.verdict.refused.Statement.{statement}
 use Rattle.divisor.proofs.verdict.refused.Tie as tie
 

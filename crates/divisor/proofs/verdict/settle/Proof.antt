@@ -1,6 +1,6 @@
 -- `divisor::verdict::settle` meets its contract, by the kind of the solution. Assumes nothing.
-use Rattle.divisor.specs.Models.Verdict.{none, several}
-use Rattle.divisor.specs.Laws.Verdict.{settled-refused, only-ready, settled-only}
+use Rattle.divisor.specs.verdict.Model.{none, several}
+use Rattle.divisor.specs.verdict.Laws.{settled-refused, only-ready, settled-only}
 use borrow.Author.Needs.{needs}
 use Rattle.divisor.proofs.verdict.settle.Statement.{statement}
 use Rattle.divisor.proofs.verdict.settle.Tie as tie

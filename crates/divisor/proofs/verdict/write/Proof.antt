@@ -4,7 +4,7 @@ use mathlib.Core.List.{List, _++_}
 use Prim.Native.Nat.{ℕ, _-_, _≤_, _<_}
 use native.Mathlib.Omega.{arith}
 use lib.ListN.{length, getD, set, take, drop, length-set}
-use Rattle.divisor.specs.Laws.Verdict.{copy-more, copy-all}
+use Rattle.divisor.specs.verdict.Laws.{copy-more, copy-all}
 use borrow.Author.Needs.{needs}
 use Rattle.divisor.proofs.verdict.write.Statement.{statement}
 use Rattle.divisor.proofs.verdict.write.Tie as tie

@@ -4,7 +4,7 @@ use Prim.Native.Nat.{_+_, _-_}
 use native.Mathlib.Omega.{arith}
 use native.Mathlib.Nat.{mod-lt}
 use borrow.Author.Needs.{needs}
-use Rattle.field.specs.ModuliLaws.{listed-positive}
+use Rattle.field.specs.modulus.Laws.{listed-positive}
 use Rattle.field.proofs.Element.difference.Statement.{statement}
 use Rattle.field.proofs.Element.difference.Tie as tie
 

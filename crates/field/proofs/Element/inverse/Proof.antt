@@ -4,7 +4,7 @@ use mathlib.Core.Path.{refl}
 use Prim.Native.Nat.{_/_, _<_}
 use native.Mathlib.Omega.{arith}
 use native.Mathlib.Nat.{div-le-self, le-of-lt, mod-lt}
-use Rattle.field.specs.ModuliLaws.{listed-prime}
+use Rattle.field.specs.modulus.Laws.{listed-prime}
 use Rattle.field.proofs.Products.{mul-below}
 use Rattle.field.proofs.Chase.{Chased, begin, next, end}
 use Rattle.field.proofs.Element.inverse.Statement.{statement}

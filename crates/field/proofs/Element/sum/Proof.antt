@@ -3,7 +3,7 @@ use Prim.Native.Nat.{_+_}
 use native.Mathlib.Omega.{arith}
 use native.Mathlib.Nat.{mod-lt}
 use borrow.Author.Needs.{needs}
-use Rattle.field.specs.ModuliLaws.{listed-positive}
+use Rattle.field.specs.modulus.Laws.{listed-positive}
 use Rattle.field.proofs.Element.sum.Statement.{statement}
 use Rattle.field.proofs.Element.sum.Tie as tie
 

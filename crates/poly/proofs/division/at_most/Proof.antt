@@ -1,5 +1,5 @@
 -- `poly::division::at_most` meets its contract: four tests of exponents, as its model makes them. Assumes nothing.
-use Rattle.poly.specs.Models.Division.{at-most}
+use Rattle.poly.specs.division.Model.{at-most}
 use borrow.Author.Needs.{needs}
 use Rattle.poly.proofs.division.at_most.Statement.{statement}
 use Rattle.poly.proofs.division.at_most.Tie as tie

@@ -6,7 +6,7 @@ use Prim.Native.Nat.{ℕ, _-_, _≤_, _<_, min}
 use native.Mathlib.Omega.{arith}
 use lib.ListN.{length, set, length-set}
 use Rattle.poly.specs.Room.{zeroed}
-use Rattle.poly.specs.Laws.Room.{zeroed-none, zeroed-more}
+use Rattle.poly.specs.rooms.Laws.{zeroed-none, zeroed-more}
 use borrow.Author.Needs.{needs}
 use Rattle.poly.proofs.division.clear.Statement.{statement}
 use Rattle.poly.proofs.division.clear.Tie as tie

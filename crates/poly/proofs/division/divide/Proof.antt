@@ -6,10 +6,10 @@ use Prim.Native.Nat.{ℕ, _+_, _-_}
 use native.Mathlib.Omega.{arith}
 use borrow.Author.Tests.{not-true, not-false}
 use Rattle.poly.specs.Keys.{keys}
-use Rattle.poly.specs.Laws.Falling.{falling-keys}
-use Rattle.poly.specs.Laws.KeyDifference.{at-most-key}
-use Rattle.poly.specs.Laws.DivisionBegins.{begun-wide, lead-invertible, lead-inverse-is, begun-can-step, begun-ends}
-use Rattle.poly.specs.Models.Division.{most-key, at-most, Setting, setting}
+use Rattle.poly.specs.list.Falling.{falling-keys}
+use Rattle.poly.specs.key.Difference.{at-most-key}
+use Rattle.poly.specs.division.Begins.{begun-wide, lead-invertible, lead-inverse-is, begun-can-step, begun-ends}
+use Rattle.poly.specs.division.Model.{most-key, at-most, Setting, setting}
 use borrow.Author.Needs.{needs}
 use Rattle.poly.proofs.division.divide.Statement.{statement}
 use Rattle.poly.proofs.division.divide.Tie as tie

@@ -4,8 +4,8 @@ use mathlib.Core.Path.{_≡_}
 use native.Mathlib.Omega.{arith}
 use Rattle.poly.specs.Keys.{keys}
 use Rattle.poly.specs.Room.{work-room, zeroed}
-use Rattle.poly.specs.Laws.Room.{zeroed-all}
-use Rattle.poly.specs.Laws.DivisionBegins.{cleared-begins, cleared-says, cleared-room}
+use Rattle.poly.specs.rooms.Laws.{zeroed-all}
+use Rattle.poly.specs.division.Begins.{cleared-begins, cleared-says, cleared-room}
 use borrow.Author.Needs.{needs}
 use Rattle.poly.proofs.division.divides.Statement.{statement}
 use Rattle.poly.proofs.division.divides.Tie as tie

@@ -1,7 +1,7 @@
 -- `poly::division::fits` meets its contract: the divisor's leading monomial is below the remainder's, and the difference is within the bound. Assumes nothing.
 use mathlib.Core.Path.{sym, _∙_}
 use borrow.Author.Tests.{not-true, not-false}
-use Rattle.poly.specs.Laws.KeyDifference.{at-most-key, fits-not, fits-rest}
+use Rattle.poly.specs.key.Difference.{at-most-key, fits-not, fits-rest}
 use borrow.Author.Needs.{needs}
 use Rattle.poly.proofs.division.fits.Statement.{statement}
 use Rattle.poly.proofs.division.fits.Tie as tie

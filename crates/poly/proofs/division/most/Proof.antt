@@ -5,9 +5,9 @@ use Prim.Native.Nat.{ℕ, _-_, _≤_, max}
 use native.Mathlib.Omega.{arith}
 use lib.ListN.{length, drop}
 use Rattle.algebra.specs.GreatestExponent.{Variable, in-x, in-y, in-z, in-w}
-use Rattle.poly.specs.Models.Division.{most}
-use Rattle.poly.specs.Laws.GreatestExponents.{most-small}
-use Rattle.poly.specs.Laws.DivisionTurns.{most-turn, most-end}
+use Rattle.poly.specs.division.Model.{most}
+use Rattle.poly.specs.division.GreatestExponents.{most-small}
+use Rattle.poly.specs.division.Turns.{most-turn, most-end}
 use borrow.Author.Needs.{needs}
 use Rattle.poly.proofs.division.most.Statement.{statement}
 use Rattle.poly.proofs.division.most.Tie as tie

@@ -4,8 +4,8 @@ use mathlib.Core.Path.{_≡_, sym, _∙_}
 use Prim.Native.Nat.{_-_, _≤_, _<_}
 use native.Mathlib.Omega.{arith}
 use lib.ListN.{length, drop, length-set}
-use Rattle.poly.specs.Models.Spread.{spread}
-use Rattle.poly.specs.Laws.DivisionTurns.{spread-turn, spread-end}
+use Rattle.poly.specs.division.SpreadModel.{spread}
+use Rattle.poly.specs.division.Turns.{spread-turn, spread-end}
 use borrow.Author.Needs.{needs}
 use Rattle.poly.proofs.division.spread.Statement.{statement}
 use Rattle.poly.proofs.division.spread.Tie as tie

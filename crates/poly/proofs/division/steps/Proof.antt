@@ -9,8 +9,8 @@ use native.Mathlib.Omega.{arith}
 use borrow.Author.Tests.{not-true, not-false}
 use lib.ListN.{getD, set, length-set}
 use Rattle.poly.specs.Keys.{keys}
-use Rattle.poly.specs.Laws.DivisionGoing.{left-of, Going, going-start, going-passed, going-on, going-done, going-stopped, lead-below, product-below, going-taken}
-use Rattle.poly.specs.Models.Division.{KeysBelow, Setting, less-product, fits}
+use Rattle.poly.specs.division.Going.{left-of, Going, going-start, going-passed, going-on, going-done, going-stopped, lead-below, product-below, going-taken}
+use Rattle.poly.specs.division.Model.{KeysBelow, Setting, less-product, fits}
 use borrow.Author.Needs.{needs}
 use Rattle.poly.proofs.division.steps.Statement.{statement}
 use Rattle.poly.proofs.division.steps.Tie as tie

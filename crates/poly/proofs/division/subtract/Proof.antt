@@ -4,8 +4,8 @@ use mathlib.Core.Path.{_≡_, sym, _∙_}
 use Prim.Native.Nat.{_+_, _-_, _≤_, _<_}
 use native.Mathlib.Omega.{arith}
 use lib.ListN.{length, drop, length-set}
-use Rattle.poly.specs.Models.Division.{less-product}
-use Rattle.poly.specs.Laws.DivisionTurns.{less-turn, less-end}
+use Rattle.poly.specs.division.Model.{less-product}
+use Rattle.poly.specs.division.Turns.{less-turn, less-end}
 use borrow.Author.Needs.{needs}
 use Rattle.poly.proofs.division.subtract.Statement.{statement}
 use Rattle.poly.proofs.division.subtract.Tie as tie

@@ -5,11 +5,11 @@ use Prim.Native.Nat.{ℕ, _-_}
 use native.Mathlib.Omega.{arith}
 use borrow.Author.Needs.{needs}
 use Rattle.field.specs.Prime.{Prime}
-use Rattle.field.specs.ModuliLaws.{listed-prime}
+use Rattle.field.specs.modulus.Laws.{listed-prime}
 use Rattle.poly.specs.Coefficients.{Eight}
-use Rattle.poly.specs.Models.Eight.{size, monic, euclid, gcd}
-use Rattle.poly.specs.Laws.EightMeaning.{monic-eight}
-use Rattle.poly.specs.Laws.EightTurns.{size-divides, size-fits}
+use Rattle.poly.specs.euclid.Model.{size, monic, euclid, gcd}
+use Rattle.poly.specs.euclid.Meaning.{monic-eight}
+use Rattle.poly.specs.euclid.Turns.{size-divides, size-fits}
 use Rattle.poly.proofs.euclid.Turning.{Turning, turning-begins, turning-ends, turning-falls, turning-goes-on}
 use Rattle.poly.proofs.euclid.gcd.Statement.{statement}
 use Rattle.poly.proofs.euclid.gcd.Tie as tie

@@ -1,9 +1,9 @@
 -- `poly::euclid::monic` meets its contract: the inverse is the model's. Assumes nothing.
 use mathlib.Core.Path.{ap, _∙_}
 use Prim.Native.Nat.{ℕ}
-use Rattle.field.specs.ModuliLaws.{listed-prime, listed-positive}
-use Rattle.field.specs.Link.{inverse-val}
-use Rattle.poly.specs.Models.Eight.{scaled, monic}
+use Rattle.field.specs.modulus.Laws.{listed-prime, listed-positive}
+use Rattle.field.specs.element.Link.{inverse-val}
+use Rattle.poly.specs.euclid.Model.{scaled, monic}
 use borrow.Author.Needs.{needs}
 use Rattle.poly.proofs.euclid.monic.Statement.{statement}
 use Rattle.poly.proofs.euclid.monic.Tie as tie

@@ -5,9 +5,9 @@ use Prim.Native.Nat.{_+_, _-_, _≤_, _<_}
 use native.Mathlib.Omega.{arith}
 use lib.ListN.{getD}
 use Rattle.poly.specs.Coefficients.{Eight}
-use Rattle.poly.specs.Models.Eight.{subtract, remainder}
-use Rattle.poly.specs.Laws.EightNumbers.{subtract-eight}
-use Rattle.poly.specs.Laws.EightTurns.{remainder-next, remainder-end}
+use Rattle.poly.specs.euclid.Model.{subtract, remainder}
+use Rattle.poly.specs.euclid.Numbers.{subtract-eight}
+use Rattle.poly.specs.euclid.Turns.{remainder-next, remainder-end}
 use Rattle.poly.proofs.euclid.remainder.Statement.{statement}
 use Rattle.poly.proofs.euclid.remainder.Tie as tie
 

@@ -4,9 +4,9 @@ use mathlib.Core.Path.{_≡_, refl}
 use Prim.Native.Nat.{_-_, _*_, _%_, _≤_}
 use native.Mathlib.Omega.{arith}
 use lib.ListN.{length, getD}
-use Rattle.poly.specs.Models.Cells.{Filled}
-use Rattle.poly.specs.Laws.Cells.{filled-start, filled-next, filled-end}
-use Rattle.poly.specs.Models.Eight.{scaled}
+use Rattle.poly.specs.loops.CellsModel.{Filled}
+use Rattle.poly.specs.loops.Cells.{filled-start, filled-next, filled-end}
+use Rattle.poly.specs.euclid.Model.{scaled}
 use Rattle.poly.proofs.euclid.scaled.Statement.{statement}
 use Rattle.poly.proofs.euclid.scaled.Tie as tie
 

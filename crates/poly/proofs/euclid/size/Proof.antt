@@ -3,8 +3,8 @@ use borrow.Author.Needs.{needs}
 use mathlib.Core.Path.{_≡_, refl, sym, _∙_}
 use Prim.Native.Nat.{_≤_}
 use native.Mathlib.Omega.{arith}
-use Rattle.poly.specs.Models.Eight.{size-to, size}
-use Rattle.poly.specs.Laws.EightNumbers.{size-down, size-found, size-none}
+use Rattle.poly.specs.euclid.Model.{size-to, size}
+use Rattle.poly.specs.euclid.Numbers.{size-down, size-found, size-none}
 use Rattle.poly.proofs.euclid.size.Statement.{statement}
 use Rattle.poly.proofs.euclid.size.Tie as tie
 

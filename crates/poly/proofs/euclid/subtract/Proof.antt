@@ -4,10 +4,10 @@ use mathlib.Core.Path.{_≡_, refl, sym, ap, _∙_}
 use Prim.Native.Nat.{ℕ, _+_, _-_, _*_, _%_, _≤_}
 use native.Mathlib.Omega.{arith}
 use lib.ListN.{length, getD}
-use Rattle.poly.specs.Models.Cells.{Filled}
-use Rattle.poly.specs.Laws.Cells.{filled-start, filled-next, filled-end}
-use Rattle.poly.specs.Models.Eight.{less-at, subtract}
-use Rattle.poly.specs.Laws.EightNumbers.{less-low, less-high}
+use Rattle.poly.specs.loops.CellsModel.{Filled}
+use Rattle.poly.specs.loops.Cells.{filled-start, filled-next, filled-end}
+use Rattle.poly.specs.euclid.Model.{less-at, subtract}
+use Rattle.poly.specs.euclid.Numbers.{less-low, less-high}
 use Rattle.poly.proofs.euclid.subtract.Statement.{statement}
 use Rattle.poly.proofs.euclid.subtract.Tie as tie
 

@@ -4,8 +4,8 @@ use Prim.Native.Nat.{_-_}
 use native.Mathlib.Omega.{arith}
 use lib.ListN.{length}
 use Rattle.poly.specs.Lists.{WrongNumber}
-use Rattle.poly.specs.Models.Search.{Searching}
-use Rattle.poly.specs.Laws.Search.{search-begins, search-goes-on, search-stops, search-ends}
+use Rattle.poly.specs.list.Searching.{Searching}
+use Rattle.poly.specs.list.Search.{search-begins, search-goes-on, search-stops, search-ends}
 use borrow.Author.Needs.{needs}
 use Rattle.poly.proofs.image.first_large.Statement.{statement}
 use Rattle.poly.proofs.image.first_large.Tie as tie

@@ -1,5 +1,5 @@
 -- `poly::image::image` meets its contract: a refusal of the table, or the answer at the point. Assumes nothing.
-use Rattle.poly.specs.Laws.ImageCall.{image-fine, image-passes, image-refused, image-answered}
+use Rattle.poly.specs.image.Call.{image-fine, image-passes, image-refused, image-answered}
 use borrow.Author.Needs.{needs}
 use Rattle.poly.proofs.image.image.Statement.{statement}
 use Rattle.poly.proofs.image.image.Tie as tie

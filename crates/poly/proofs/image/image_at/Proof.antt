@@ -5,20 +5,20 @@ use mathlib.Core.List.{List}
 use Prim.Native.Nat.{ℕ}
 use native.Mathlib.Omega.{arith}
 use lib.ListN.{getD}
-use Rattle.field.specs.ModuliLaws.{listed-prime, listed-above, listed-positive}
+use Rattle.field.specs.modulus.Laws.{listed-prime, listed-above, listed-positive}
 use Rattle.poly.specs.declared.ImageRecord.{ImageRecord}
 use Rattle.poly.specs.Coefficients.{Eight}
 use Rattle.poly.specs.Keys.{exponents}
 use Rattle.poly.specs.LeadingPart.{x-of}
-use Rattle.poly.specs.Models.Value.{Ready, value-of}
+use Rattle.poly.specs.value.Model.{Ready, value-of}
 use Rattle.poly.specs.ImageCall.{refusal, AnswersPoint}
-use Rattle.poly.specs.Models.Powers.{powers}
-use Rattle.poly.specs.Models.Eight.{gcd}
-use Rattle.poly.specs.Models.Image.{value-at, image-record, image-of}
-use Rattle.poly.specs.Laws.RightLists.{RightList, RightLists, lists-are-right}
-use Rattle.poly.specs.Laws.Powers.{powers-model}
-use Rattle.poly.specs.Laws.ImageCall.{model-answers}
-use Rattle.poly.specs.Laws.ImageModel.{values-bad, values-good, size-positive, tables-ready, value-by-tables, value-at-eight, first-power-small}
+use Rattle.poly.specs.value.PowersModel.{powers}
+use Rattle.poly.specs.euclid.Model.{gcd}
+use Rattle.poly.specs.image.Model.{value-at, image-record, image-of}
+use Rattle.poly.specs.list.Right.{RightList, RightLists, lists-are-right}
+use Rattle.poly.specs.value.PowersLaws.{powers-model}
+use Rattle.poly.specs.image.Call.{model-answers}
+use Rattle.poly.specs.image.ModelLaws.{values-bad, values-good, size-positive, tables-ready, value-by-tables, value-at-eight, first-power-small}
 use borrow.Author.Needs.{needs}
 use Rattle.poly.proofs.image.image_at.Statement.{statement}
 use Rattle.poly.proofs.image.image_at.Tie as tie

@@ -3,11 +3,11 @@ use mathlib.Core.Path.{_≡_, ap, _∙_}
 use Prim.Native.Nat.{ℕ, _-_}
 use native.Mathlib.Omega.{arith}
 use mathlib.Core.List.{List}
-use Rattle.field.specs.ModuliLaws.{listed-prime}
+use Rattle.field.specs.modulus.Laws.{listed-prime}
 use Rattle.field.specs.declared.Fault.{Fault}
 use Rattle.poly.specs.declared.ImageRecord.{ImageRecord}
-use Rattle.poly.specs.Models.Eight.{size, gcd}
-use Rattle.poly.specs.Laws.EuclidMeaning.{gcd-nonzero}
+use Rattle.poly.specs.euclid.Model.{size, gcd}
+use Rattle.poly.specs.euclid.Gcd.{gcd-nonzero}
 use borrow.Author.Needs.{needs}
 use Rattle.poly.proofs.image.image_of_values.Statement.{statement}
 use Rattle.poly.proofs.image.image_of_values.Tie as tie

@@ -1,5 +1,5 @@
 -- `poly::list::check_list` meets its contract: no coefficient reaches the bound that it gives. Assumes nothing.
-use Rattle.poly.specs.Laws.ListCheck.{tested-without-modulus}
+use Rattle.poly.specs.list.Check.{tested-without-modulus}
 use borrow.Author.Needs.{needs}
 use Rattle.poly.proofs.list.check_list.Statement.{statement}
 use Rattle.poly.proofs.list.check_list.Tie as tie

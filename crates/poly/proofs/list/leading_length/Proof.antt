@@ -3,9 +3,9 @@
 use Prim.Native.Nat.{_-_}
 use native.Mathlib.Omega.{arith}
 use lib.ListN.{length}
-use Rattle.poly.specs.Models.Search.{Searching}
-use Rattle.poly.specs.Models.Lists.{Lower}
-use Rattle.poly.specs.Laws.Search.{search-begins, search-goes-on, search-stops, search-ends}
+use Rattle.poly.specs.list.Searching.{Searching}
+use Rattle.poly.specs.list.Model.{Lower}
+use Rattle.poly.specs.list.Search.{search-begins, search-goes-on, search-stops, search-ends}
 use borrow.Author.Needs.{needs}
 use Rattle.poly.proofs.list.leading_length.Statement.{statement}
 use Rattle.poly.proofs.list.leading_length.Tie as tie

@@ -1,7 +1,7 @@
 -- `poly::list::leading_part` meets its contract: what it hands back begins where the list does, and ends where the first lower power of x stands.
 use mathlib.Core.Path.{refl, sym}
 use lib.Seq.{length-take-le}
-use Rattle.poly.specs.Laws.LeadingPart.{leading-refused, leading-some, leading-answered}
+use Rattle.poly.specs.list.Leading.{leading-refused, leading-some, leading-answered}
 use borrow.Author.Needs.{needs}
 use Rattle.poly.proofs.list.leading_part.Statement.{statement}
 use Rattle.poly.proofs.list.leading_part.Tie as tie

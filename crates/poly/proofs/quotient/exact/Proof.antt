@@ -6,11 +6,11 @@ use native.Mathlib.Omega.{arith}
 use borrow.Author.Tests.{not-true, not-false}
 use lib.ListN.{length}
 use Rattle.poly.specs.Room.{work-room, zeroed}
-use Rattle.poly.specs.Laws.Room.{zeroed-all}
-use Rattle.poly.specs.Quotient.{QuotientCall, quotient-call}
-use Rattle.poly.specs.Laws.WorkRoom.{quotient-long}
-use Rattle.poly.specs.Laws.Quotient.{passed-lists, passed-output}
-use Rattle.poly.specs.Laws.QuotientExact.{exact-begins, exact-none, exact-found}
+use Rattle.poly.specs.rooms.Laws.{zeroed-all}
+use Rattle.poly.specs.QuotientCall.{QuotientCall, quotient-call}
+use Rattle.poly.specs.division.WorkRoom.{quotient-long}
+use Rattle.poly.specs.quotient.Laws.{passed-lists, passed-output}
+use Rattle.poly.specs.quotient.Exact.{exact-begins, exact-none, exact-found}
 use borrow.Author.Needs.{needs}
 use Rattle.poly.proofs.quotient.exact.Statement.{statement}
 use Rattle.poly.proofs.quotient.exact.Tie as tie

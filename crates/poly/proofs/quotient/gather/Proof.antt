@@ -5,8 +5,8 @@ use mathlib.Core.List.{_++_}
 use Prim.Native.Nat.{_+_, _≤_, _<_}
 use native.Mathlib.Omega.{arith}
 use lib.ListN.{length, take, drop, length-set}
-use Rattle.poly.specs.Models.Spread.{gathered}
-use Rattle.poly.specs.Laws.DivisionTurns.{gather-pass, gather-turn, gather-end, gather-written, drop-written}
+use Rattle.poly.specs.division.SpreadModel.{gathered}
+use Rattle.poly.specs.division.Turns.{gather-pass, gather-turn, gather-end, gather-written, drop-written}
 use borrow.Author.Needs.{needs}
 use Rattle.poly.proofs.quotient.gather.Statement.{statement}
 use Rattle.poly.proofs.quotient.gather.Tie as tie

@@ -6,10 +6,10 @@ use Prim.Native.Nat.{ℕ, _-_, _*_, _%_, _≤_}
 use native.Mathlib.Omega.{arith}
 use lib.ListN.{length, replicate}
 use Rattle.poly.specs.Powers.{Powers}
-use Rattle.poly.specs.Models.Cells.{Filled}
-use Rattle.poly.specs.Laws.Cells.{filled-start, filled-next, filled-end}
-use Rattle.poly.specs.Models.Powers.{power, powers}
-use Rattle.poly.specs.Laws.Powers.{power-start, power-next, powers-are}
+use Rattle.poly.specs.loops.CellsModel.{Filled}
+use Rattle.poly.specs.loops.Cells.{filled-start, filled-next, filled-end}
+use Rattle.poly.specs.value.PowersModel.{power, powers}
+use Rattle.poly.specs.value.PowersLaws.{power-start, power-next, powers-are}
 use Rattle.poly.proofs.value.powers.Statement.{statement}
 use Rattle.poly.proofs.value.powers.Tie as tie
 

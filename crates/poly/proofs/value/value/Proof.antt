@@ -9,8 +9,8 @@ use lib.ListN.{length, getD, set, drop}
 use Rattle.poly.specs.Coefficients.{Eight}
 use Rattle.poly.specs.Keys.{exponents}
 use Rattle.poly.specs.Terms.{key-of, coefficient-of}
-use Rattle.poly.specs.Models.Value.{plus-term, value-from, value-of}
-use Rattle.poly.specs.Laws.ValueModel.{set-eight, zeros-eight, plus-term-below, value-next, value-end}
+use Rattle.poly.specs.value.Model.{plus-term, value-from, value-of}
+use Rattle.poly.specs.value.ModelLaws.{set-eight, zeros-eight, plus-term-below, value-next, value-end}
 use Rattle.poly.proofs.value.value.Statement.{statement}
 use Rattle.poly.proofs.value.value.Tie as tie
 

@@ -1,0 +1,3 @@
+-- What is found of a file.
+pub mod OfFile
+pub mod TermsFirst

@@ -1,0 +1,49 @@
+-- The promise of the candidate call settles the record, the output and the work room: two results that meet it are equal. Assumes nothing.
+use mathlib.Core.Path.{_≡_, subst}
+use mathlib.Core.List.{_++_}
+use lib.ListN.{length}
+use Rattle.field.specs.Moduli.{Listed}
+use Rattle.field.specs.modulus.Laws.{listed-unique}
+use Rattle.field.specs.fault.Laws.{OnePlaceEach, whole-one-place, first-one-place, one-place-append, refuses-determined, not-passes-and-refuses}
+use Rattle.poly.specs.Terms.{Polynomial, numbers-of}
+use Rattle.poly.specs.Lists.{of-lists}
+use Rattle.poly.specs.Room.{of-rooms, written, cleared}
+use Rattle.poly.specs.list.Check.{lists-one-place}
+use Rattle.divisor.specs.declared.CandidateRecord.{CandidateRecord}
+use Rattle.divisor.specs.Rule.{Answer}
+use Rattle.divisor.specs.Candidate.{Call, table, prime, Numbers, A, B, monomials, lent-points, refusal, Result, Candidate, refused, answered, of-skeleton, of-points}
+use Rattle.divisor.specs.answer.Determined.{answer-determined}
+
+table-one-place : (c : Call) → OnePlaceEach (table c)
+table-one-place c =
+    one-place-append (of-lists (c .modulus) (c .first-list) (c .second-list))
+    (of-skeleton (c .skeleton) ++ (of-points (c .modulus) (c .points) ++ of-rooms (length (c .output)) (length (c .skeleton)) (length (c .work))))
+    (lists-one-place (c .modulus) (c .first-list) (c .second-list))
+    (whole-one-place _, (first-one-place _, (whole-one-place _, (first-one-place _, (whole-one-place _, (whole-one-place _, tt))))))
+
+abbrev pub answer-of : (c : Call) (listed : Listed (c .modulus)) → CandidateRecord → Polynomial (Numbers c listed) → Type 0
+answer-of c listed = Answer (Numbers c listed) (A c listed) (B c listed) (monomials c listed) (lent-points c listed)
+
+abbrev pub result-of : (c : Call) (listed : Listed (c .modulus)) → CandidateRecord → Polynomial (Numbers c listed) → Result
+result-of c listed f G = record { found = f; output = written (numbers-of (c .modulus) (prime c listed) G) (c .output); work = cleared (c .work) }
+
+-- the evidence that the modulus is listed does not matter
+answered-determined : (c : Call) (listed listed′ : Listed (c .modulus)) (f g : CandidateRecord) (G : Polynomial (Numbers c listed))
+    (H : Polynomial (Numbers c listed′))
+    → answer-of c listed f G → answer-of c listed′ g H → result-of c listed f G ≡ result-of c listed′ g H
+answered-determined c listed listed′ f g G H x y =
+    (subst (λ (l : Listed (c .modulus)). (H : Polynomial (Numbers c l)) → answer-of c l g H → result-of c listed f G ≡ result-of c l g H)
+    (listed-unique _ listed listed′) same) H y
+  where
+    same : (H : Polynomial (Numbers c listed)) → answer-of c listed g H → result-of c listed f G ≡ result-of c listed g H
+    same H y =
+        let e = answer-determined (Numbers c listed) (A c listed) (B c listed) (monomials c listed) (lent-points c listed) f g G H x y in
+        λ i. result-of c listed (e .0 i) (e .1 i)
+
+pub candidate-determined : (c : Call) (r q : Result) → Candidate c r → Candidate c q → r ≡ q
+candidate-determined c r q (refused f h) (refused g k) =
+    let e = refuses-determined (table c) (table-one-place c) f g h k in
+    λ i. record { found = refusal (e i); output = c .output; work = c .work }
+candidate-determined c r q (refused f h) (answered pass listed g G x) = absurd (not-passes-and-refuses (table c) f pass h)
+candidate-determined c r q (answered pass listed f G x) (refused g h) = absurd (not-passes-and-refuses (table c) g pass h)
+candidate-determined c r q (answered pass listed f G x) (answered pass′ listed′ g H y) = answered-determined c listed listed′ f g G H x y

@@ -1,0 +1,163 @@
+-- From what the calls of the routine give back to the promise of the call, where the inputs pass. Assumes nothing.
+use mathlib.Core.Path.{_≡_, sym, _∙_, ap, ap₂, subst}
+use mathlib.Core.List.{List}
+use Prim.Native.Nat.{ℕ, zero, suc, _+_, _-_, _≤_, _<_}
+use native.Mathlib.Omega.{arith}
+use lib.ListN.{length, getD, take}
+use Rattle.field.specs.Moduli.{Listed}
+use Rattle.field.specs.Prime.{Prime}
+use Rattle.field.specs.Fp.{Fp}
+use Rattle.field.specs.Refusal.{fault, Passes}
+use Rattle.field.specs.declared.Fault.{Fault}
+use Rattle.divisor.specs.declared.CandidateRecord.{CandidateRecord}
+use Rattle.divisor.specs.declared.table.Kind.{Kind}
+use Rattle.divisor.specs.declared.table.Kind.the-variants.{None, One, Several}
+use Rattle.divisor.specs.declared.table.Solved.{Solved}
+use Rattle.divisor.specs.declared.table.Table.{Table}
+use Rattle.divisor.specs.declared.verdict.Verdict.{Verdict}
+use Rattle.divisor.specs.Rule.{Kept}
+use Rattle.divisor.specs.Candidate.{Call, table, prime, Numbers, monomials, Candidate}
+use Rattle.divisor.specs.table.Model.{Columns, TableReady, empty-table, solved}
+use Rattle.divisor.specs.table.Meaning.{added, rows-of, Says}
+use Rattle.divisor.specs.table.Kept.{empty-ready}
+use Rattle.divisor.specs.table.Added.{added-ready}
+use Rattle.divisor.specs.table.Answer.{table-answers, solved-below, solved-length}
+use Rattle.divisor.specs.equations.Rows.{kept-rows, all-rows}
+use Rattle.divisor.specs.sorting.Model.{sizes-of, least, alike}
+use Rattle.divisor.specs.points.Model.{Looks, Equations-before}
+use Rattle.divisor.specs.verdict.Model.{NoGoodPoint, VerdictReady, Settles, Settled, MakesDivisor, none, several, rejected, accepted}
+use Rattle.divisor.specs.checks.Passed.{point-count, looks-of, right-lists, keys-most, output-fits}
+use Rattle.divisor.specs.sorting.Laws.{least-is}
+use Rattle.divisor.specs.monic.Terms.{AllBelow, all-below}
+use Rattle.divisor.specs.answer.Assembled as assembled
+use Rattle.divisor.specs.sorting.Kept.{SomeGood, KeptPoints, room-after, same-room, sizes-are, columns-fit, kept-points}
+
+module _ (c : Call) (pass : Passes (table c)) (after sizes : List ℕ)
+    (look : Looks (point-count c) (c .modulus) (c .first-list) (c .second-list) (c .points) (c .work) after sizes) where
+  -- no point is good
+  pub nothing-good : least (take (point-count c) sizes) ≡ 0 → (end : List ℕ) (r : CandidateRecord) → NoGoodPoint (point-count c) after end r
+      → Candidate c (record { found = r; output = c .output; work = end })
+  nothing-good e end r h = subst (Candidate c)
+      (λ i. record { found = sym (h .is) i; output = c .output; work = sym (h .clears ∙ same-room c pass after sizes look) i })
+      (assembled.answer-all-bad c pass (right-lists c pass .is-listed)
+      (least-is 0 (sizes-of (looks-of c)) .zero (ap least (sym (sizes-are c pass after sizes look)) ∙ e)))
+
+-- some point is good
+module _ {c : Call} {after sizes : List ℕ} {m count : ℕ} (good : SomeGood c after sizes m count) where
+  abbrev p : ℕ
+  p = c .modulus
+
+  abbrev pass : Passes (table c)
+  pass = good .pass
+
+  abbrev listed : Listed (c .modulus)
+  listed = right-lists c pass .is-listed
+
+  abbrev P : Prime (c .modulus)
+  P = prime c listed
+
+  abbrev d : ℕ
+  d = m - 1
+
+  abbrev kept : KeptPoints c listed after sizes m count
+  kept = kept-points good
+
+  abbrev columns : Columns (length (c .skeleton) + count)
+  columns = columns-fit good
+
+  abbrev k : Kept (Numbers c listed)
+  k = kept .first
+
+  abbrev ks : List (Kept (Numbers c listed))
+  ks = kept .others
+
+  module _ (t : Table) (made : Equations-before (point-count c) (c .modulus) (c .skeleton) (c .points) sizes after m (length (c .skeleton) + count) t) where
+    pub ready-table : TableReady (c .modulus) t
+    ready-table = subst (TableReady p) (sym (made .adds)) (added-ready p _ (made .rows)
+        (empty-ready p _ listed columns) (made .ready))
+
+    abbrev unknowns : ℕ
+    unknowns = length (c .skeleton) + length ks
+
+    abbrev equations : List (List (Fp p))
+    equations = all-rows (Numbers c listed) (monomials c listed) k ks
+
+    means : rows-of p unknowns (made .rows) ≡ equations
+    means =
+        let e = kept .count-is in
+        let a : length (c .skeleton) + count - 1 ≡ unknowns = omega arith in
+        let i = good .is-count in
+        let b : alike m (take (point-count c) sizes) - 1 ≡ length ks = omega arith in
+        ap (λ (x : ℕ). rows-of p x (made .rows)) (sym a) ∙ made .means P
+        ∙ ap₂ (kept-rows (Numbers c listed) (monomials c listed)) b (kept .in-room)
+
+    -- what the kind and the values say of the equations of the rule
+    says : Says p P unknowns equations (solved p t .kind) (solved p t .values)
+    says =
+        let e = kept .count-is in
+        let l = columns .most in
+        let a : length (c .skeleton) + count ≡ suc unknowns = omega arith in
+        subst (λ (rs : List (List (Fp p))). Says p P unknowns rs (solved p t .kind) (solved p t .values)) means
+        (subst (λ (u : Table). Says p P unknowns (rows-of p unknowns (made .rows)) (solved p u .kind) (solved p u .values))
+        (sym (made .adds ∙ ap (λ (x : ℕ). added p (empty-table x) (made .rows)) a))
+        (table-answers p P unknowns (omega arith) (made .rows) listed (made .ready)))
+
+    module _ (s : Solved) (is-solved : s ≡ solved (c .modulus) t) where
+      says-as : (x : Kind) → s .kind ≡ x → Says p P unknowns equations x (s .values)
+      says-as x e = subst (λ (y : Kind). Says p P unknowns equations y (s .values)) e
+          (subst (λ (y : Solved). Says p P unknowns equations (y .kind) (y .values)) (sym is-solved) says)
+
+      below : (i : ℕ) → getD (s .values) i 0 < p
+      below = subst (λ (y : Solved). (i : ℕ) → getD (y .values) i 0 < p) (sym is-solved) (solved-below p t ready-table)
+
+      long : length (c .skeleton) ≤ length (s .values)
+      long = let e = ap (λ (y : Solved). length (y .values)) is-solved ∙ solved-length p t in let l = keys-most c pass in omega arith
+
+      first-below : AllBelow p (take (length (c .skeleton)) (s .values))
+      first-below = all-below p (length (c .skeleton)) (s .values) below
+
+      makes : s .kind ≡ One → MakesDivisor p (c .skeleton) (take (length (c .skeleton)) (s .values))
+      makes e =
+          let g = assembled.list c pass listed d (kept .at-least) k ks (kept .kept-is) (s .values) (says-as One e) long first-below in
+          record { led = let q = g .led in omega arith; some = g .some; falls = g .falls }
+
+      pub ready-verdict : VerdictReady (c .modulus) (c .first-list) (c .second-list) (c .skeleton) s (c .output) after
+      ready-verdict = record {
+        lists = right-lists c pass;
+        few = keys-most c pass;
+        long = long;
+        below = below;
+        one = makes;
+        fits = output-fits c pass;
+        room = room-after c pass after sizes (good .look);
+      }
+
+      -- what is settled is the rule's verdict
+      settles : (number : ℕ) (terms : List ℕ) → Settles p (c .first-list) (c .second-list) (c .skeleton) s number terms
+          → Candidate c (assembled.result c pass listed d (kept .at-least) k ks (kept .kept-is) number terms)
+      settles number terms (none e) = assembled.answer-none c pass listed d (kept .at-least) k ks (kept .kept-is) (says-as None e)
+      settles number terms (several e) =
+          let q = says-as Several e in assembled.answer-several c pass listed d (kept .at-least) k ks (kept .kept-is) (q .0) (q .1) (q .2)
+      settles number terms (rejected e h) =
+          assembled.answer-rejected c pass listed d (kept .at-least) k ks (kept .kept-is) (s .values) (says-as One e) long first-below (h P)
+      settles number terms (accepted e h) =
+          assembled.answer-accepted c pass listed d (kept .at-least) k ks (kept .kept-is) (s .values) (says-as One e) long first-below (h P)
+
+      pub answered-so : (bad : ℕ) → bad ≡ alike 0 (take (point-count c) sizes) → {output work : List ℕ} (v : Verdict)
+          → Settled (c .modulus) (c .first-list) (c .second-list) (c .skeleton) s (c .output) output after work v
+          → (f : Fault) → f ≡ fault (v .number) 0
+          → Candidate c (record {
+            found = record { fault = f; degree = m - 1; bad = bad; unlucky = point-count c - bad - count; kept = count; terms = v .terms };
+            output = output;
+            work = work;
+          })
+      answered-so bad is-bad v h f e =
+          let bads = sym (is-bad ∙ ap (alike 0) (sizes-are c pass after sizes (good .look))) in
+          let kepts = sym (kept .counted) in
+          subst (Candidate c)
+          (λ i. record {
+            found = record { fault = sym e i; degree = d; bad = bads i; unlucky = point-count c - bads i - kepts i; kept = kepts i; terms = sym (h .count) i };
+            output = sym (h .writes) i;
+            work = sym (h .clears ∙ same-room c pass after sizes (good .look)) i;
+          })
+          (settles (v .number) (h .terms) (h .settles))

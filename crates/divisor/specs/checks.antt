@@ -1,0 +1,3 @@
+-- The checks of the inputs.
+pub mod Laws
+pub mod Passed

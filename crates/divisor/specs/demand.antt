@@ -1,0 +1,6 @@
+-- Demand 3.
+pub mod Complete
+pub mod Degree
+pub mod Laws
+pub mod Proposed
+pub mod GoodPoint

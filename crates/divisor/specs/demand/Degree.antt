@@ -1,0 +1,142 @@
+-- Demand 3, first half, of the rule: an accepted G divides A and B, has the degree d in x, and no common divisor has a higher one. Assumes nothing.
+use mathlib.Core.Path.{_≡_, sym, _∙_, ap, subst}
+use mathlib.Core.Logic.{_⊎_, inl, inr}
+use mathlib.Core.List.{List, [], _∷_}
+use Prim.Native.Nat.{ℕ, suc, _≤_, _<_}
+use native.Mathlib.Omega.{arith}
+use Rattle.algebra.specs.Ring.{CommRing}
+use Rattle.algebra.specs.Field.{Field}
+use Rattle.algebra.specs.Series.{Seq}
+use Rattle.algebra.specs.SeriesRing.{SeriesR, S4}
+use Rattle.algebra.specs.Degree.{Top}
+use Rattle.algebra.specs.Polynomials.{SeriesD, domain}
+use Rattle.algebra.specs.Four.{Exponents}
+use Rattle.algebra.specs.Monomial.{polynomial}
+use Rattle.algebra.specs.Evaluate.{at-yzw}
+use Rattle.algebra.specs.Laws.Ring.{one-mul}
+use Rattle.algebra.specs.Laws.Degree.{finite-top}
+use Rattle.algebra.specs.Laws.GoodValue.{divides-value, divisor-keeps-degree}
+use Rattle.algebra.specs.Laws.Divides.{div-top, div-to, top-le}
+use Rattle.algebra.specs.Laws.Evaluation.{value-null}
+use Rattle.poly.specs.Terms.{Polynomial}
+use Rattle.poly.specs.PointValue.{Point, value, x-degree}
+use Rattle.poly.specs.PointImage.{Divides, DividesX, Bad, Image}
+use Rattle.poly.specs.image.Laws.{image-within}
+use Rattle.poly.specs.value.Laws.{polynomial-finite, valued, value-of-polynomial, WithinX, polynomial-ends}
+use Rattle.divisor.specs.declared.CandidateRecord.{CandidateRecord}
+use Rattle.divisor.specs.Rule.{DividesBoth, Kept, Sorted, done, bad, unlucky, keep, First, Equations, Unknowns, Solution, without-zeros, divisor, Verdict, none, several, rejected, accepted, Answer, all-bad, some-good}
+use Rattle.divisor.specs.Demands.{DegreeX, IsPolynomial, GreatestInX}
+use Rattle.divisor.specs.monic.Value.{value-without-zeros, without-zeros-nonzero, made-monic-nonzero}
+
+module _ (K : Field) where
+  open Field K using (ring as R)
+  open CommRing R using (Car, 𝟘, 𝟙, mul as _*_)
+
+  infixl 70 _*_
+  module _ (A B : Polynomial K) (within : WithinX K (x-degree R A) A) where
+    -- at a good point a divisor of A keeps its degree
+    pub divisor-at-good-point : (at : Point R) → ¬ Bad K A B at → (H : S4 R .Car) (fin : IsPolynomial K H)
+        → Divides K H (polynomial R A) → (h : ℕ) → DegreeX K h H → Top R h (valued K at .fn H fin)
+    divisor-at-good-point at good H fin d h top =
+        divisor-keeps-degree (at-yzw R (domain K) (at .y) (at .z) (at .w) tt tt tt) (x-degree R A) h (polynomial R A) H (polynomial-finite K A) fin d
+        (polynomial-ends K (x-degree R A) A within)
+        (λ e. good (sym (ap (λ (u : Seq R). u (x-degree R A)) (value-of-polynomial K A at (polynomial-finite K A))) ∙ e))
+        top
+
+    -- the value of a common divisor divides the image
+    pub value-divides-image : (at : Point R) (d : ℕ) (U : Seq R) → Image K A B at d U → (H : S4 R .Car) (fin : IsPolynomial K H)
+        → Divides K H (polynomial R A) → Divides K H (polynomial R B) → DividesX K (valued K at .fn H fin) U
+    value-divides-image at d U image H fin dA dB = image .greatest .most _ (valued K at .keeps H fin) (of-value A dA) (of-value B dB)
+      where
+        of-value : (f : Polynomial K) → Divides K H (polynomial R f) → DividesX K (valued K at .fn H fin) (value R f at)
+        of-value f q =
+            div-to (SeriesR R) (SeriesD R (domain K)) _ _ _ (value-of-polynomial K f at (polynomial-finite K f))
+            (divides-value (valued K at) fin (polynomial-finite K f) q)
+
+    -- no common divisor has a degree above an image's
+    pub common-divisor-degree : (at : Point R) (d : ℕ) (U : Seq R) → Image K A B at d U
+        → (H : S4 R .Car) → IsPolynomial K H → Divides K H (polynomial R A) → Divides K H (polynomial R B)
+        → (h : ℕ) → DegreeX K h H → h ≤ d
+    common-divisor-degree at d U image H fin dA dB h top =
+        let below = div-top R (domain K) d (valued K at .fn H fin) U (valued K at .keeps H fin) (value-divides-image at d U image H fin dA dB)
+        (record { nonzero = λ e. K .one≢0 (sym (image .monic .leads) ∙ e); ends = image .monic .ends }) in
+        let l : h ≤ below .0 = top-le R h (below .0) (valued K at .fn H fin) (divisor-at-good-point at (image .good) H fin dA h top) (below .2) in
+        let m : below .0 ≤ d = below .1 in
+        omega arith
+
+  -- the skeleton polynomial of a solution is the image at the first kept point
+  pub solution-at-first : (monomials : List Exponents) (k : Kept K) (kept : List (Kept K)) (s : Unknowns K) → Solution K monomials (k ∷ kept) s
+      → (i : ℕ) → i < 8 → value R (s .skeleton) (k .point) i ≡ k .image i
+  solution-at-first monomials k kept s solution i l = go (s .multipliers) (solution .one-first) (solution .holds)
+    where
+      go : (ms : List Car) → First K 𝟙 ms → Equations K (s .skeleton) (k ∷ kept) ms → value R (s .skeleton) (k .point) i ≡ k .image i
+      go [] one holds = absurd one
+      go (m ∷ ms) one holds = holds .0 i l ∙ ap (_* k .image i) one ∙ one-mul R _
+
+  -- so G has a coefficient beside x^d
+  divisor-at-first : (monomials : List Exponents) (k : Kept K) (kept : List (Kept K)) (s : Unknowns K) → Solution K monomials (k ∷ kept) s
+      → (d : ℕ) → d < 8 → k .image d ≡ 𝟙 → ¬ (value R (divisor K s) (k .point) d ≡ 𝟘)
+  divisor-at-first monomials k kept s solution d l one =
+      made-monic-nonzero K (without-zeros K (s .skeleton)) (k .point) d (without-zeros-nonzero K (s .skeleton))
+      (λ e. K .one≢0 (sym (value-without-zeros K (s .skeleton) (k .point) d ∙ solution-at-first monomials k kept s solution d l ∙ one) ∙ e))
+
+  -- the images at the kept points
+  abbrev pub Images : (A B : Polynomial K) → ℕ → List (Kept K) → Type 0
+  Images A B d [] = Unit {0}
+  Images A B d (k ∷ ks) = Image K A B (k .point) d (k .image) × Images A B d ks
+
+  pub kept-images : (A B : Polynomial K) (d : ℕ) (points : List (Point R)) (b u : ℕ) (ks : List (Kept K)) → Sorted K A B d points b u ks → Images A B d ks
+  kept-images A B d points b u ks done = tt
+  kept-images A B d points b u ks (bad x s) = kept-images A B d _ _ u ks s
+  kept-images A B d points b u ks (unlucky e U i l s) = kept-images A B d _ b _ ks s
+  kept-images A B d points b u ks (keep U i s) = (i, kept-images A B d _ b u _ s)
+
+  -- G itself is a common divisor, so its degree is d
+  accepted-degree : (A B : Polynomial K) (monomials : List Exponents) (points : List (Point R)) → WithinX K (x-degree R A) A → WithinX K 7 A
+      → (d b u : ℕ) (k : Kept K) (kept : List (Kept K)) → Sorted K A B d points b u (k ∷ kept)
+      → (s : Unknowns K) → Solution K monomials (k ∷ kept) s → DividesBoth K A B (divisor K s) → GreatestInX K A B (divisor K s) d
+  accepted-degree A B monomials points w small d b u k kept sorted s solution both = record {
+    divides = both;
+    degree = top (finite-top S3 (SeriesD S2 (SeriesD S1 (SeriesD R (domain K)))) (polynomial R (divisor K s)) (polynomial-finite K (divisor K s)));
+    greatest = common-divisor-degree A B w (k .point) d (k .image) image;
+  }
+    where
+      S1 : CommRing
+      S1 = SeriesR R
+
+      S2 : CommRing
+      S2 = SeriesR S1
+
+      S3 : CommRing
+      S3 = SeriesR S2
+
+      image : Image K A B (k .point) d (k .image)
+      image = kept-images A B d points b u (k ∷ kept) sorted .0
+
+      -- the coefficient beside x^d is not 0, since its value is not
+      beside : ¬ (polynomial R (divisor K s) d ≡ S3 .𝟘)
+      beside e = divisor-at-first monomials k kept s solution d (omega (arith, image-within K A B (k .point) d (k .image) 7 small image)) (image .monic .leads)
+          (sym (ap (λ (v : Seq R). v d) (value-of-polynomial K (divisor K s) (k .point) (polynomial-finite K (divisor K s))))
+          ∙ value-null (at-yzw R (domain K) (k .point .y) (k .point .z) (k .point .w) tt tt tt) (polynomial-finite K (divisor K s) .coef d) e)
+
+      top : ((n : ℕ) → polynomial R (divisor K s) n ≡ S3 .𝟘) ⊎ ((n : ℕ) × Top S3 n (polynomial R (divisor K s))) → DegreeX K d (polynomial R (divisor K s))
+      top (inl z) = absurd (beside (z d))
+      top (inr t) =
+          let l : t .0 ≤ d =
+          common-divisor-degree A B w (k .point) d (k .image) image (polynomial R (divisor K s)) (polynomial-finite K (divisor K s)) (both .0) (both .1) (t .0)
+          (t .1) in
+          let m : ¬ (suc (t .0) ≤ d) = λ h. beside (t .1 .ends d h) in
+          let e : t .0 ≡ d = omega arith in
+          subst (λ (n : ℕ). DegreeX K n (polynomial R (divisor K s))) e (t .1)
+
+  -- DEMAND 3, first half
+  pub accepted-greatest : (A B : Polynomial K) (monomials : List Exponents) (points : List (Point R)) → WithinX K (x-degree R A) A → WithinX K 7 A
+      → (r : CandidateRecord) (G : Polynomial K) → Answer K A B monomials points r G → r .fault .number ≡ 0 → GreatestInX K A B G (r .degree)
+  accepted-greatest A B monomials points w small r G (all-bad all) e = absurd (omega arith)
+  accepted-greatest A B monomials points w small r G (some-good d b u k kept sorted n H verdict) e = go n H verdict e
+    where
+      go : (n : ℕ) (H : Polynomial K) → Verdict K A B monomials (k ∷ kept) n H → n ≡ 0 → GreatestInX K A B H d
+      go n H (none z) e = absurd (omega arith)
+      go n H (several s) e = absurd (omega arith)
+      go n H (rejected s only not-both) e = absurd (omega arith)
+      go n H (accepted s only both) e = accepted-degree A B monomials points w small d b u k kept sorted s (only .0) both

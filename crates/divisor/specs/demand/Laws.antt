@@ -1,0 +1,87 @@
+-- DEMAND 3, both halves: proved of every result that meets the candidate call's promise. Assumes nothing.
+use mathlib.Core.Path.{_≡_, refl, sym, _∙_, ap, subst}
+use mathlib.Core.List.{List, [], _∷_, map}
+use Prim.Native.Nat.{ℕ, _≤_, _<_}
+use native.Mathlib.Omega.{arith}
+use Rattle.algebra.specs.Field.{Field}
+use Rattle.algebra.specs.SeriesRing.{S4}
+use Rattle.algebra.specs.Monomial.{polynomial}
+use Rattle.field.specs.Moduli.{Listed}
+use Rattle.field.specs.Refusal.{Passes}
+use Rattle.field.specs.fault.Laws.{refuses-numbered}
+use Rattle.poly.specs.Keys.{exponents, keys}
+use Rattle.poly.specs.Terms.{Polynomial}
+use Rattle.poly.specs.PointValue.{x-degree}
+use Rattle.poly.specs.PointImage.{Divides}
+use Rattle.poly.specs.key.Laws.{exponents-order}
+use Rattle.poly.specs.list.Laws.{FallFrom, falling-within}
+use Rattle.poly.specs.value.Laws.{WithinX}
+use Rattle.divisor.specs.Rule.{without-zeros, made-monic}
+use Rattle.divisor.specs.Candidate.{Call, table, prime, Numbers, A, B, monomials, lent-points, handed-out, Result, Candidate, refused, answered}
+use Rattle.divisor.specs.Demands.{DegreeX, GreatestInX, MadeMonic, AcceptedIsGreatest, CommonDivisorComesOut}
+use Rattle.divisor.specs.checks.Passed.{right-lists, first-small, skeleton-falls}
+use Rattle.divisor.specs.monic.Laws.{monic-is-made-monic}
+use Rattle.divisor.specs.demand.Degree.{accepted-greatest}
+use Rattle.divisor.specs.answer.CandidateDetermined.{candidate-determined}
+use Rattle.divisor.specs.demand.Proposed.{Under, FallingMonomials, terms-at, terms-at-monomials, polynomial-of-terms-at}
+use Rattle.divisor.specs.demand.Complete.{common-divisor-found}
+use Rattle.divisor.specs.verdict.Output.{answered-output}
+
+-- no power of x in a first list that passes is above the first term's
+first-within : (c : Call) → Passes (table c) → (listed : Listed (c .modulus))
+    → WithinX (Numbers c listed) (x-degree (Numbers c listed .ring) (A c listed)) (A c listed)
+first-within c pass listed = falling-within (c .modulus) (prime c listed) keys (c .first-list) (right-lists c pass .first .falls)
+
+-- DEMAND 3, first half
+pub accepted-is-greatest : (c : Call) (r : Result) → Candidate c r → AcceptedIsGreatest c r
+accepted-is-greatest c r (refused f h) e = absurd (refuses-numbered (table c) tt f h e)
+accepted-is-greatest c r (answered pass listed f G x) e = (
+  listed,
+  subst (λ (H : Polynomial (Numbers c listed)). GreatestInX (Numbers c listed) (A c listed) (B c listed) H (f .degree))
+      (sym (answered-output c listed f G x))
+      (accepted-greatest (Numbers c listed) (A c listed) (B c listed) (monomials c listed) (lent-points c listed)
+      (first-within c pass listed) (first-small c pass listed) f G x e),
+)
+
+-- keys that fall have monomials that fall
+keys-under : (b k : ℕ) (ks : List ℕ) → b ≤ k → FallFrom b ks → Under (exponents k) (map exponents ks)
+keys-under b k [] l h = tt
+keys-under b k (j ∷ js) l h = (
+  exponents-order j k (let m : j < b = h .0 in omega arith),
+  keys-under j k js (let m : j < b = h .0 in omega arith) (h .1),
+)
+
+keys-falling : (b : ℕ) (ks : List ℕ) → FallFrom b ks → FallingMonomials (map exponents ks)
+keys-falling b [] h = tt
+keys-falling b (k ∷ ks) h = (keys-under k k ks (omega arith) (h .1), keys-falling k ks (h .1))
+
+-- DEMAND 3, second half
+pub common-divisor-comes-out : (c : Call) (r : Result) → Candidate c r → CommonDivisorComesOut c r
+common-divisor-comes-out c r meets pass listed d b u k kept sorted s only C fin dA dB degree proposed =
+    let answer = common-divisor-found F (A c listed) (B c listed) (first-within c pass listed)
+    L divides-both d (subst (DegreeX F d) (sym of-L) degree) (monomials c listed) (terms-at-monomials F (monomials c listed) C)
+    (lent-points c listed) b u k kept sorted s only in
+    let same = candidate-determined c _ r (answered pass listed _ _ answer) meets in
+    subst (λ (q : Result). (q .found .fault .number ≡ 0) × MadeMonic F C (handed-out c listed q)) same (
+      refl,
+      subst (λ (H : Polynomial F). MadeMonic F C H) (sym (answered-output c listed _ _ answer))
+          (subst (λ (f : S4 (F .ring) .Car). MadeMonic F f (made-monic F (without-zeros F L))) of-L (monic-is-made-monic F L not-zero)),
+    )
+  where
+    F : Field
+    F = Numbers c listed
+
+    L : Polynomial F
+    L = terms-at F (monomials c listed) C
+
+    of-L : polynomial (F .ring) L ≡ C
+    of-L = polynomial-of-terms-at F (monomials c listed)
+        (keys-falling keys (c .skeleton) (skeleton-falls c pass)) C proposed
+
+    not-zero : ¬ (polynomial (F .ring) L ≡ S4 (F .ring) .𝟘)
+    not-zero e = degree .nonzero (ap (λ (f : S4 (F .ring) .Car). f d) (sym of-L ∙ e))
+
+    divides-both : Divides F (polynomial (F .ring) L) (polynomial (F .ring) (A c listed))
+        × Divides F (polynomial (F .ring) L) (polynomial (F .ring) (B c listed))
+    divides-both =
+        subst (λ (f : S4 (F .ring) .Car). Divides F f (polynomial (F .ring) (A c listed)) × Divides F f (polynomial (F .ring) (B c listed))) (sym of-L) (dA, dB)

@@ -1,0 +1,66 @@
+-- An equation in plain numbers: what the row of x^i at a point has in its cells.
+use mathlib.Core.Path.{_≡_}
+use mathlib.Core.Bool.{true, false}
+use mathlib.Core.List.{List, map}
+use Prim.Native.Nat.{ℕ, suc, _+_, _*_, _%_, _≤_, _<_}
+use lib.Dec.{eqb}
+use lib.ListN.{length, getD}
+use Rattle.field.specs.Moduli.{Listed}
+use Rattle.field.specs.Prime.{Prime}
+use Rattle.field.specs.Modulo.{Modulo}
+use Rattle.poly.specs.Keys.{exponents, keys}
+use Rattle.poly.specs.Coefficients.{Eight, series}
+use Rattle.poly.specs.ImageCall.{point-of}
+use Rattle.divisor.specs.declared.table.Row.{Row}
+use Rattle.divisor.specs.declared.table.Table.{Table}
+use Rattle.divisor.specs.Rule.{Kept}
+use Rattle.divisor.specs.table.Model.{COLUMNS, cell, TableReady}
+use Rattle.divisor.specs.table.Meaning.{added, rows-of, AllReady}
+use Rattle.divisor.specs.equations.Rows.{rows-at}
+
+-- the coefficient of x^i of the monomial with the key k, where the powers of y, z and w are given
+unfoldable pub monomial-number : ℕ → List ℕ → List ℕ → List ℕ → ℕ → ℕ → ℕ
+monomial-number p ys zs ws i k =
+    elim (eqb (exponents k .x) i) [
+      | true ↦ (getD ys (exponents k .y) 0 * getD zs (exponents k .z) 0) % p * getD ws (exponents k .w) 0 % p
+      | false ↦ 0
+    ]
+
+-- what an equation asks for: a listed modulus, tables of powers, keys, and a column behind them
+pub record EquationReady (p : ℕ) (ys zs ws ks : List ℕ) (column u : ℕ) : Type 0 where
+  pub listed : Listed p
+  pub y-powers : Eight p ys
+  pub z-powers : Eight p zs
+  pub w-powers : Eight p ws
+  pub small : (j : ℕ) → j < length ks → getD ks j 0 < keys
+  pub behind : length ks ≤ column
+  pub within : column < COLUMNS
+  pub below : u < p
+
+-- the row: a number for each key, u in the column, and 0 elsewhere
+pub record IsEquation (p : ℕ) (ys zs ws ks : List ℕ) (i column u : ℕ) (r : Row) : Type 0 where
+  pub size : length (r .cells) ≡ COLUMNS
+  pub monomials : (j : ℕ) → j < length ks → cell r j ≡ monomial-number p ys zs ws i (getD ks j 0)
+  pub multiplier : cell r column ≡ u
+  pub others : (j : ℕ) → length ks ≤ j → ¬ (j ≡ column) → cell r j ≡ 0
+
+-- what the equations of a point ask for: the table, the keys, three coordinates, eight coefficients below p, and a column behind the keys
+pub record PointReady (p : ℕ) (t : Table) (ks point image : List ℕ) (column : ℕ) : Type 0 where
+  pub table : TableReady p t
+  pub small : (j : ℕ) → j < length ks → getD ks j 0 < keys
+  pub three : length point ≡ 3
+  pub eight : Eight p image
+  pub behind : length ks ≤ column
+  pub within : column < t .columns
+
+-- the point of three coordinates, with the image of eight coefficients
+abbrev pub kept-numbers : (p : ℕ) (P : Prime p) → List ℕ → List ℕ → Kept (Modulo p P)
+kept-numbers p P point image = record { point = point-of p P point; image = series p image }
+
+-- r is t with the equations of x^0 to x^(j - 1) at a point, whose multiplier stands in the given column
+pub record Equations-to (j p : ℕ) (t : Table) (ks point image : List ℕ) (column : ℕ) (r : Table) : Type 0 where
+  pub rows : List Row
+  pub ready : AllReady p rows
+  pub adds : r ≡ added p t rows
+  pub means : (P : Prime p) (c n m : ℕ) → suc c ≡ length ks + n → column ≡ length ks + m → m < n
+      → rows-of p c rows ≡ rows-at (Modulo p P) (map exponents ks) n m (kept-numbers p P point image) 0 j

@@ -1,0 +1,69 @@
+-- The turns of the loop that adds the equations of a point: one more power of x at the end. Assumes nothing.
+use mathlib.Core.Path.{_≡_, refl, sym, _∙_, ap, ap₂, subst}
+use mathlib.Core.List.{List, [], _∷_, _++_, map}
+use Prim.Native.Nat.{ℕ, zero, suc, _+_, _-_, _%_, _<_}
+use native.Mathlib.Numerals.{add-one}
+use native.Mathlib.Nat.{mod-lt}
+use native.Mathlib.Omega.{arith}
+use lib.ListN.{getD}
+use Rattle.algebra.specs.Field.{Field}
+use Rattle.algebra.specs.Four.{Exponents}
+use Rattle.field.specs.Fp.{el}
+use Rattle.field.specs.element.Fp.{el-mod}
+use Rattle.field.specs.element.Link.{opposite-el}
+use Rattle.field.specs.Modulo.{Modulo}
+use Rattle.poly.specs.Keys.{exponents}
+use Rattle.poly.specs.value.PowersModel.{powers}
+use Rattle.poly.specs.Coefficients.{series}
+use Rattle.divisor.specs.declared.table.Row.{Row}
+use Rattle.divisor.specs.declared.table.Table.{Table}
+use Rattle.divisor.specs.Rule.{Kept}
+use Rattle.divisor.specs.table.Model.{TableReady, with-row}
+use Rattle.divisor.specs.table.Meaning.{added}
+use Rattle.divisor.specs.table.Added.{added-append, added-ready, ready-append, rows-append}
+use Rattle.divisor.specs.equations.Rows.{row, rows-at}
+use Rattle.divisor.specs.equations.Model.{IsEquation, Equations-to, kept-numbers}
+use Rattle.divisor.specs.equations.RowLaws.{equation-ready, equation-row}
+
+-- one more row at the end
+rows-at-more : (K : Field) (es : List Exponents) (n m : ℕ) (k : Kept K) (i j a : ℕ) → a ≡ i + j
+    → rows-at K es n m k i (suc j) ≡ rows-at K es n m k i j ++ (row K es n m k a ∷ [])
+rows-at-more K es n m k i zero a e = let q : i ≡ a = omega arith in ap (λ (b : ℕ). row K es n m k b ∷ []) q
+rows-at-more K es n m k i (suc j) a e = ap (row K es n m k i ∷_) (rows-at-more K es n m k (suc i) j a (omega arith))
+
+-- three tables of powers
+record Tables : Type 0 where
+  ys : List ℕ
+  zs : List ℕ
+  ws : List ℕ
+
+-- an equation where the tables of powers are known
+pub equation-with : {p : ℕ} {ys zs ws ys′ zs′ ws′ ks : List ℕ} {i column u : ℕ} {r : Row} → ys ≡ ys′ → zs ≡ zs′ → ws ≡ ws′
+    → IsEquation p ys zs ws ks i column u r → IsEquation p ys′ zs′ ws′ ks i column u r
+equation-with {p} {ks = ks} {i} {column} {u} {r} a b c h =
+    subst (λ (t : Tables). IsEquation p (t .ys) (t .zs) (t .ws) ks i column u r) (λ j. record { ys = a j; zs = b j; ws = c j }) h
+
+module _ (p : ℕ) (t : Table) (ks point image : List ℕ) (column : ℕ) where
+  pub point-start : Equations-to 0 p t ks point image column t
+  point-start = record { rows = []; ready = tt; adds = (unfold added in refl); means = λ P c n m a b d. refl }
+
+  -- the table is ready for the next equation
+  pub point-ready : (j : ℕ) (r : Table) → TableReady p t → Equations-to j p t ks point image column r → TableReady p r
+  point-ready j r ready h = subst (TableReady p) (sym (h .adds)) (added-ready p t (h .rows) ready (h .ready))
+
+  -- one more power of x
+  pub point-next : (j : ℕ) (r : Table) (u : ℕ) (e : Row) (s : Table) → 0 < p → getD image j 0 < p → u ≡ (p - getD image j 0) % p
+      → IsEquation p (powers p (getD point 0 0)) (powers p (getD point 1 0)) (powers p (getD point 2 0)) ks j column u e
+      → Equations-to j p t ks point image column r → s ≡ with-row p r e → Equations-to (j + 1) p t ks point image column s
+  point-next j r u e s pos below eu is h q = record {
+    rows = h .rows ++ (e ∷ []);
+    ready = ready-append p (h .rows) (e ∷ []) (h .ready) (equation-ready p pos _ _ _ ks j column u e (subst (λ (n : ℕ). n < p) (sym eu) (mod-lt _ pos)) is, tt);
+    adds = q ∙ ap (λ (x : Table). with-row p x e) (h .adds) ∙ sym (added-append p t (h .rows) (e ∷ []) ∙ (unfold added in refl));
+    means = λ P c n m l b d.
+        rows-append p c (h .rows) (e ∷ [])
+        ∙ ap₂ (λ xs x. xs ++ (x ∷ [])) (h .means P c n m l b d)
+        (equation-row p P (getD point 0 0) (getD point 1 0) (getD point 2 0) ks j column e u c n m is b d l (series p image)
+        (ap (el p) eu ∙ el-mod p (p - getD image j 0) ∙ opposite-el p (getD image j 0) pos (omega arith)))
+        ∙ sym (ap (rows-at (Modulo p P) (map exponents ks) n m (kept-numbers p P point image) 0) (add-one j)
+        ∙ rows-at-more (Modulo p P) (map exponents ks) n m (kept-numbers p P point image) 0 j j (omega arith));
+  }

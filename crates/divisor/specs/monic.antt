@@ -1,0 +1,7 @@
+-- The divisor of a solution.
+pub mod Model
+pub mod Laws
+pub mod Terms
+pub mod Value
+pub mod List
+pub mod Decided

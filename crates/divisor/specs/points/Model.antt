@@ -1,0 +1,101 @@
+-- The images of all points, in the work room, and those that are kept: in plain numbers, point after point.
+use mathlib.Core.Path.{_≡_}
+use mathlib.Core.Logic.{_⊎_}
+use mathlib.Core.Bool.{true, false}
+use mathlib.Core.List.{List, [], _∷_, _++_, map}
+use Prim.Native.Nat.{ℕ, zero, suc, _+_, _-_, _*_, _/_, _≤_, _<_}
+use lib.Dec.{eqb}
+use lib.ListN.{length, getD, take, drop}
+use Rattle.field.specs.Moduli.{Listed}
+use Rattle.field.specs.Prime.{Prime}
+use Rattle.field.specs.Modulo.{Modulo}
+use Rattle.field.specs.Refusal.{Passes}
+use Rattle.poly.specs.declared.ImageRecord.{ImageRecord}
+use Rattle.poly.specs.Keys.{exponents, keys}
+use Rattle.poly.specs.Lists.{of-lists}
+use Rattle.poly.specs.Room.{work-room}
+use Rattle.poly.specs.Coefficients.{Eight}
+use Rattle.poly.specs.image.Model.{image-of}
+use Rattle.divisor.specs.declared.table.Row.{Row}
+use Rattle.divisor.specs.declared.table.Table.{Table}
+use Rattle.divisor.specs.Rule.{Kept}
+use Rattle.divisor.specs.Candidate.{most-points, most-point-numbers, point-at}
+use Rattle.divisor.specs.table.Model.{COLUMNS, empty-table}
+use Rattle.divisor.specs.table.Meaning.{added, rows-of, AllReady}
+use Rattle.divisor.specs.equations.Rows.{kept-rows}
+use Rattle.divisor.specs.sorting.Model.{size-of, alike}
+use Rattle.divisor.specs.equations.Model.{kept-numbers}
+
+-- the place of point i's image in the work room
+abbrev pub image-at : List ℕ → ℕ → List ℕ
+image-at work i = take 8 (drop (8 * i) work)
+
+-- the record of the image at point i
+abbrev pub look-at : ℕ → List ℕ → List ℕ → List ℕ → ℕ → ImageRecord
+look-at p A B points i = image-of p A B (point-at points i)
+
+-- what looking at the points asks for: inputs of which nothing is refused, and room
+pub record LookReady (p : ℕ) (A B points work : List ℕ) : Type 0 where
+  pub lists : Passes (of-lists p A B)
+  pub threes : length points ≡ 3 * (length points / 3)
+  pub few : length points ≤ most-point-numbers
+  pub below : (i : ℕ) → i < length points → getD points i 0 < p
+  pub room : work-room ≤ length work
+
+-- the sizes and the images of the points before n
+pub record Looks (n p : ℕ) (A B points before after sizes : List ℕ) : Type 0 where
+  pub count : length sizes ≡ most-points
+  pub sized : (i : ℕ) → i < n → getD sizes i 0 ≡ size-of (look-at p A B points i)
+  pub same-length : length after ≡ length before
+  pub images : (i : ℕ) → i < n → image-at after i ≡ look-at p A B points i .coefficients
+  pub beyond : drop work-room after ≡ drop work-room before
+
+-- the points before i whose size is m, with their images
+unfoldable pub kept-before : {p : ℕ} (P : Prime p) (m : ℕ) (points sizes work : List ℕ) → ℕ → List (Kept (Modulo p P))
+kept-before P m points sizes work zero = []
+kept-before {p} P m points sizes work (suc i) =
+    kept-before P m points sizes work i
+    ++ (elim (eqb (getD sizes i 0) m) [ true ↦ kept-numbers p P (point-at points i) (image-at work i) ∷ [] | false ↦ [] ])
+
+-- the column of the next point's multiplier, behind the monomials: the last for the first point
+abbrev pub next-column : ℕ → ℕ → ℕ
+next-column n zero = n
+next-column n (suc kept) = kept
+
+-- some column behind the keys, and not all multipliers placed
+pub record ColumnReady (keys kept columns : ℕ) : Type 0 where
+  pub behind : keys < columns
+  pub most : columns ≤ COLUMNS
+  pub left : keys + kept < columns
+
+-- what all equations ask for
+pub record EquationsReady (p : ℕ) (ks points sizes work : List ℕ) (m columns : ℕ) : Type 0 where
+  pub listed : Listed p
+  pub small : (j : ℕ) → j < length ks → getD ks j 0 < keys
+  pub threes : length points ≡ 3 * (length points / 3)
+  pub few : length points ≤ most-point-numbers
+  pub count : length sizes ≡ most-points
+  pub room : work-room ≤ length work
+  pub images : (i : ℕ) → i < length points / 3 → Eight p (image-at work i)
+  pub some : 0 < alike m (take (length points / 3) sizes)
+  pub columns-are : columns ≡ length ks + alike m (take (length points / 3) sizes)
+  pub most : columns ≤ COLUMNS
+
+-- the table of the equations of the kept points before i
+pub record Equations-before (i p : ℕ) (ks points sizes work : List ℕ) (m columns : ℕ) (t : Table) : Type 0 where
+  pub rows : List Row
+  pub ready : AllReady p rows
+  pub adds : t ≡ added p (empty-table columns) rows
+  pub means : (P : Prime p) → rows-of p (columns - 1) rows
+      ≡ kept-rows (Modulo p P) (map exponents ks) (alike m (take (length points / 3) sizes) - 1) (kept-before P m points sizes work i)
+
+-- room for eight numbers from a place on, in the part that the points' images take
+pub record StoreReady (at : ℕ) (work : List ℕ) : Type 0 where
+  pub within : at + 8 ≤ 8 * most-points
+  pub room : work-room ≤ length work
+
+-- the first n of the numbers are stored from the place on, and nothing else has changed
+pub record Stored (n : ℕ) (numbers : List ℕ) (at : ℕ) (before after : List ℕ) : Type 0 where
+  pub same-length : length after ≡ length before
+  pub stored : (j : ℕ) → j < n → getD after (at + j) 0 ≡ getD numbers j 0
+  pub others : (k : ℕ) → (k < at) ⊎ (at + n ≤ k) → getD after k 0 ≡ getD before k 0

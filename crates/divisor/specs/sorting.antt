@@ -1,0 +1,5 @@
+-- Sorting the points.
+pub mod Turns
+pub mod Model
+pub mod Laws
+pub mod Kept

@@ -1,0 +1,44 @@
+-- Sorting the points by the sizes of their images: 0 for a bad point, else one more than the image's degree.
+use mathlib.Core.Bool.{true, false}
+use mathlib.Core.List.{List, [], _∷_, map}
+use Prim.Native.Nat.{ℕ, suc}
+use lib.Dec.{eqb, ltb}
+use Rattle.field.specs.Prime.{Prime}
+use Rattle.field.specs.Modulo.{Modulo}
+use Rattle.poly.specs.declared.ImageRecord.{ImageRecord}
+use Rattle.poly.specs.PointValue.{Point}
+use Rattle.poly.specs.Coefficients.{series}
+use Rattle.divisor.specs.Rule.{Kept}
+
+unfoldable pub size-of : ImageRecord → ℕ
+size-of r = elim (eqb (r .fault .number) 0) [ true ↦ suc (r .degree) | false ↦ 0 ]
+
+abbrev pub sizes-of : List ImageRecord → List ℕ
+sizes-of looks = map size-of looks
+
+-- the less of two sizes, of which 0 is none
+unfoldable pub lesser : ℕ → ℕ → ℕ
+lesser a b = elim (eqb b 0) [ true ↦ a | false ↦ elim (eqb a 0) [ true ↦ b | false ↦ elim (ltb b a) [ true ↦ b | false ↦ a ] ] ]
+
+-- the least size but 0, or 0
+unfoldable pub least-from : ℕ → List ℕ → ℕ
+least-from a [] = a
+least-from a (s ∷ sizes) = least-from (lesser a s) sizes
+
+abbrev pub least : List ℕ → ℕ
+least sizes = least-from 0 sizes
+
+-- how many sizes are m
+unfoldable pub alike : ℕ → List ℕ → ℕ
+alike m [] = 0
+alike m (s ∷ sizes) = elim (eqb s m) [ true ↦ suc (alike m sizes) | false ↦ alike m sizes ]
+
+-- the points whose size is m, in the order lent, with their images
+unfoldable pub kept-of : {p : ℕ} (P : Prime p) → ℕ → List (Point (Modulo p P .ring)) → List ImageRecord → List (Kept (Modulo p P))
+kept-of P m [] looks = []
+kept-of P m (at ∷ points) [] = []
+kept-of {p} P m (at ∷ points) (r ∷ looks) =
+    elim (eqb (size-of r) m) [
+      | true ↦ record { point = at; image = series p (r .coefficients) } ∷ kept-of P m points looks
+      | false ↦ kept-of P m points looks
+    ]

@@ -1,0 +1,92 @@
+-- The turns of the loops that sort the points and that make the divisor, over the first n of a list. Assumes nothing.
+use mathlib.Core.Path.{_≡_, sym, _∙_, ap, ap₂}
+use mathlib.Core.List.{List, [], _∷_, _++_, append-assoc, append-nil}
+use Prim.Native.Nat.{ℕ, suc, _+_, _*_, _%_, _≤_, _<_}
+use native.Mathlib.Numerals.{add-one}
+use native.Mathlib.Omega.{arith}
+use lib.ListN.{length, getD, take, drop, set, drop-of-length-le}
+use lib.Seq.{drop-cons, getD-take, length-take-le, take-suc-set}
+use borrow.Author.Tests.{eq-eqb, ne-eqb}
+use Rattle.poly.specs.Terms.{keyed}
+use Rattle.divisor.specs.sorting.Model.{lesser, least-from, alike}
+use Rattle.divisor.specs.monic.Model.{leading, scaled-terms}
+use Rattle.divisor.specs.monic.Terms.{leading-zero, leading-here, scaled-zero, scaled-here}
+
+module _ (list : List ℕ) (n i : ℕ) where
+  next-left : n ≤ length list → i < n → drop i (take n list) ≡ getD list i 0 ∷ drop (i + 1) (take n list)
+  next-left l h =
+      drop-cons (take n list) i 0 (let e = length-take-le n list l in omega arith)
+      ∙ ap (λ (x : ℕ). x ∷ drop (suc i) (take n list)) (getD-take n list i 0 h)
+      ∙ ap (λ (k : ℕ). getD list i 0 ∷ drop k (take n list)) (sym (add-one i))
+
+  none-left : n ≤ length list → n ≤ i → drop i (take n list) ≡ []
+  none-left l h = drop-of-length-le (take n list) {i = i} (let e = length-take-le n list l in omega arith)
+
+  pub least-next : (m : ℕ) → n ≤ length list → i < n → least-from m (drop i (take n list)) ≡ least-from (lesser m (getD list i 0)) (drop (i + 1) (take n list))
+  unfolding least-from
+  least-next m l h = ap (least-from m) (next-left l h)
+
+  pub least-end : (m : ℕ) → n ≤ length list → n ≤ i → least-from m (drop i (take n list)) ≡ m
+  unfolding least-from
+  least-end m l h = ap (least-from m) (none-left l h)
+
+  pub alike-same : (m : ℕ) → n ≤ length list → i < n → getD list i 0 ≡ m → alike m (drop i (take n list)) ≡ suc (alike m (drop (i + 1) (take n list)))
+  unfolding alike
+  alike-same m l h e = ap (alike m) (next-left l h) ∙ rw (eq-eqb (getD list i 0) m e, alike)
+
+  pub alike-other : (m : ℕ) → n ≤ length list → i < n → ¬ (getD list i 0 ≡ m) → alike m (drop i (take n list)) ≡ alike m (drop (i + 1) (take n list))
+  unfolding alike
+  alike-other m l h e = ap (alike m) (next-left l h) ∙ rw (ne-eqb (getD list i 0) m e, alike)
+
+  pub alike-end : (m : ℕ) → n ≤ length list → n ≤ i → alike m (drop i (take n list)) ≡ 0
+  unfolding alike
+  alike-end m l h = ap (alike m) (none-left l h)
+
+  pub leading-next : n ≤ length list → i < n → getD list i 0 ≡ 0 → leading (drop i (take n list)) ≡ leading (drop (i + 1) (take n list))
+  leading-next l h e = ap leading (next-left l h) ∙ leading-zero (getD list i 0) _ e
+
+  pub leading-found : n ≤ length list → i < n → ¬ (getD list i 0 ≡ 0) → leading (drop i (take n list)) ≡ getD list i 0
+  leading-found l h e = ap leading (next-left l h) ∙ leading-here (getD list i 0) _ e
+
+  pub leading-end : n ≤ length list → n ≤ i → leading (drop i (take n list)) ≡ 0
+  unfolding leading
+  leading-end l h = ap leading (none-left l h)
+
+-- a loop over keys and their coefficients: the terms made so far, and those of the keys that are left, are all
+abbrev pub MadeSo : (p f : ℕ) (ks values : List ℕ) → ℕ → ℕ → List ℕ → Type 0
+MadeSo p f ks values i count terms =
+    take count terms ++ scaled-terms p f (drop i ks) (drop i (take (length ks) values)) ≡ scaled-terms p f ks (take (length ks) values)
+
+module _ (p f : ℕ) (ks values : List ℕ) (i : ℕ) (long : length ks ≤ length values) where
+  keys-left : i < length ks → drop i ks ≡ getD ks i 0 ∷ drop (i + 1) ks
+  keys-left h = drop-cons ks i 0 h ∙ ap (λ (k : ℕ). getD ks i 0 ∷ drop k ks) (sym (add-one i))
+
+  scaled-passed : i < length ks → getD values i 0 ≡ 0
+      → scaled-terms p f (drop i ks) (drop i (take (length ks) values)) ≡ scaled-terms p f (drop (i + 1) ks) (drop (i + 1) (take (length ks) values))
+  scaled-passed h e = ap₂ (scaled-terms p f) (keys-left h) (next-left values (length ks) i long h) ∙ scaled-zero p f (getD ks i 0) (getD values i 0) _ _ e
+
+  scaled-taken : i < length ks → ¬ (getD values i 0 ≡ 0)
+      → scaled-terms p f (drop i ks) (drop i (take (length ks) values))
+      ≡ keyed (getD ks i 0) ((getD values i 0 * f) % p) ∷ scaled-terms p f (drop (i + 1) ks) (drop (i + 1) (take (length ks) values))
+  scaled-taken h e = ap₂ (scaled-terms p f) (keys-left h) (next-left values (length ks) i long h) ∙ scaled-here p f (getD ks i 0) (getD values i 0) _ _ e
+
+  scaled-end : length ks ≤ i → scaled-terms p f (drop i ks) (drop i (take (length ks) values)) ≡ []
+  unfolding scaled-terms
+  scaled-end h = ap (λ (l : List ℕ). scaled-terms p f l (drop i (take (length ks) values))) (drop-of-length-le ks {i = i} h)
+
+  pub made-passed : (count : ℕ) (terms : List ℕ) → i < length ks → getD values i 0 ≡ 0 → MadeSo p f ks values i count terms
+      → MadeSo p f ks values (i + 1) count terms
+  made-passed count terms h e m = ap (take count terms ++_) (sym (scaled-passed h e)) ∙ m
+
+  pub made-taken : (count : ℕ) (terms : List ℕ) (v : ℕ) → i < length ks → ¬ (getD values i 0 ≡ 0) → count < length terms
+      → v ≡ keyed (getD ks i 0) ((getD values i 0 * f) % p) → MadeSo p f ks values i count terms → MadeSo p f ks values (i + 1) (count + 1) (set terms count v)
+  made-taken count terms v h n l e m =
+      ap (_++ scaled-terms p f (drop (i + 1) ks) (drop (i + 1) (take (length ks) values)))
+      (ap (λ (k : ℕ). take k (set terms count v)) (add-one count) ∙ take-suc-set terms count v l)
+      ∙ append-assoc (take count terms) (v ∷ []) (scaled-terms p f (drop (i + 1) ks) (drop (i + 1) (take (length ks) values)))
+      ∙ ap (λ (u : ℕ). take count terms ++ (u ∷ scaled-terms p f (drop (i + 1) ks) (drop (i + 1) (take (length ks) values)))) e
+      ∙ ap (take count terms ++_) (sym (scaled-taken h n)) ∙ m
+
+  pub made-all : (count : ℕ) (terms : List ℕ) → length ks ≤ i → MadeSo p f ks values i count terms
+      → take count terms ≡ scaled-terms p f ks (take (length ks) values)
+  made-all count terms h m = sym (append-nil (take count terms)) ∙ ap (take count terms ++_) (sym (scaled-end h)) ∙ m

@@ -1,0 +1,68 @@
+-- The empty table is ready, and a step keeps the table ready for the next equation, with as many columns as it had. Assumes nothing.
+use mathlib.Core.Path.{_≡_, refl, _∙_}
+use mathlib.Core.Bool.{Bool, true, false}
+use Prim.Native.Nat.{ℕ, zero, suc, _<_, _≤_}
+use native.Mathlib.Omega.{arith}
+use lib.Dec.{eqb}
+use lib.ListN.{length-set}
+use Rattle.field.specs.Moduli.{Listed}
+use Rattle.field.specs.modulus.Laws.{listed-positive}
+use Rattle.poly.specs.loops.Places.{replicate-all, set-all}
+use Rattle.divisor.specs.declared.table.Row.{Row}
+use Rattle.divisor.specs.declared.table.Table.{Table}
+use Rattle.divisor.specs.table.Model.{COLUMNS, no-row, row-at, cell, diagonal, zeros, empty-table, minus, scaled-row, kept, insert, with-row, Columns, RowReady, TableReady}
+use Rattle.divisor.specs.table.Rows.{minus-ready, scaled-below}
+
+-- every cell of the empty table is 0
+pub empty-cell : (columns i k : ℕ) → cell (row-at (empty-table columns) i) k ≡ 0
+empty-cell columns i k =
+    replicate-all (λ r. cell r k ≡ 0) COLUMNS i (record { cells = zeros }) no-row (replicate-all (λ a. a ≡ 0) COLUMNS k 0 0 refl refl) refl
+
+pub empty-ready : (p columns : ℕ) → Listed p → Columns columns → TableReady p (empty-table columns)
+empty-ready p columns listed fit =
+    record {
+      listed = listed;
+      columns = fit;
+      size = refl;
+      below = λ i k. omega (arith, empty-cell columns i k, listed-positive listed);
+    }
+
+kept-ready : (p : ℕ) (t : Table) (j : ℕ) (e : Row) → TableReady p t → RowReady p e → TableReady p (kept p t j e)
+kept-ready p t j e ready ok =
+    record {
+      listed = ready .listed;
+      columns = ready .columns;
+      size = length-set (t .rows) j (scaled-row p e j (t .columns)) ∙ ready .size;
+      below = λ i k.
+          set-all (λ r. cell r k < p) (t .rows) j i (scaled-row p e j (t .columns)) no-row (scaled-below p e j (t .columns) (ok .below) k)
+          (ready .below i k);
+    }
+
+-- What the table has, and has with each row kept that the step can reach, it has after the step. R is what is known of the rows on the way.
+pub insert-all : (p : ℕ) (t : Table) (Q : Table → Type 0) (R : Row → Type 0)
+    → ((j : ℕ) (e : Row) → R e → R (minus p e (row-at t j) j (t .columns))) → Q t
+    → (n j : ℕ) → ((i : ℕ) → j ≤ i → (e : Row) → R e → Q (kept p t i e)) → (e : Row) → R e → Q (insert n j p t e)
+unfolding insert
+insert-all p t Q R next here zero j there e ok = here
+insert-all p t Q R next here (suc n) j there e ok =
+    go (eqb (cell e j) 0) (eqb (diagonal t j) 0) (insert-all p t Q R next here n (suc j) (λ i l. there i (omega arith)))
+  where
+    go : (b d : Bool) → ((f : Row) → R f → Q (insert n (suc j) p t f))
+        → Q
+        (elim b [
+          | true ↦ insert n (suc j) p t e
+          | false ↦ elim d [ true ↦ kept p t j e | false ↦ insert n (suc j) p t (minus p e (row-at t j) j (t .columns)) ]
+        ])
+    go true d later = later e ok
+    go false true later = there j (omega arith) e ok
+    go false false later = later (minus p e (row-at t j) j (t .columns)) (next j e ok)
+
+module _ (p : ℕ) (t : Table) (e : Row) (ok : RowReady p e) where
+  pub with-row-ready : TableReady p t → TableReady p (with-row p t e)
+  with-row-ready ready =
+      insert-all p t (TableReady p) (RowReady p) (λ j f. minus-ready p f (row-at t j) j (t .columns)) ready (t .columns) 0
+      (λ j l f. kept-ready p t j f ready) e ok
+
+  pub with-row-columns : with-row p t e .columns ≡ t .columns
+  with-row-columns =
+      insert-all p t (λ u. u .columns ≡ t .columns) (λ f. Unit {0}) (λ j f u. tt) refl (t .columns) 0 (λ j l f u. refl) e tt

@@ -1,0 +1,143 @@
+-- The table's models one turn at a time, as the loops of the code move. Assumes nothing.
+use mathlib.Core.Path.{_≡_, refl, sym, ap, _∙_}
+use mathlib.Core.Bool.{Bool, true, false}
+use mathlib.Core.List.{List}
+use Prim.Native.Nat.{ℕ, zero, suc, _+_, _-_, _*_, _%_, _<_, _≤_}
+use native.Mathlib.Numerals.{add-one}
+use native.Mathlib.Decide.{ℕ-discrete}
+use native.Mathlib.Omega.{arith}
+use lib.Dec.{eqb}
+use lib.ListN.{getD, set}
+use borrow.Author.Tests.{eq-eqb, ne-eqb}
+use Rattle.poly.specs.Search.{Searched}
+use Rattle.divisor.specs.declared.table.Row.{Row}
+use Rattle.divisor.specs.declared.table.Table.{Table}
+use Rattle.divisor.specs.declared.table.Kind.the-variants.{None, One, Several}
+use Rattle.divisor.specs.table.Model.{COLUMNS, row-at, cell, Entry, diagonal, altered, minus, kept, insert, with-row, kind-from, kind, total, value, back}
+
+-- what is left of n turns at turn i
+turns-left : (i n : ℕ) → i < n → n - i ≡ suc (n - (i + 1))
+turns-left i n h = omega arith
+
+no-turns-left : (i n : ℕ) → n ≤ i → n - i ≡ 0
+no-turns-left i n h = omega arith
+
+module _ (g : ℕ → ℕ → ℕ) (i n : ℕ) (l : List ℕ) where
+  pub altered-turn : i < n → altered g i (n - i) l ≡ altered g (i + 1) (n - (i + 1)) (set l i (g i (getD l i 0)))
+  unfolding altered
+  altered-turn h =
+      ap (λ m. altered g i m l) (turns-left i n h) ∙ ap (λ k. altered g k (n - (i + 1)) (set l i (g i (getD l i 0)))) (sym (add-one i))
+
+  pub altered-end : n ≤ i → altered g i (n - i) l ≡ l
+  unfolding altered
+  altered-end h = ap (λ m. altered g i m l) (no-turns-left i n h)
+
+-- a step at one column
+module _ (p : ℕ) (t : Table) (e : Row) (j n : ℕ) where
+  abbrev taken-off : Table
+  taken-off = insert n (suc j) p t (minus p e (row-at t j) j (t .columns))
+
+  abbrev by-diagonal : Bool → Table
+  by-diagonal b = elim b [ true ↦ kept p t j e | false ↦ taken-off ]
+
+  abbrev by-cell : Bool → Table
+  by-cell b = elim b [ true ↦ insert n (suc j) p t e | false ↦ by-diagonal (eqb (diagonal t j) 0) ]
+
+  pub insert-at-zero : cell e j ≡ 0 → insert (suc n) j p t e ≡ insert n (suc j) p t e
+  unfolding insert
+  insert-at-zero z = ap by-cell (eq-eqb (cell e j) 0 z)
+
+  pub insert-at-free : ¬ (cell e j ≡ 0) → diagonal t j ≡ 0 → insert (suc n) j p t e ≡ kept p t j e
+  unfolding insert
+  insert-at-free z y = ap by-cell (ne-eqb (cell e j) 0 z) ∙ ap by-diagonal (eq-eqb (diagonal t j) 0 y)
+
+  pub insert-at-kept : ¬ (cell e j ≡ 0) → ¬ (diagonal t j ≡ 0) → insert (suc n) j p t e ≡ taken-off
+  unfolding insert
+  insert-at-kept z y = ap by-cell (ne-eqb (cell e j) 0 z) ∙ ap by-diagonal (ne-eqb (diagonal t j) 0 y)
+
+module _ (p : ℕ) (t : Table) (e : Row) (j : ℕ) where
+  abbrev left : ℕ
+  left = t .columns - (j + 1)
+
+  insert-more : j < t .columns → insert (t .columns - j) j p t e ≡ insert (suc left) j p t e
+  insert-more h = ap (λ n. insert n j p t e) (turns-left j (t .columns) h)
+
+  pub insert-skip : j < t .columns → cell e j ≡ 0 → insert (t .columns - j) j p t e ≡ insert left (j + 1) p t e
+  insert-skip h z =
+      insert-more h ∙ insert-at-zero p t e j left z ∙ ap (λ i. insert left i p t e) (sym (add-one j))
+
+  pub insert-kept : j < t .columns → ¬ (cell e j ≡ 0) → diagonal t j ≡ 0 → insert (t .columns - j) j p t e ≡ kept p t j e
+  insert-kept h z y = insert-more h ∙ insert-at-free p t e j left z y
+
+  pub insert-minus : j < t .columns → ¬ (cell e j ≡ 0) → ¬ (diagonal t j ≡ 0)
+      → insert (t .columns - j) j p t e ≡ insert left (j + 1) p t (minus p e (row-at t j) j (t .columns))
+  insert-minus h z y =
+      insert-more h ∙ insert-at-kept p t e j left z y
+      ∙ ap (λ i. insert left i p t (minus p e (row-at t j) j (t .columns))) (sym (add-one j))
+
+  pub insert-end : t .columns ≤ j → insert (t .columns - j) j p t e ≡ t
+  unfolding insert
+  insert-end h = ap (λ n. insert n j p t e) (no-turns-left j (t .columns) h)
+
+-- an equation without entries adds nothing
+insert-blank : (p : ℕ) (t : Table) (e : Row) (n j : ℕ) → ((k : ℕ) → k < j + n → cell e k ≡ 0) → insert n j p t e ≡ t
+insert-blank p t e zero j z = (unfold insert in refl)
+insert-blank p t e (suc n) j z = insert-at-zero p t e j n (z j (omega arith)) ∙ insert-blank p t e n (suc j) (λ k l. z k (omega arith))
+
+pub blank-adds-nothing : (p : ℕ) (t : Table) (e : Row) → t .columns ≤ COLUMNS → (place : ℕ) → COLUMNS ≤ place → Searched (Entry e) COLUMNS place
+    → with-row p t e ≡ t
+blank-adds-nothing p t e most place past searched =
+    insert-blank p t e (t .columns) 0 (λ k l. elim (ℕ-discrete (cell e k) 0) [ yes q ↦ q | no q ↦ absurd (searched .before k (omega arith) q) ])
+
+module _ (t : Table) where
+  pub kind-none : ¬ (diagonal t (t .columns - 1) ≡ 0) → kind t ≡ None
+  unfolding kind
+  kind-none z =
+      ap (λ b. elim b [ true ↦ kind-from (t .columns - 1) 0 t | false ↦ None ]) (ne-eqb (diagonal t (t .columns - 1)) 0 z)
+
+  pub kind-some : diagonal t (t .columns - 1) ≡ 0 → kind t ≡ kind-from (t .columns - 1) 0 t
+  unfolding kind
+  kind-some z =
+      ap (λ b. elim b [ true ↦ kind-from (t .columns - 1) 0 t | false ↦ None ]) (eq-eqb (diagonal t (t .columns - 1)) 0 z)
+
+  module _ (j last : ℕ) where
+    kind-meets : j < last → (b : Bool) → eqb (diagonal t j) 0 ≡ b
+        → kind-from (last - j) j t ≡ elim b [ true ↦ Several | false ↦ kind-from (last - (j + 1)) (suc j) t ]
+    unfolding kind-from
+    kind-meets h b q =
+        ap (λ n. kind-from n j t) (turns-left j last h)
+        ∙ ap (λ b. elim b [ true ↦ Several | false ↦ kind-from (last - (j + 1)) (suc j) t ]) q
+
+    pub kind-several : j < last → diagonal t j ≡ 0 → kind-from (last - j) j t ≡ Several
+    kind-several h z = kind-meets h true (eq-eqb (diagonal t j) 0 z)
+
+    pub kind-turn : j < last → ¬ (diagonal t j ≡ 0) → kind-from (last - j) j t ≡ kind-from (last - (j + 1)) (j + 1) t
+    kind-turn h z =
+        kind-meets h false (ne-eqb (diagonal t j) 0 z) ∙ ap (λ i. kind-from (last - (j + 1)) i t) (sym (add-one j))
+
+    pub kind-one : last ≤ j → kind-from (last - j) j t ≡ One
+    unfolding kind-from
+    kind-one h = ap (λ n. kind-from n j t) (no-turns-left j last h)
+
+module _ (k last p : ℕ) (e : Row) (values : List ℕ) (a : ℕ) where
+  pub total-turn : k < last
+      → total (last - k) k p e values a
+      ≡ total (last - (k + 1)) (k + 1) p e values ((a + cell e k * getD values k 0) % p)
+  unfolding total
+  total-turn h =
+      ap (λ n. total n k p e values a) (turns-left k last h)
+      ∙ ap (λ i. total (last - (k + 1)) i p e values ((a + cell e k * getD values k 0) % p)) (sym (add-one k))
+
+  pub total-end : last ≤ k → total (last - k) k p e values a ≡ a
+  unfolding total
+  total-end h = ap (λ n. total n k p e values a) (no-turns-left k last h)
+
+module _ (p : ℕ) (t : Table) (values : List ℕ) where
+  pub back-turn : (j : ℕ) → 0 < j
+      → back j p t values ≡ back (j - 1) p t (set values (j - 1) (value p (row-at t (j - 1)) values (j - 1) (t .columns - 1)))
+  unfolding back
+  back-turn j h = let s : j ≡ suc (j - 1) = omega arith in ap (λ n. back n p t values) s
+
+  pub back-end : (j : ℕ) → j ≤ 0 → back j p t values ≡ values
+  unfolding back
+  back-end j h = let z : j ≡ 0 = omega arith in ap (λ n. back n p t values) z

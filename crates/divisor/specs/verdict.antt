@@ -1,0 +1,4 @@
+-- What the solution settles.
+pub mod Model
+pub mod Laws
+pub mod Output

@@ -1,0 +1,81 @@
+-- What a solution of the equations settles, in plain numbers: the number, and the terms that are handed out.
+use mathlib.Core.Path.{_≡_}
+use mathlib.Core.Logic.{_↔_}
+use mathlib.Core.Bool.{Bool, true}
+use mathlib.Core.List.{List, []}
+use Prim.Native.Nat.{ℕ, _≤_, _<_}
+use lib.ListN.{length, getD, take}
+use Rattle.field.specs.Prime.{Prime}
+use Rattle.field.specs.Modulo.{Modulo}
+use Rattle.field.specs.Numbers.{NO_GOOD_POINT, NO_SOLUTION, SEVERAL_SOLUTIONS, DOES_NOT_DIVIDE}
+use Rattle.poly.specs.Keys.{keys}
+use Rattle.poly.specs.Terms.{terms-of}
+use Rattle.poly.specs.PointImage.{Divides}
+use Rattle.poly.specs.Room.{work-room, written, cleared}
+use Rattle.poly.specs.TrialDivision.{CanDivide}
+use Rattle.poly.specs.Lists.{Falling}
+use Rattle.poly.specs.list.Right.{RightLists}
+use Rattle.divisor.specs.declared.CandidateRecord.{CandidateRecord}
+use Rattle.divisor.specs.Rule.{report, DividesBoth}
+use Rattle.divisor.specs.Candidate.{most-keys}
+use Rattle.divisor.specs.declared.table.Kind.the-variants.{None, One, Several}
+use Rattle.divisor.specs.declared.table.Solved.{Solved}
+use Rattle.divisor.specs.declared.verdict.Verdict.{Verdict}
+use Rattle.divisor.specs.monic.Model.{leading, monic-terms}
+
+-- the list G divides the lists A and B, as polynomials
+abbrev pub Both : (p : ℕ) → Prime p → List ℕ → List ℕ → List ℕ → Type 0
+Both p P A B G = DividesBoth (Modulo p P) (terms-of p P A) (terms-of p P B) (terms-of p P G)
+
+pub record CanDivideBoth (p : ℕ) (A B G work : List ℕ) : Type 0 where
+  pub first : CanDivide p A G work
+  pub second : CanDivide p B G work
+
+-- it says yes exactly if G divides both; the work room is cleared
+pub record BothDivided (p : ℕ) (A B G before after : List ℕ) (yes : Bool) : Type 0 where
+  pub says : (P : Prime p) → (yes ≡ true) ↔ Both p P A B G
+  pub room : after ≡ cleared before
+
+-- the coefficients make a divisor: the leading one is not 0, and the terms fall
+pub record MakesDivisor (p : ℕ) (ks cs : List ℕ) : Type 0 where
+  pub led : 0 < leading cs
+  pub some : 0 < length (monic-terms p ks cs)
+  pub falls : Falling p keys (monic-terms p ks cs)
+
+pub record VerdictReady (p : ℕ) (A B ks : List ℕ) (s : Solved) (output work : List ℕ) : Type 0 where
+  pub lists : RightLists p A B
+  pub few : length ks ≤ most-keys
+  pub long : length ks ≤ length (s .values)
+  pub below : (i : ℕ) → getD (s .values) i 0 < p
+  pub one : s .kind ≡ One → MakesDivisor p ks (take (length ks) (s .values))
+  pub fits : length ks ≤ length output
+  pub room : work-room ≤ length work
+
+-- the number that the solution settles, and the terms that are handed out
+pub data Settles (p : ℕ) (A B ks : List ℕ) (s : Solved) : ℕ → List ℕ → Type 0 where
+  none : s .kind ≡ None → Settles p A B ks s NO_SOLUTION []
+  several : s .kind ≡ Several → Settles p A B ks s SEVERAL_SOLUTIONS []
+  rejected : s .kind ≡ One → ((P : Prime p) → ¬ Both p P A B (monic-terms p ks (take (length ks) (s .values)))) → Settles p A B ks s DOES_NOT_DIVIDE []
+  accepted : s .kind ≡ One → ((P : Prime p) → Both p P A B (monic-terms p ks (take (length ks) (s .values))))
+      → Settles p A B ks s 0 (monic-terms p ks (take (length ks) (s .values)))
+
+pub record Settled (p : ℕ) (A B ks : List ℕ) (s : Solved) (output output-after work work-after : List ℕ) (r : Verdict) : Type 0 where
+  pub terms : List ℕ
+  pub settles : Settles p A B ks s (r .number) terms
+  pub count : r .terms ≡ length terms
+  pub writes : output-after ≡ written terms output
+  pub clears : work-after ≡ cleared work
+
+-- a refusal with its number: no term, and the work room cleared
+pub record Refused (number : ℕ) (work work-after : List ℕ) (r : Verdict) : Type 0 where
+  pub is : r ≡ record { number = number; terms = 0 }
+  pub clears : work-after ≡ cleared work
+
+-- values that are the only solution
+abbrev pub only : List ℕ → Solved
+only values = record { kind = One; values = values }
+
+-- what is answered where no point of n is good; the work room is cleared
+pub record NoGoodPoint (n : ℕ) (work work-after : List ℕ) (r : CandidateRecord) : Type 0 where
+  pub is : r ≡ report NO_GOOD_POINT 0 n 0 0 0
+  pub clears : work-after ≡ cleared work

@@ -1,0 +1,3 @@
+-- Tables of refusals.
+pub mod Laws
+pub mod Decision

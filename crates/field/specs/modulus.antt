@@ -1,0 +1,3 @@
+-- The moduli are prime.
+pub mod Prime
+pub mod Laws

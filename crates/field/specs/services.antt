@@ -1,0 +1,2 @@
+-- The arithmetic services are deterministic.
+pub mod Laws

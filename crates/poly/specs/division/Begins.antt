@@ -1,0 +1,116 @@
+-- A division begins with the dividend spread over the remainder's cells, and ends with the answer of the rule; the room is cleared around it. Assumes nothing.
+use mathlib.Core.Path.{_≡_, refl, sym, _∙_, ap, ap₂}
+use mathlib.Core.Logic.{_↔_}
+use mathlib.Core.Bool.{Bool, true, false}
+use mathlib.Core.List.{List}
+use Prim.Native.Nat.{ℕ, _+_, _-_, _≤_, _<_}
+use native.Mathlib.Omega.{arith}
+use lib.ListN.{getD, drop}
+use Rattle.field.specs.Prime.{Prime}
+use Rattle.field.specs.Fp.{el, inv}
+use Rattle.field.specs.modulus.Laws.{listed-prime, listed-positive}
+use Rattle.field.specs.Modulo.{Modulo}
+use Rattle.field.specs.element.Link.{inverse-val}
+use Rattle.field.specs.Contract.{Invertible, Inverse}
+use Rattle.field.specs.declared.Element.{Element}
+use Rattle.poly.specs.Keys.{keys}
+use Rattle.poly.specs.Terms.{key-of, coefficient-of, poly}
+use Rattle.poly.specs.PointImage.{Divides}
+use Rattle.poly.specs.Room.{work-room, zeroed, cleared}
+use Rattle.poly.specs.TrialDivision.{CanDivide}
+use Rattle.poly.specs.list.Falling.{falling-coefficient, falling-keys, falling-first, falling-positive}
+use Rattle.poly.specs.rooms.Laws.{zeroed-length, zeroed-at, zeroed-beyond, zeroed-same}
+use Rattle.poly.specs.division.Spread.{spread-length, spread-above}
+use Rattle.poly.specs.division.WorkRoom.{take-spread, drop-spread, same-quotient-cells, same-beyond, remainder-empty}
+use Rattle.poly.specs.division.Ends.{Empty, dividing, divided-says}
+use Rattle.poly.specs.division.SpreadModel.{spread}
+use Rattle.poly.specs.division.Model.{most-key, at-most, Setting, Outcome, divide-from, setting, divided}
+use Rattle.poly.specs.division.WorkRoomModel.{remainder-cells, quotient-cells, beyond, CanStep, Stepped, CanBegin, Divided}
+
+divided-wide : (p : ℕ) (f g l c : List ℕ) → at-most (most-key g) (most-key f) ≡ false → divided p f g l c ≡ record { whole = false; quotient = c }
+unfolding divided
+divided-wide p f g l c e = rw (e, divided)
+
+divided-runs : (p : ℕ) (f g l c : List ℕ) → at-most (most-key g) (most-key f) ≡ true → divided p f g l c ≡ divide-from (setting p f g) keys (spread f l) c
+unfolding divided
+divided-runs p f g l c e = rw (e, divided)
+
+module _ (p : ℕ) (f g work : List ℕ) (can : CanDivide p f g work) where
+  -- some greatest exponent of the divisor is above the dividend's
+  pub begun-wide : at-most (most-key g) (most-key f) ≡ false → Divided p f g work work false
+  begun-wide e = record { outcome = sym (divided-wide p f g (remainder-cells work) (quotient-cells work) e); rest = refl }
+
+  -- the divisor's leading coefficient has an inverse
+  module _ (a : Element) (em : a .modulus ≡ p) (ev : a .value ≡ coefficient-of (getD g 0 0)) where
+    pub lead-invertible : Invertible a
+    lead-invertible =
+        let small = falling-coefficient p keys g (can .divisor-falls) 0 (can .some-divisor) in
+        let positive = falling-positive p keys g (can .divisor-falls) 0 (can .some-divisor) in
+        record { is-listed = rw em (can .is-listed); below = omega arith; nonzero = omega arith }
+
+    pub lead-inverse-is : (r : Element) → Inverse a r → r .value ≡ inv (el p (coefficient-of (getD g 0 0))) .val
+    lead-inverse-is r i =
+        inverse-val a r (rw em (listed-prime (can .is-listed))) i ∙ ap₂ (λ (m v : ℕ). inv (el m v) .val) em ev
+
+  -- the steps after the dividend is spread
+  module _ (d : Setting) (is : d ≡ setting p f g) (begun : List ℕ) (spreads : begun ≡ spread f work) where
+    pub begun-can-step : ((i : ℕ) → i < keys → getD work i 0 ≡ 0) → (top : ℕ) → top ≡ key-of (getD f 0 0) + 1 → CanStep d top begun
+    begun-can-step empty top et =
+        rw (is, spreads)
+        (record {
+          positive = listed-positive (can .is-listed);
+          room = let e = spread-length f work in let r = can .room in omega arith;
+          within = omega (arith, falling-keys p keys f (can .dividend-falls) 0 (can .some-dividend));
+          above = λ i h l. spread-above f work i (λ j b. omega (arith, falling-first p keys f (can .dividend-falls) j b)) ∙ empty i l;
+          leads = falling-first p keys g (can .divisor-falls);
+        })
+
+    pub begun-ends : at-most (most-key g) (most-key f) ≡ true → (after : List ℕ) (whole : Bool) → Stepped d begun after whole → Divided p f g work after whole
+    begun-ends e after whole s =
+        let b = falling-keys p keys f (can .dividend-falls) in
+        record {
+          outcome =
+              s .outcome ∙ ap₂ (λ (x : Setting) (l : List ℕ). divide-from x keys (remainder-cells l) (quotient-cells l)) is spreads
+              ∙ ap₂ (λ (l c : List ℕ). divide-from (setting p f g) keys l c) (take-spread keys f work b)
+              (same-quotient-cells (spread f work) work (drop-spread keys f work b))
+              ∙ sym (divided-runs p f g (remainder-cells work) (quotient-cells work) e);
+          rest = s .rest ∙ ap beyond spreads ∙ same-beyond (spread f work) work (drop-spread keys f work b);
+        }
+
+  -- cleared, divided, and cleared again
+  module _ (n : ℕ) (some : keys ≤ n) (most : n ≤ work-room) where
+    pub cleared-begins : CanBegin p f g (zeroed n work)
+    cleared-begins =
+        let r = can .room in
+        record {
+          lists =
+              record {
+                is-listed = can .is-listed;
+                some-dividend = can .some-dividend;
+                dividend-falls = can .dividend-falls;
+                some-divisor = can .some-divisor;
+                divisor-falls = can .divisor-falls;
+                room = let e = zeroed-length n work (omega arith) in omega arith;
+              };
+          empty = λ i h. zeroed-at n work i (omega arith);
+        }
+
+    -- the room around it: as it was beyond, and cleared again
+    module _ (begun after : List ℕ) (whole : Bool) (clears : begun ≡ zeroed n work) (ran : Divided p f g begun after whole) where
+      pub cleared-room : (end : List ℕ) → end ≡ zeroed work-room after → end ≡ cleared work
+      cleared-room end e =
+          let m : n + (work-room - n) ≡ work-room = omega arith in
+          e
+          ∙ zeroed-same work-room after work
+          (ran .rest ∙ ap beyond clears ∙ ap (λ (j : ℕ). drop j (zeroed n work)) (sym m) ∙ zeroed-beyond n (work-room - n) work
+          ∙ ap (λ (j : ℕ). drop j work) m)
+
+      pub begun-empty : Empty (remainder-cells begun)
+      begun-empty = rw clears (remainder-empty (zeroed n work) (cleared-begins .lists .room) (cleared-begins .empty))
+
+      -- the answer is that of the rule
+      pub cleared-says : (P : Prime p) → (whole ≡ true) ↔ Divides (Modulo p P) (poly p P g) (poly p P f)
+      cleared-says P =
+          let e : divided p f g (remainder-cells begun) (quotient-cells begun) .whole ≡ whole = ap (λ (o : Outcome). o .whole) (sym (ran .outcome)) in
+          let s = divided-says p P f g (dividing can) (remainder-cells begun) (quotient-cells begun) begun-empty in
+          (λ t. s .0 (e ∙ t), λ d. sym e ∙ s .1 d)

@@ -1,0 +1,104 @@
+-- The division on cells goes on by one cell: a cell that is 0 is passed, a leading term that can be divided is taken away, one that cannot ends it.
+-- The outcome and the terms found go the same way, so what each step keeps holds of both. Assumes nothing.
+use mathlib.Core.Path.{_≡_, refl, sym, ap, _∙_, subst}
+use mathlib.Core.Bool.{Bool, true, false}
+use mathlib.Core.List.{List, [], _∷_}
+use Prim.Native.Nat.{ℕ, zero, suc, _-_, _≤_}
+use native.Mathlib.Decide.{ℕ-discrete}
+use native.Mathlib.Omega.{arith}
+use borrow.Author.Tests.{eq-eqb, ne-eqb}
+use lib.ListN.{length, getD, set}
+use Rattle.poly.specs.Keys.{keys}
+use Rattle.poly.specs.Terms.{keyed}
+use Rattle.poly.specs.division.SpreadModel.{spread}
+use Rattle.poly.specs.division.Model.{most-key, at-most, Setting, less-product, fits, factor, less, Outcome, divide-from, found-from, setting, divided, found}
+
+module _ (d : Setting) where
+  outcome-passed : (k : ℕ) (l c : List ℕ) → getD l k 0 ≡ 0 → divide-from d (suc k) l c ≡ divide-from d k l c
+  unfolding divide-from
+  outcome-passed k l c e = rw (eq-eqb _ _ e, divide-from)
+
+  outcome-taken : (k : ℕ) (l c : List ℕ) → ¬ (getD l k 0 ≡ 0) → fits d k ≡ true
+      → divide-from d (suc k) l c ≡ divide-from d k (less d k l) (set c (k - d .lead) (factor d k l))
+  unfolding divide-from
+  outcome-taken k l c n f = rw (ne-eqb _ _ n, divide-from) (rw (f, divide-from))
+
+  outcome-stopped : (k : ℕ) (l c : List ℕ) → ¬ (getD l k 0 ≡ 0) → fits d k ≡ false
+      → divide-from d (suc k) l c ≡ record { whole = false; quotient = c }
+  unfolding divide-from
+  outcome-stopped k l c n f = rw (ne-eqb _ _ n, divide-from) (rw (f, divide-from))
+
+  found-passed : (k : ℕ) (l : List ℕ) → getD l k 0 ≡ 0 → found-from d (suc k) l ≡ found-from d k l
+  unfolding found-from
+  found-passed k l e = rw (eq-eqb _ _ e, found-from)
+
+  found-taken : (k : ℕ) (l : List ℕ) → ¬ (getD l k 0 ≡ 0) → fits d k ≡ true
+      → found-from d (suc k) l ≡ keyed (k - d .lead) (factor d k l) ∷ found-from d k (less d k l)
+  unfolding found-from
+  found-taken k l n f = rw (ne-eqb _ _ n, found-from) (rw (f, found-from))
+
+  found-stopped : (k : ℕ) (l : List ℕ) → ¬ (getD l k 0 ≡ 0) → fits d k ≡ false → found-from d (suc k) l ≡ []
+  unfolding found-from
+  found-stopped k l n f = rw (ne-eqb _ _ n, found-from) (rw (f, found-from))
+
+  -- the outcome, as the code takes its steps: from k down to k - 1
+  down : (k : ℕ) → ¬ (k ≡ 0) → k ≡ suc (k - 1)
+  down k n = omega arith
+
+  pub division-done : (k : ℕ) (l c : List ℕ) → k ≡ 0 → divide-from d k l c ≡ record { whole = true; quotient = c }
+  unfolding divide-from
+  division-done k l c e = ap (λ (n : ℕ). divide-from d n l c) e
+
+  pub division-passed : (k : ℕ) (l c : List ℕ) → ¬ (k ≡ 0) → getD l (k - 1) 0 ≡ 0 → divide-from d k l c ≡ divide-from d (k - 1) l c
+  division-passed k l c n e = ap (λ (m : ℕ). divide-from d m l c) (down k n) ∙ outcome-passed (k - 1) l c e
+
+  pub division-taken : (k : ℕ) (l c : List ℕ) {q : ℕ} {m : List ℕ} → ¬ (k ≡ 0) → ¬ (getD l (k - 1) 0 ≡ 0) → fits d (k - 1) ≡ true
+      → q ≡ factor d (k - 1) l → m ≡ less-product (d .modulus) (k - 1 - d .lead) q (d .terms) l
+      → divide-from d k l c ≡ divide-from d (k - 1) m (set c (k - 1 - d .lead) q)
+  division-taken k l c n e f eq em =
+      rw (em, eq) (ap (λ (m : ℕ). divide-from d m l c) (down k n) ∙ outcome-taken (k - 1) l c e f)
+
+  pub division-stopped : (k : ℕ) (l c : List ℕ) → ¬ (k ≡ 0) → ¬ (getD l (k - 1) 0 ≡ 0) → fits d (k - 1) ≡ false
+      → divide-from d k l c ≡ record { whole = false; quotient = c }
+  division-stopped k l c n e f = ap (λ (m : ℕ). divide-from d m l c) (down k n) ∙ outcome-stopped (k - 1) l c e f
+
+-- What holds where a division ends, and of one cell more where it holds of what is left, holds of every division: of its cells l and c,
+-- the terms found and the outcome.
+module _ (d : Setting) (Holds : ℕ → List ℕ → List ℕ → List ℕ → Outcome → Type 0)
+    (ends : (l c : List ℕ) → Holds 0 l c [] (record { whole = true; quotient = c }))
+    (passes : (k : ℕ) (l c qs : List ℕ) (o : Outcome) → getD l k 0 ≡ 0 → Holds k l c qs o → Holds (suc k) l c qs o)
+    (takes : (k : ℕ) (l c qs : List ℕ) (o : Outcome) → ¬ (getD l k 0 ≡ 0) → fits d k ≡ true
+    → Holds k (less d k l) (set c (k - d .lead) (factor d k l)) qs o → Holds (suc k) l c (keyed (k - d .lead) (factor d k l) ∷ qs) o)
+    (stops : (k : ℕ) (l c : List ℕ) → ¬ (getD l k 0 ≡ 0) → fits d k ≡ false → Holds (suc k) l c [] (record { whole = false; quotient = c })) where
+  pub by-cells : (k : ℕ) (l c : List ℕ) → Holds k l c (found-from d k l) (divide-from d k l c)
+  unfolding found-from divide-from
+  by-cells zero l c = ends l c
+  by-cells (suc k) l c = cell (ℕ-discrete (getD l k 0) 0) (fits d k) refl (λ m b. by-cells k m b)
+    where
+      to : (qs rs : List ℕ) (o r : Outcome) → qs ≡ rs → o ≡ r → Holds (suc k) l c rs r → Holds (suc k) l c qs o
+      to qs rs o r e f h = subst (λ (x : List ℕ). Holds (suc k) l c x o) (sym e) (subst (λ (x : Outcome). Holds (suc k) l c rs x) (sym f) h)
+
+      cell : Dec (getD l k 0 ≡ 0) → (a : Bool) → fits d k ≡ a → ((m b : List ℕ) → Holds k m b (found-from d k m) (divide-from d k m b))
+          → Holds (suc k) l c (found-from d (suc k) l) (divide-from d (suc k) l c)
+      cell (yes e) a q again = to _ _ _ _ (found-passed d k l e) (outcome-passed d k l c e) (passes k l c _ _ e (again l c))
+      cell (no n) true q again = to _ _ _ _ (found-taken d k l n q) (outcome-taken d k l c n q) (takes k l c _ _ n q (again _ _))
+      cell (no n) false q again = to _ _ _ _ (found-stopped d k l n q) (outcome-stopped d k l c n q) (stops k l c n q)
+
+-- no more terms than cells
+pub found-few : (d : Setting) (k : ℕ) (l : List ℕ) → length (found-from d k l) ≤ k
+found-few d k l =
+    by-cells d (λ k l c qs o. length qs ≤ k) (λ l c. omega arith) (λ k l c qs o e h. omega arith) (λ k l c qs o n f h. omega arith)
+    (λ k l c n f. omega arith) k l []
+
+-- the same of two lists: at once no, or by cells
+module _ (p : ℕ) (f g l c : List ℕ) (Holds : List ℕ → Outcome → Type 0)
+    (wide : at-most (most-key g) (most-key f) ≡ false → Holds [] (record { whole = false; quotient = c }))
+    (runs : at-most (most-key g) (most-key f) ≡ true
+    → Holds (found-from (setting p f g) keys (spread f l)) (divide-from (setting p f g) keys (spread f l) c)) where
+  pub by-lists : Holds (found p f g l) (divided p f g l c)
+  unfolding found divided
+  by-lists = go (at-most (most-key g) (most-key f)) refl
+    where
+      go : (a : Bool) → at-most (most-key g) (most-key f) ≡ a → Holds (found p f g l) (divided p f g l c)
+      go true e = rw (e, found, divided) (runs e)
+      go false e = rw (e, found, divided) (wide e)

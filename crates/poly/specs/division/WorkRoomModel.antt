@@ -1,0 +1,62 @@
+-- Division in the lent work room: the remainder's cells, the quotient's cells, and what is beyond;
+-- what the functions of the division and the quotient ask for and promise.
+use mathlib.Core.Path.{_≡_}
+use mathlib.Core.Bool.{Bool}
+use mathlib.Core.List.{List}
+use Prim.Native.Nat.{ℕ, _≤_, _<_}
+use lib.ListN.{length, getD, take, drop}
+use Rattle.field.specs.Refusal.{whole}
+use Rattle.poly.specs.Keys.{keys}
+use Rattle.poly.specs.Terms.{key-of}
+use Rattle.poly.specs.Room.{work-room, written}
+use Rattle.poly.specs.TrialDivision.{CanDivide}
+use Rattle.poly.specs.division.SpreadModel.{gathered}
+use Rattle.poly.specs.division.Model.{KeysBelow, Setting, divide-from, divided}
+
+abbrev pub remainder-cells : List ℕ → List ℕ
+remainder-cells work = take keys work
+
+abbrev pub quotient-cells : List ℕ → List ℕ
+quotient-cells work = take keys (drop keys work)
+
+abbrev pub beyond : List ℕ → List ℕ
+beyond work = drop work-room work
+
+-- for the subtraction of one product
+pub record CanSubtract (p q shift : ℕ) (divisor cells : List ℕ) : Type 0 where
+  pub positive : 0 < p
+  pub reduced : q ≤ p
+  pub within : KeysBelow shift (length cells) divisor
+
+-- for the steps of a division: no cell of the remainder from top on is other than 0
+pub record CanStep (d : Setting) (top : ℕ) (work : List ℕ) : Type 0 where
+  pub positive : 0 < d .modulus
+  pub room : work-room ≤ length work
+  pub within : top ≤ keys
+  pub above : (i : ℕ) → top ≤ i → i < keys → getD work i 0 ≡ 0
+  pub leads : (i : ℕ) → i < length (d .terms) → key-of (getD (d .terms) i 0) ≤ d .lead
+
+-- the model's outcome, and what is beyond the cells left
+pub record Stepped (d : Setting) (before after : List ℕ) (whole : Bool) : Type 0 where
+  pub outcome : record { whole = whole; quotient = quotient-cells after } ≡ divide-from d keys (remainder-cells before) (quotient-cells before)
+  pub rest : beyond after ≡ beyond before
+
+-- for a division of two lists: the remainder's cells are 0
+pub record CanBegin (p : ℕ) (dividend divisor work : List ℕ) : Type 0 where
+  pub lists : CanDivide p dividend divisor work
+  pub empty : (i : ℕ) → i < keys → getD work i 0 ≡ 0
+
+-- the same of the whole division
+pub record Divided (p : ℕ) (dividend divisor before after : List ℕ) (whole : Bool) : Type 0 where
+  pub outcome : record { whole = whole; quotient = quotient-cells after } ≡ divided p dividend divisor (remainder-cells before) (quotient-cells before)
+  pub rest : beyond after ≡ beyond before
+
+-- for the gathering of the quotient's terms
+pub record CanGather (cells out : List ℕ) : Type 0 where
+  pub few : length cells ≤ keys
+  pub room : length cells ≤ length out
+
+-- how many terms, and where they stand
+pub record Gathered (cells before after : List ℕ) (n : ℕ) : Type 0 where
+  pub count : n ≡ length (gathered (length cells) cells)
+  pub output : after ≡ written (gathered (length cells) cells) before

@@ -1,0 +1,50 @@
+-- The model of a polynomial in x on eight numbers modulo p, x^0 first: degree, scaling, remainder, and Euclid's algorithm as the code does it.
+use mathlib.Core.Bool.{true, false}
+use mathlib.Core.List.{List}
+use Prim.Native.Nat.{ℕ, zero, suc, _+_, _-_, _*_, _%_}
+use lib.Dec.{eqb, ltb}
+use lib.ListN.{getD}
+use Rattle.field.specs.Fp.{el, inv}
+use Rattle.poly.specs.loops.CellsModel.{cells}
+
+-- the place after the highest number that is not 0, among the first n; 0 where all are 0
+unfoldable pub size-to : ℕ → List ℕ → ℕ
+size-to zero f = 0
+size-to (suc n) f = elim (eqb (getD f n 0) 0) [ true ↦ size-to n f | false ↦ suc n ]
+
+abbrev pub size : List ℕ → ℕ
+size f = size-to 8 f
+
+-- each number times c
+unfoldable pub scaled : ℕ → ℕ → List ℕ → List ℕ
+scaled p c f = cells (λ i. (c * getD f i 0) % p) 8
+
+-- all divided by the number at n
+unfoldable pub monic : ℕ → ℕ → List ℕ → List ℕ
+monic p n f = scaled p (inv (el p (getD f n 0)) .val) f
+
+-- f - c x^k g at the power i
+unfoldable pub less-at : ℕ → ℕ → ℕ → List ℕ → List ℕ → ℕ → ℕ
+less-at p c k f g i = elim (ltb i k) [ true ↦ getD f i 0 | false ↦ (getD f i 0 + (p - c) * getD g (i - k) 0) % p ]
+
+-- f - c x^k g
+unfoldable pub subtract : ℕ → ℕ → ℕ → List ℕ → List ℕ → List ℕ
+subtract p c k f g = cells (less-at p c k f g) 8
+
+-- the remainder of f by g, which is monic of degree m, where f has k powers from m on
+unfoldable pub remainder : ℕ → ℕ → List ℕ → ℕ → List ℕ → List ℕ
+remainder p m g zero f = f
+remainder p m g (suc k) f = remainder p m g k (subtract p (getD f (k + m) 0) k f g)
+
+-- Euclid's algorithm; the fuel falls, and the size of g is enough
+unfoldable pub euclid : ℕ → ℕ → List ℕ → List ℕ → List ℕ
+euclid p zero f g = f
+euclid p (suc fuel) f g =
+    elim (eqb (size g) 0) [
+      | true ↦ f
+      | false ↦ euclid p fuel (monic p (size g - 1) g) (remainder p (size g - 1) (monic p (size g - 1) g) (8 - (size g - 1)) f)
+    ]
+
+-- the monic greatest common divisor of a, which is not 0, and b
+unfoldable pub gcd : ℕ → List ℕ → List ℕ → List ℕ
+gcd p a b = euclid p (size b) (monic p (size a - 1) a) b

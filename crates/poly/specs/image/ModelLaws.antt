@@ -1,0 +1,134 @@
+-- The model of the image gives the image: its values are the values, and Euclid's algorithm gives their monic greatest common divisor.
+-- Assumes nothing.
+use mathlib.Core.Path.{_≡_, refl, sym, ap, _∙_, subst}
+use mathlib.Core.List.{List, [], _∷_}
+use Prim.Native.Nat.{ℕ, suc, _-_, _<_}
+use native.Mathlib.Decide.{ℕ-discrete}
+use native.Mathlib.Omega.{arith}
+use borrow.Author.Tests.{eq-eqb, ne-eqb}
+use lib.ListN.{length, getD}
+use Rattle.field.specs.Prime.{Prime}
+use Rattle.field.specs.modulus.Prime.{prime-positive}
+use Rattle.field.specs.Fp.{Fp, el}
+use Rattle.field.specs.element.Fp.{el-nonzero}
+use Rattle.field.specs.Modulo.{Modulo}
+use Rattle.field.specs.Numbers.{NO_GOOD_POINT}
+use Rattle.field.specs.Refusal.{fault}
+use Rattle.poly.specs.Keys.{keys}
+use Rattle.poly.specs.Terms.{key-of, terms-of}
+use Rattle.poly.specs.PointValue.{value, x-degree}
+use Rattle.poly.specs.PointImage.{Image}
+use Rattle.poly.specs.LeadingPart.{x-of}
+use Rattle.poly.specs.Coefficients.{Eight, series}
+use Rattle.poly.specs.ImageCall.{point-of, refusal, PointAnswer, bad, good}
+use Rattle.poly.specs.value.PowersModel.{powers}
+use Rattle.poly.specs.value.Model.{Ready, value-of}
+use Rattle.poly.specs.euclid.Model.{size, gcd}
+use Rattle.poly.specs.image.Model.{value-at, image-record, image-of-values, image-of}
+use Rattle.poly.specs.value.PowersLaws.{powers-eight}
+use Rattle.poly.specs.euclid.Numbers.{eight-clear, size-clear}
+use Rattle.poly.specs.euclid.Meaning.{clear-ends}
+use Rattle.poly.specs.euclid.Gcd.{IsGcd, gcd-is-gcd}
+use Rattle.poly.specs.value.ModelLaws.{value-of-eight}
+use Rattle.poly.specs.value.Meaning.{value-of-series}
+use Rattle.poly.specs.list.Falling.{falling-key, falling-coefficient}
+use Rattle.poly.specs.list.Right.{RightList}
+
+-- what the code's test of a's number at x settles
+pub values-bad : (p x : ℕ) (a b : List ℕ) → getD a x 0 ≡ 0 → image-of-values p x a b ≡ refusal (fault NO_GOOD_POINT 0)
+unfolding image-of-values
+values-bad p x a b e = rw (eq-eqb (getD a x 0) 0 e, image-of-values)
+
+pub values-good : (p x : ℕ) (a b : List ℕ) → ¬ (getD a x 0 ≡ 0) → image-of-values p x a b ≡ image-record (gcd p a b)
+unfolding image-of-values
+values-good p x a b n = rw (ne-eqb (getD a x 0) 0 n, image-of-values)
+
+-- a number that is not 0 gives a size
+pub size-positive : (p x : ℕ) (a : List ℕ) → Eight p a → ¬ (getD a x 0 ≡ 0) → 0 < size a
+size-positive p x a h n =
+    elim (ℕ-discrete (size a) 0) [ yes e ↦ absurd (n (size-clear 8 a (eight-clear p a h) x (omega arith))) | no q ↦ omega arith ]
+
+-- with the tables that the code has worked
+module _ (p : ℕ) (point ys zs ws : List ℕ) (y : ys ≡ powers p (getD point 0 0)) (z : zs ≡ powers p (getD point 1 0))
+    (w : ws ≡ powers p (getD point 2 0)) where
+  pub tables-ready : 1 < p → (ts : List ℕ) → RightList p ts → Ready p ys zs ws ts
+  tables-ready h ts r =
+      record {
+        y-powers = subst (Eight p) (sym y) (powers-eight p (getD point 0 0) h);
+        z-powers = subst (Eight p) (sym z) (powers-eight p (getD point 1 0) h);
+        w-powers = subst (Eight p) (sym w) (powers-eight p (getD point 2 0) h);
+        keys = falling-key p keys ts (r .falls);
+        coefficients = falling-coefficient p keys ts (r .falls);
+      }
+
+  pub value-by-tables : (ts : List ℕ) → value-of p ys zs ws ts ≡ value-at p point ts
+  unfolding value-at
+  value-by-tables ts = λ i. value-of p (y i) (z i) (w i) ts
+
+pub first-power-small : (p : ℕ) (ts : List ℕ) → RightList p ts → x-of (getD ts 0 0) < 8
+first-power-small p ts h = let k : key-of (getD ts 0 0) < keys = falling-key p keys ts (h .falls) 0 (h .some) in omega arith
+
+module _ {p : ℕ} (P : Prime p) (point : List ℕ) where
+  -- the value of a list at the point
+  abbrev value-there : List ℕ → ℕ → Fp p
+  value-there ts = value (Modulo p P .ring) (terms-of p P ts) (point-of p P point)
+
+  pub value-at-eight : (ts : List ℕ) → Eight p (value-at p point ts)
+  unfolding value-at
+  value-at-eight ts = value-of-eight p (powers p (getD point 0 0)) (powers p (getD point 1 0)) (powers p (getD point 2 0)) (prime-positive P) ts
+
+  value-at-series : (ts : List ℕ) → RightList p ts → series p (value-at p point ts) ≡ value-there ts
+  unfolding value-at
+  value-at-series ts h = value-of-series p P (getD point 0 0) (getD point 1 0) (getD point 2 0) ts (falling-key p keys ts (h .falls))
+
+  first-power : (ts : List ℕ) → 0 < length ts → x-degree (Modulo p P .ring) (terms-of p P ts) ≡ x-of (getD ts 0 0)
+  first-power [] l = absurd (omega arith)
+  first-power (t ∷ ts) l = refl
+
+  module _ (A B : List ℕ) (hA : RightList p A) (hB : RightList p B) where
+    abbrev a : List ℕ
+    a = value-at p point A
+
+    abbrev b : List ℕ
+    b = value-at p point B
+
+    abbrev x : ℕ
+    x = x-of (getD A 0 0)
+
+    abbrev u : List ℕ
+    u = gcd p a b
+
+    -- the number that the code tests is the x-leading coefficient of A at the point
+    leading : el p (getD a x 0) ≡ value-there A (x-degree (Modulo p P .ring) (terms-of p P A))
+    leading = ap (λ (f : ℕ → Fp p). f x) (value-at-series A hA) ∙ ap (value-there A) (sym (first-power A (hA .some)))
+
+    module _ (n : ¬ (getD a x 0 ≡ 0)) where
+      filled : ¬ (size a ≡ 0)
+      filled e = omega (arith, size-positive p x a (value-at-eight A) n)
+
+      greatest : IsGcd P (value-there A) (value-there B) u (size u - 1)
+      greatest =
+          subst (λ (v : ℕ → Fp p). IsGcd P v (value-there B) u (size u - 1)) (value-at-series A hA)
+          (subst (λ (v : ℕ → Fp p). IsGcd P (series p a) v u (size u - 1)) (value-at-series B hB)
+          (gcd-is-gcd P a b (value-at-eight A) filled (value-at-eight B)))
+
+      model-is-image : Image (Modulo p P) (terms-of p P A) (terms-of p P B) (point-of p P point) (size u - 1) (series p u)
+      model-is-image =
+          record {
+            good = λ z. el-nonzero p (getD a x 0) (value-at-eight A .below x) n (leading ∙ z);
+            monic =
+                record {
+                  leads = ap (el p) (greatest .monic .one);
+                  ends = clear-ends p (prime-positive P) (suc (size u - 1)) u (greatest .monic .clear);
+                };
+            greatest = greatest .greatest;
+          }
+
+    -- the model answers as the rule says
+    pub image-of-answers : PointAnswer p P (terms-of p P A) (terms-of p P B) (point-of p P point) (image-of p A B point)
+    unfolding image-of
+    image-of-answers = go (ℕ-discrete (getD a x 0) 0)
+      where
+        go : Dec (getD a x 0 ≡ 0) → PointAnswer p P (terms-of p P A) (terms-of p P B) (point-of p P point) (image-of-values p x a b)
+        go (yes e) = rw (values-bad p x a b e) (bad (sym leading ∙ ap (el p) e))
+        go (no n) = rw (values-good p x a b n) (good (size u - 1) u (greatest n .eight) (model-is-image n))

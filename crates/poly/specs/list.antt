@@ -1,0 +1,9 @@
+-- Lists: their checks, the search for the first wrong place, the leading part.
+pub mod Model
+pub mod Laws
+pub mod Falling
+pub mod Right
+pub mod Check
+pub mod Leading
+pub mod Searching
+pub mod Search

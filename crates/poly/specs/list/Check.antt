@@ -1,0 +1,101 @@
+-- The check of one list: what a term's test says, and what the search of the first wrong term settles; without a modulus the bound is one
+-- that no coefficient reaches. Assumes nothing.
+use mathlib.Core.Path.{_≡_, refl, ap}
+use mathlib.Core.Logic.{inl, inr}
+use mathlib.Core.List.{List, map}
+use Prim.Native.Nat.{ℕ, zero, suc, _+_, _≤_, _<_}
+use native.Mathlib.Omega.{arith}
+use lib.ListN.{length, getD, length-map, List·getD-map}
+use Rattle.field.specs.Numbers.{FIRST_COUNT, FIRST_TERM}
+use Rattle.field.specs.Refusal.{fault, none, Tested, refused, passed}
+use Rattle.field.specs.fault.Laws.{OnePlaceEach, whole-one-place, first-one-place, placed-never, tested-line, tested-past, tested-end, tested-determined}
+use Rattle.field.specs.declared.Fault.{Fault}
+use Rattle.poly.specs.Keys.{keys}
+use Rattle.poly.specs.Terms.{key-of, coefficient-of, coefficient-limit}
+use Rattle.poly.specs.Lists.{most-terms, Count, WrongKey, above, not-below, WrongTerm, wrong-key, coefficient-zero, WrongModulo, wrong-term, coefficient-large, of-lists}
+use Rattle.poly.specs.LeadingPart.{of-list}
+use Rattle.poly.specs.Search.{Searched}
+use Rattle.poly.specs.list.Model.{of-terms, key-before}
+use Rattle.poly.specs.list.Search.{searched-first, searched-none}
+
+key-at : (ts : List ℕ) (i : ℕ) → getD (map key-of ts) i 0 ≡ key-of (getD ts i 0)
+key-at ts i = List·getD-map key-of ts i 0
+
+-- no term is wrong beyond the list
+pub wrong-within : (p : ℕ) (ts : List ℕ) (i : ℕ) → WrongModulo p ts i → i < length ts
+wrong-within p ts i (wrong-term (wrong-key (above l m))) = omega (arith, length-map ts key-of)
+wrong-within p ts i (wrong-term (wrong-key (not-below j e l m))) = omega (arith, length-map ts key-of)
+wrong-within p ts i (wrong-term (coefficient-zero l e)) = l
+wrong-within p ts i (coefficient-large l m) = l
+
+-- how the code carries the key before along
+pub key-before-first : (ts : List ℕ) → key-before ts 0 ≡ keys
+unfolding key-before
+key-before-first ts = refl
+
+pub key-before-next : (ts : List ℕ) (i : ℕ) → key-before ts (i + 1) ≡ key-of (getD ts i 0)
+unfolding key-before
+key-before-next ts i = let s : i + 1 ≡ suc i = omega arith in ap (key-before ts) s
+
+-- what the test of the term at i says, where the key before is in range
+module _ (bound : ℕ) (ts : List ℕ) (i : ℕ) where
+  pub key-is-wrong : i < length ts → key-before ts i ≤ key-of (getD ts i 0) → WrongModulo bound ts i
+  unfolding key-before
+  key-is-wrong l h = wrong-term (wrong-key (go i l h))
+    where
+      go : (i : ℕ) → i < length ts → key-before ts i ≤ key-of (getD ts i 0) → WrongKey (map key-of ts) i
+      go zero l h = above (omega (arith, length-map ts key-of)) (omega (arith, key-at ts 0))
+      go (suc j) l h = not-below j refl (omega (arith, length-map ts key-of)) (omega (arith, key-at ts j, key-at ts (suc j)))
+
+  pub term-is-right : key-before ts i ≤ keys → key-of (getD ts i 0) < key-before ts i
+      → 0 < coefficient-of (getD ts i 0) → coefficient-of (getD ts i 0) < bound → ¬ WrongModulo bound ts i
+  unfolding key-before
+  term-is-right r h n m (wrong-term (wrong-key (above b a))) = omega (arith, key-at ts i)
+  term-is-right r h n m (wrong-term (wrong-key (not-below j e b a))) =
+      let q : key-before ts i ≡ key-of (getD ts j 0) = ap (key-before ts) e in omega (arith, key-at ts i, key-at ts j)
+  term-is-right r h n m (wrong-term (coefficient-zero b e)) = omega arith
+  term-is-right r h n m (coefficient-large b a) = omega arith
+
+-- without a modulus: no coefficient reaches the bound
+module _ (ts : List ℕ) where
+  small-coefficient : (i : ℕ) → WrongModulo coefficient-limit ts i → WrongTerm ts i
+  small-coefficient i (wrong-term w) = w
+  small-coefficient i (coefficient-large l m) = absurd (omega arith)
+
+  pub tested-without-modulus : {f : Fault} → Tested (of-terms FIRST_COUNT FIRST_TERM coefficient-limit ts) f → Tested (of-list ts) f
+  tested-without-modulus (refused (inl h)) = refused (inl h)
+  tested-without-modulus (refused (inr (n, inl h))) =
+      refused (inr (n, inl (h .0, h .1, (small-coefficient (h .0) (h .2 .0), λ j l v. h .2 .1 j l (wrong-term v)))))
+  tested-without-modulus (refused (inr (n, inr h))) = absurd (h .1)
+  tested-without-modulus (passed h e) =
+      passed (h .0, ((λ i w. h .1 .0 i (wrong-term (w .0), λ j l v. w .1 j l (small-coefficient j v))), tt)) e
+
+-- the answers of the check of one list
+module _ (count term bound : ℕ) (ts : List ℕ) where
+  pub list-miscounted : Count most-terms ts → {f : Fault} → f ≡ fault count 0 → Tested (of-terms count term bound ts) f
+  list-miscounted n e = tested-line 0 (n, refl) e
+
+  module _ (n : ¬ (length ts ≡ 0)) (m : length ts ≤ most-terms) (place : ℕ) (s : Searched (WrongModulo bound ts) (length ts) place) where
+    counted : ¬ Count most-terms ts
+    counted (inl e) = n e
+    counted (inr l) = omega arith
+
+    beyond : (i : ℕ) → length ts ≤ i → ¬ WrongModulo bound ts i
+    beyond i l w = omega (arith, wrong-within bound ts i w)
+
+    pub list-wrong : place < length ts → {f : Fault} → f ≡ fault term place → Tested (of-terms count term bound ts) f
+    list-wrong l e = tested-past (placed-never counted) (tested-line place (searched-first (WrongModulo bound ts) (length ts) beyond place s l) e)
+
+    pub list-right : length ts ≤ place → {f : Fault} → f ≡ none → Tested (of-terms count term bound ts) f
+    list-right l e = tested-past (placed-never counted) (tested-past (searched-none (WrongModulo bound ts) (length ts) beyond place s l) (tested-end e))
+
+-- each line has one place
+pub lists-one-place : (p : ℕ) (A B : List ℕ) → OnePlaceEach (of-lists p A B)
+lists-one-place p A B = (whole-one-place _, (whole-one-place _, (first-one-place _, (whole-one-place _, (first-one-place _, tt)))))
+
+-- the promises of the checks settle their faults
+pub lists-check-determined : (p : ℕ) (A B : List ℕ) (f g : Fault) → Tested (of-lists p A B) f → Tested (of-lists p A B) g → f ≡ g
+lists-check-determined p A B = tested-determined (of-lists p A B) (lists-one-place p A B)
+
+pub list-check-determined : (ts : List ℕ) (f g : Fault) → Tested (of-list ts) f → Tested (of-list ts) g → f ≡ g
+list-check-determined ts = tested-determined (of-list ts) (whole-one-place _, (first-one-place _, tt))

@@ -1,0 +1,44 @@
+-- What is known of lists that pass the check: they have terms, not too many, and these fall. Assumes nothing.
+use mathlib.Core.Path.{_≡_}
+use mathlib.Core.Logic.{inl, inr}
+use mathlib.Core.List.{List}
+use Prim.Native.Nat.{ℕ, _≤_, _<_}
+use native.Mathlib.Omega.{arith}
+use lib.ListN.{length}
+use Rattle.field.specs.Moduli.{Listed}
+use Rattle.field.specs.modulus.Laws.{listed-stable}
+use Rattle.field.specs.Numbers.{FIRST_COUNT, FIRST_TERM, SECOND_COUNT, SECOND_TERM}
+use Rattle.field.specs.Refusal.{Passes}
+use Rattle.field.specs.fault.Laws.{never-placed}
+use Rattle.poly.specs.Keys.{keys}
+use Rattle.poly.specs.Lists.{most-terms, of-lists, Falling}
+use Rattle.poly.specs.list.Model.{of-terms}
+use Rattle.poly.specs.list.Laws.{terms-fall}
+
+pub record RightList (p : ℕ) (ts : List ℕ) : Type 0 where
+  pub some : 0 < length ts
+  pub most : length ts ≤ most-terms
+  pub falls : Falling p keys ts
+
+list-is-right : (count term p : ℕ) (ts : List ℕ) → Passes (of-terms count term p ts) → RightList p ts
+list-is-right count term p ts h =
+    let counted = never-placed (h .0) in
+    record {
+      some = let n : ¬ (length ts ≡ 0) = λ e. counted (inl e) in omega arith;
+      most = let n : ¬ (most-terms < length ts) = λ l. counted (inr l) in omega arith;
+      falls = terms-fall p ts (h .1 .0);
+    }
+
+-- what the lines 1 to 5 leave
+pub record RightLists (p : ℕ) (A B : List ℕ) : Type 0 where
+  pub is-listed : Listed p
+  pub first : RightList p A
+  pub second : RightList p B
+
+pub lists-are-right : (p : ℕ) (A B : List ℕ) → Passes (of-lists p A B) → RightLists p A B
+lists-are-right p A B h =
+    record {
+      is-listed = listed-stable p (never-placed (h .0));
+      first = list-is-right FIRST_COUNT FIRST_TERM p A (h .1 .0, (h .1 .1 .0, tt));
+      second = list-is-right SECOND_COUNT SECOND_TERM p B (h .1 .1 .1);
+    }

@@ -1,0 +1,4 @@
+-- Arrays that loops fill.
+pub mod CellsModel
+pub mod Cells
+pub mod Places

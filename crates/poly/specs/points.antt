@@ -1,0 +1,2 @@
+-- The check of a point.
+pub mod Check

@@ -1,0 +1,2 @@
+-- The rooms that are lent.
+pub mod Laws

@@ -1,0 +1,53 @@
+-- How the model of the value goes on from term to term, on eight numbers below p. Assumes nothing.
+use mathlib.Core.Path.{_≡_, refl, sym, ap, _∙_}
+use mathlib.Core.List.{List, [], _∷_}
+use Prim.Native.Nat.{ℕ, _+_, _≤_, _<_}
+use native.Mathlib.Nat.{mod-lt}
+use native.Mathlib.Numerals.{add-one}
+use lib.ListN.{length, getD, set, drop, replicate, length-set, drop-of-length-le}
+use lib.Seq.{drop-cons}
+use Rattle.poly.specs.Coefficients.{Eight}
+use Rattle.poly.specs.loops.Places.{set-all, replicate-all}
+use Rattle.poly.specs.Keys.{exponents}
+use Rattle.poly.specs.Terms.{key-of}
+use Rattle.poly.specs.value.Model.{plus-term, value-from, value-of}
+
+pub set-eight : (p : ℕ) (r : List ℕ) (x v : ℕ) → Eight p r → v < p → Eight p (set r x v)
+set-eight p r x v h l = record { eight = length-set r x v ∙ h .eight; below = λ i. set-all (λ n. n < p) r x i v 0 l (h .below i) }
+
+pub zeros-eight : (p : ℕ) → 0 < p → Eight p (replicate 8 0)
+zeros-eight p h = record { eight = refl; below = λ i. replicate-all (λ n. n < p) 8 i 0 0 h h }
+
+module _ (p : ℕ) (ys zs ws : List ℕ) where
+  pub plus-term-below : 0 < p → (t r : ℕ) → plus-term p ys zs ws t r < p
+  unfolding plus-term
+  plus-term-below h t r = mod-lt _ h
+
+  pub value-next : (ts : List ℕ) (i : ℕ) (r : List ℕ) → i < length ts
+      → value-from p ys zs ws (drop i ts) r
+      ≡ value-from p ys zs ws (drop (i + 1) ts)
+      (set r (exponents (key-of (getD ts i 0)) .x) (plus-term p ys zs ws (getD ts i 0) (getD r (exponents (key-of (getD ts i 0)) .x) 0)))
+  unfolding value-from
+  value-next ts i r l =
+      ap (λ (u : List ℕ). value-from p ys zs ws u r) (drop-cons ts i 0 l)
+      ∙ ap
+      (λ (n : ℕ).
+      value-from p ys zs ws (drop n ts)
+      (set r (exponents (key-of (getD ts i 0)) .x) (plus-term p ys zs ws (getD ts i 0) (getD r (exponents (key-of (getD ts i 0)) .x) 0))))
+      (sym (add-one i))
+
+  pub value-end : (ts : List ℕ) (i : ℕ) (r : List ℕ) → length ts ≤ i → value-from p ys zs ws (drop i ts) r ≡ r
+  unfolding value-from
+  value-end ts i r l = ap (λ (u : List ℕ). value-from p ys zs ws u r) (drop-of-length-le ts l)
+
+  value-from-eight : 0 < p → (ts r : List ℕ) → Eight p r → Eight p (value-from p ys zs ws ts r)
+  unfolding value-from
+  value-from-eight pos [] r h = h
+  value-from-eight pos (t ∷ ts) r h =
+      let v = plus-term p ys zs ws t (getD r (exponents (key-of t) .x) 0) in
+      value-from-eight pos ts (set r (exponents (key-of t) .x) v)
+      (set-eight p r (exponents (key-of t) .x) v h (plus-term-below pos t (getD r (exponents (key-of t) .x) 0)))
+
+  pub value-of-eight : 0 < p → (ts : List ℕ) → Eight p (value-of p ys zs ws ts)
+  unfolding value-of
+  value-of-eight pos ts = value-from-eight pos ts (replicate 8 0) (zeros-eight p pos)

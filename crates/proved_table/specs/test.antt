@@ -1,0 +1,10 @@
+-- The computed test of a row, and that what passes it holds.
+pub mod Computed
+pub mod ComputedLaws
+pub mod Decisions
+pub mod TermDivision
+pub mod TermDivisionLaws
+pub mod Rows
+pub mod RowsLaws
+pub mod WrongLaws
+pub mod Wrong

@@ -1,0 +1,80 @@
+-- What the rule answers, computed: images, sorting, equations and the divisor by the models, the divisions on short lists.
+use mathlib.Core.List.{List, [], _∷_, map}
+use Prim.Native.Nat.{ℕ, zero, suc, _+_, _-_, _/_}
+use lib.ListN.{length, take}
+use Rattle.algebra.specs.Linear.{Answer, none, one, several}
+use Rattle.algebra.specs.Models.Elimination.{solve}
+use Rattle.field.specs.Prime.{Prime}
+use Rattle.field.specs.Fp.{Fp}
+use Rattle.field.specs.Modulo.{Modulo}
+use Rattle.field.specs.Numbers.{NO_GOOD_POINT, NO_SOLUTION, SEVERAL_SOLUTIONS, DOES_NOT_DIVIDE}
+use Rattle.poly.specs.declared.ImageRecord.{ImageRecord}
+use Rattle.poly.specs.Keys.{exponents}
+use Rattle.poly.specs.Terms.{terms-of}
+use Rattle.divisor.specs.Rule.{Kept}
+use Rattle.divisor.specs.Candidate.{points-of}
+use Rattle.divisor.specs.equations.Rows.{all-rows}
+use Rattle.divisor.specs.sorting.Model.{sizes-of, least, alike, kept-of}
+use Rattle.divisor.specs.monic.Model.{monic-terms}
+use Rattle.divisor.specs.points.Seen.{looks-from}
+use Rattle.proved_table.specs.test.TermDivision.{Outcome, divides, does-not, open-still, division}
+
+-- what the kept points settle: the number, and the terms to be handed out
+pub data Verdict : Type 0 where
+  unsettled : Verdict
+  settled : ℕ → List ℕ → Verdict
+
+-- the record's numbers but the place, which is 0, and the count; and the terms
+pub data Computed : Type 0 where
+  unanswered : Computed
+  answered : (number degree bad unlucky kept : ℕ) → List ℕ → Computed
+
+-- what the two divisions settle
+unfoldable pub tried : List ℕ → Outcome → Outcome → Verdict
+tried G divides divides = settled 0 G
+tried G divides does-not = settled DOES_NOT_DIVIDE []
+tried G divides open-still = unsettled
+tried G does-not o = settled DOES_NOT_DIVIDE []
+tried G open-still o = unsettled
+
+-- the steps that a division is given; those of the table take fewer
+abbrev pub most-steps : ℕ
+most-steps = 64
+
+-- f by G
+unfoldable pub divided-by : (p : ℕ) → Prime p → List ℕ → List ℕ → Outcome
+divided-by p P G f = division (Modulo p P) most-steps (terms-of p P f) (terms-of p P G)
+
+module _ (p : ℕ) (P : Prime p) (A B skeleton points : List ℕ) where
+  -- by the divisions of A and B by the divisor
+  abbrev pub by-division : List ℕ → Verdict
+  by-division G = tried G (divided-by p P G A) (divided-by p P G B)
+
+  -- by the solutions of the equations
+  unfoldable pub by-answer : Answer (Fp p) → Verdict
+  by-answer none = settled NO_SOLUTION []
+  by-answer (several v w) = settled SEVERAL_SOLUTIONS []
+  by-answer (one v) = by-division (monic-terms p skeleton (take (length skeleton) (map (λ (x : Fp p). x .val) v)))
+
+  -- a verdict with d and the counts of the points
+  unfoldable pub with-counts : ℕ → List ℕ → Verdict → Computed
+  with-counts d sizes unsettled = unanswered
+  with-counts d sizes (settled number terms) =
+      answered number d (alike 0 sizes) (length points / 3 - alike 0 sizes - alike (suc d) sizes) (alike (suc d) sizes) terms
+
+  -- by the kept points
+  unfoldable pub by-kept : ℕ → List ℕ → List (Kept (Modulo p P)) → Computed
+  by-kept d sizes [] = unanswered
+  by-kept d sizes (k ∷ ks) =
+      with-counts d sizes (by-answer (solve (Modulo p P) (length skeleton + length ks) (all-rows (Modulo p P) (map exponents skeleton) k ks)))
+
+  -- by the least size of an image, which is 0 where all points are bad
+  unfoldable pub by-least : List ImageRecord → ℕ → Computed
+  by-least looks zero = answered NO_GOOD_POINT 0 (length points / 3) 0 0 []
+  by-least looks (suc d) = by-kept d (sizes-of looks) (kept-of P (suc d) (points-of p P points) looks)
+
+  unfoldable pub by-looks : List ImageRecord → Computed
+  by-looks looks = by-least looks (least (sizes-of looks))
+
+  unfoldable pub computed : Computed
+  computed = by-looks (looks-from p A B points 0 (length points / 3))

@@ -1,0 +1,150 @@
+-- What is computed for a call whose inputs pass meets the promise of the call. Assumes nothing.
+use mathlib.Core.Path.{_≡_, refl, sym, _∙_, ap, ap₂, subst}
+use mathlib.Core.List.{List, [], _∷_, map}
+use Prim.Native.Nat.{ℕ, zero, suc, _+_, _≤_, _<_}
+use native.Mathlib.Omega.{arith}
+use lib.ListN.{length, getD, take, length-map}
+use Rattle.algebra.specs.Linear.{Answer, none, one, several, Meets}
+use Rattle.algebra.specs.Linear as linear
+use Rattle.algebra.specs.Laws.Linear.{solve-meets}
+use Rattle.field.specs.Prime.{Prime}
+use Rattle.field.specs.modulus.Prime.{prime-positive}
+use Rattle.field.specs.Moduli.{Listed}
+use Rattle.field.specs.Fp.{Fp, el}
+use Rattle.field.specs.element.Fp.{el-val, val-lt}
+use Rattle.field.specs.Modulo.{Modulo}
+use Rattle.field.specs.Refusal.{Passes}
+use Rattle.poly.specs.declared.ImageRecord.{ImageRecord}
+use Rattle.poly.specs.Keys.{keys}
+use Rattle.poly.specs.Terms.{term-of, terms-of, poly}
+use Rattle.poly.specs.Room.{written, cleared}
+use Rattle.poly.specs.Lists.{Falling}
+use Rattle.poly.specs.key.Terms.{poly-lead}
+use Rattle.divisor.specs.Rule.{report, Kept}
+use Rattle.divisor.specs.Candidate.{Call, table, prime, Numbers, monomials, lent-points, Candidate}
+use Rattle.divisor.specs.table.Meaning.{entries}
+use Rattle.divisor.specs.equations.Rows.{all-rows}
+use Rattle.divisor.specs.sorting.Model.{sizes-of, least, kept-of}
+use Rattle.divisor.specs.monic.Model.{monic-terms}
+use Rattle.divisor.specs.monic.Terms.{AllBelow}
+use Rattle.divisor.specs.sorting.Laws.{Least, AtLeast, least-is}
+use Rattle.divisor.specs.checks.Passed.{looks-of}
+use Rattle.divisor.specs.answer.Assembled as assembled
+use Rattle.proved_table.specs.test.TermDivision.{Outcome, divides, does-not, open-still}
+use Rattle.proved_table.specs.test.TermDivisionLaws.{Means, division-means}
+use Rattle.proved_table.specs.test.Computed.{Verdict, unsettled, settled, Computed, unanswered, answered, tried, most-steps}
+use Rattle.proved_table.specs.test.Computed.{divided-by, by-division, by-answer, with-counts, by-kept, by-least, by-looks, computed}
+
+-- the numbers of field elements
+abbrev values-of : {p : ℕ} → List (Fp p) → List ℕ
+values-of v = map (λ (x : Fp _). x .val) v
+
+entries-shifted : (p x : ℕ) (l : List ℕ) (i n : ℕ) → entries p (x ∷ l) (suc i) n ≡ entries p l i n
+unfolding entries
+entries-shifted p x l i zero = refl
+entries-shifted p x l i (suc n) = ap (el p (getD l i 0) ∷_) (entries-shifted p x l (suc i) n)
+
+entries-of-values : (p : ℕ) (v : List (Fp p)) → entries p (values-of v) 0 (length v) ≡ v
+unfolding entries
+entries-of-values p [] = refl
+entries-of-values p (x ∷ v) = ap₂ _∷_ (el-val x) (entries-shifted p (x .val) (values-of v) 0 (length v) ∙ entries-of-values p v)
+
+values-below : {p : ℕ} → 0 < p → (n : ℕ) (v : List (Fp p)) → AllBelow p (take n (values-of v))
+values-below h zero v = tt
+values-below h (suc n) [] = tt
+values-below h (suc n) (x ∷ v) = (val-lt h x, values-below h n v)
+
+-- what the division of lists says of their polynomials
+pub divided-by-means : (p : ℕ) (P : Prime p) (G f : List ℕ) → 0 < length G → Falling p keys G
+    → Means (Modulo p P) (poly p P f) (poly p P G) (divided-by p P G f)
+unfolding divided-by
+divided-by-means p P [] f l h = absurd (omega arith)
+divided-by-means p P (t ∷ ts) f l h = division-means (Modulo p P) most-steps (terms-of p P f) (term-of p P t) (terms-of p P ts) (poly-lead p P t ts keys h)
+
+module _ (c : Call) (pass : Passes (table c)) (listed : Listed (c .modulus)) where
+  abbrev p : ℕ
+  p = c .modulus
+
+  abbrev P : Prime (c .modulus)
+  P = prime c listed
+
+  -- the numbers and the terms are the candidate's
+  abbrev pub Sound : Computed → Type 0
+  Sound unanswered = Unit {0}
+  Sound (answered number degree bad unlucky kept terms) =
+      Candidate c (record { found = report number degree bad unlucky kept (length terms); output = written terms (c .output); work = cleared (c .work) })
+
+  abbrev looks : List ImageRecord
+  looks = looks-of c
+
+  module _ (d : ℕ) (at-least : AtLeast (suc d) (sizes-of looks)) (k : Kept (Numbers c listed)) (ks : List (Kept (Numbers c listed)))
+      (kept : kept-of P (suc d) (lent-points c listed) looks ≡ k ∷ ks) where
+    abbrev Settled : Verdict → Type 0
+    Settled unsettled = Unit {0}
+    Settled (settled number terms) = Candidate c (assembled.result c pass listed d at-least k ks kept number terms)
+
+    abbrev rows : List (List (Fp (c .modulus)))
+    rows = all-rows (Numbers c listed) (monomials c listed) k ks
+
+    module _ (v : List (Fp (c .modulus))) (only : linear.OnlySolution (Numbers c listed) (length (c .skeleton) + length ks) rows v) where
+      abbrev G : List ℕ
+      G = monic-terms p (c .skeleton) (take (length (c .skeleton)) (values-of v))
+
+      length-values : length (values-of v) ≡ length (c .skeleton) + length ks
+      length-values = length-map v (λ (x : Fp p). x .val) ∙ only .0 .unknowns
+
+      solves : linear.OnlySolution (Numbers c listed) (length (c .skeleton) + length ks) rows (entries p (values-of v) 0 (length (c .skeleton) + length ks))
+      solves = subst (linear.OnlySolution (Numbers c listed) (length (c .skeleton) + length ks) rows)
+          (sym (ap (entries p (values-of v) 0) (sym (only .0 .unknowns)) ∙ entries-of-values p v)) only
+
+      long : length (c .skeleton) ≤ length (values-of v)
+      long = let e = length-values in omega arith
+
+      below : AllBelow p (take (length (c .skeleton)) (values-of v))
+      below = values-below (prime-positive P) (length (c .skeleton)) v
+
+      tried-settles : (first second : Outcome) → Means (Numbers c listed) (poly p P (c .first-list)) (poly p P G) first
+          → Means (Numbers c listed) (poly p P (c .second-list)) (poly p P G) second → Settled (tried G first second)
+      unfolding tried
+      tried-settles divides divides a b = assembled.answer-accepted c pass listed d at-least k ks kept (values-of v) solves long below (a, b)
+      tried-settles divides does-not a b =
+          assembled.answer-rejected c pass listed d at-least k ks kept (values-of v) solves long below (λ both. b (both .1))
+      tried-settles divides open-still a b = tt
+      tried-settles does-not o a b =
+          assembled.answer-rejected c pass listed d at-least k ks kept (values-of v) solves long below (λ both. a (both .0))
+      tried-settles open-still o a b = tt
+
+      division-settles : Settled (by-division p P (c .first-list) (c .second-list) (c .skeleton) (c .points) G)
+      division-settles =
+          let g = assembled.list c pass listed d at-least k ks kept (values-of v) solves long below in
+          tried-settles (divided-by p P G (c .first-list)) (divided-by p P G (c .second-list))
+          (divided-by-means p P G (c .first-list) (g .some) (g .falls)) (divided-by-means p P G (c .second-list) (g .some) (g .falls))
+
+    answer-settles : (a : Answer (Fp (c .modulus))) → Meets (Numbers c listed) (length (c .skeleton) + length ks) rows a
+        → Settled (by-answer p P (c .first-list) (c .second-list) (c .skeleton) (c .points) a)
+    unfolding by-answer
+    answer-settles none h = assembled.answer-none c pass listed d at-least k ks kept h
+    answer-settles (one v) h = division-settles v h
+    answer-settles (several v w) h = assembled.answer-several c pass listed d at-least k ks kept v w h
+
+    counts-sound : (v : Verdict) → Settled v → Sound (with-counts p P (c .first-list) (c .second-list) (c .skeleton) (c .points) d (sizes-of looks) v)
+    unfolding with-counts
+    counts-sound unsettled h = tt
+    counts-sound (settled number terms) h = h
+
+  kept-sound : (d : ℕ) → AtLeast (suc d) (sizes-of looks) → (l : List (Kept (Numbers c listed))) → kept-of P (suc d) (lent-points c listed) looks ≡ l
+      → Sound (by-kept p P (c .first-list) (c .second-list) (c .skeleton) (c .points) d (sizes-of looks) l)
+  unfolding by-kept
+  kept-sound d at-least [] e = tt
+  kept-sound d at-least (k ∷ ks) e = counts-sound d at-least k ks e _
+      (answer-settles d at-least k ks e _ (solve-meets (Numbers c listed) (length (c .skeleton) + length ks)
+      (all-rows (Numbers c listed) (monomials c listed) k ks)))
+
+  least-sound : (m : ℕ) → Least 0 (sizes-of looks) m → Sound (by-least p P (c .first-list) (c .second-list) (c .skeleton) (c .points) looks m)
+  unfolding by-least
+  least-sound zero h = assembled.answer-all-bad c pass listed (h .zero refl)
+  least-sound (suc d) h = kept-sound d (h .below) (kept-of P (suc d) (lent-points c listed) looks) refl
+
+  pub computed-sound : Sound (computed (c .modulus) (prime c listed) (c .first-list) (c .second-list) (c .skeleton) (c .points))
+  unfolding computed by-looks
+  computed-sound = least-sound (least (sizes-of looks)) (least-is 0 (sizes-of looks))

@@ -1,0 +1,3 @@
+-- The theorems.
+pub mod Proved
+pub mod Refuted

@@ -1,0 +1,106 @@
+-- P1 to P12 hold, and so do the rows beside them: they pass their test, by computing. No other result meets the contract of a row's call.
+-- P1 is also what the bytes of the example file are answered; and beside the table stand the images that its rows name and the products that give its
+-- polynomials, and rows of the quotient, the image and the reader.
+use mathlib.Core.Path.{_≡_, refl}
+use mathlib.Core.Bool.{true}
+use mathlib.Core.Logic.{Dec·not, Dec·and}
+use mathlib.Core.List.{List, [], _∷_, map}
+use Prim.Native.Nat.{ℕ, _≤_}
+use native.Mathlib.Decide.{ℕ-discrete, decLe, decLt}
+use lib.ListN.{length}
+use Rattle.algebra.specs.Ring.{pow}
+use Rattle.algebra.specs.Mono.{mono}
+use Rattle.algebra.specs.Laws.Four.{compare-by, compare}
+use Rattle.field.specs.Prime.{Prime}
+use Rattle.field.specs.Moduli.{listed}
+use Rattle.field.specs.modulus.Laws.{every, listed-decided}
+use Rattle.field.specs.Fp.{el, add, mul, neg, chase, inv}
+use Rattle.field.specs.element.Fp.{Fp-discrete}
+use Rattle.field.specs.fault.Decision.{placed-check, look, first-check, decided}
+use Rattle.poly.specs.Room.{work-room}
+use Rattle.poly.specs.loops.CellsModel.{cells}
+use Rattle.poly.specs.value.PowersModel.{power, powers}
+use Rattle.poly.specs.value.Model.{plus-term, value-from, value-of}
+use Rattle.poly.specs.euclid.Model.{size-to, scaled, monic, less-at, subtract, remainder, euclid, gcd}
+use Rattle.poly.specs.image.Model.{value-at, image-of-values, image-of}
+use Rattle.divisor.specs.Candidate.{points-of}
+use Rattle.divisor.specs.sorting.Model.{size-of, lesser, least-from, alike, kept-of}
+use Rattle.divisor.specs.monic.Model.{leading, scaled-terms}
+use Rattle.case_file.specs.Format.{follows, numbers, little}
+use Rattle.case_file.specs.Case.{added, flat}
+use Rattle.case_file.specs.Reading.{fault-number, reading, read-one, alone, read}
+use Rattle.case_file.specs.Written.{records, packed, bytes}
+use Rattle.case_file.specs.Examples.{example}
+use Rattle.console.specs.OfFile.{asked}
+use Rattle.console.specs.CandidateOfFile.{CandidateOfFile}
+use Rattle.proved_table.specs.Row.{result, Holds, Determined, QuotientHolds, Reads, Shows, Multiplies, Each}
+use Rattle.proved_table.specs.test.TermDivision.{each-at-most, plus, less, less-all, before-all, leads, divided, division}
+use Rattle.proved_table.specs.test.Computed.{tried, divided-by, by-answer, with-counts, by-kept, by-least, by-looks, computed}
+use Rattle.proved_table.specs.test.Decisions.{count-decided, not-below-decided, key-decided, term-decided, number-decided, checks-append}
+use Rattle.proved_table.specs.test.Decisions.{list-checks, skeleton-checks, points-checks, point-checks, checks, image-checks}
+use Rattle.proved_table.specs.test.Rows.{same-numbers, agrees, passes, answers, test, image-passes, image-agrees, image-test}
+use Rattle.proved_table.specs.test.Rows.{multiplies, right-lists, quotient-agrees, quotient-test}
+use Rattle.proved_table.specs.test.RowsLaws.{tested, holds-determined, quotient-tested, image-tested, multiplied, each-tested, each-follows}
+use Rattle.proved_table.specs.MoreRows.{more-rows, quotients, more-images, files}
+use Rattle.proved_table.specs.Table.{images, products, p1, table}
+
+pub table-passes : (every test table ≡ true) × (every test more-rows ≡ true)
+unfolding ℕ-discrete decLe decLt mono pow listed listed-decided el add mul neg chase inv Fp-discrete Dec·not Dec·and placed-check look first-check
+    decided cells power powers plus-term value-from value-of size-to scaled monic less-at subtract remainder euclid gcd value-at image-of-values
+    image-of points-of size-of lesser least-from alike kept-of leading scaled-terms compare-by compare each-at-most plus less before-all leads
+    divided division tried divided-by by-answer with-counts by-kept by-least by-looks computed count-decided not-below-decided key-decided
+    term-decided number-decided checks-append list-checks skeleton-checks points-checks checks same-numbers agrees passes answers test
+table-passes = (refl, refl)
+
+pub table-holds : Each Holds table
+table-holds = each-tested test Holds tested table (table-passes .0)
+
+-- the rows beside P1 to P12 hold
+pub more-rows-hold : Each Holds more-rows
+more-rows-hold = each-tested test Holds tested more-rows (table-passes .1)
+
+-- no other result meets the contract of a row's call
+pub table-determined : Each Determined table
+table-determined = each-follows Holds Determined holds-determined table table-holds
+
+-- the images that the rows name are those, and so are the images beside them
+images-pass : (every image-test images ≡ true) × (every image-test more-images ≡ true)
+unfolding ℕ-discrete decLe decLt listed listed-decided el add mul neg chase inv Dec·not Dec·and placed-check look first-check decided cells power
+    powers plus-term value-from value-of size-to scaled monic less-at subtract remainder euclid gcd value-at image-of-values image-of
+    count-decided not-below-decided key-decided term-decided number-decided checks-append list-checks point-checks image-checks same-numbers
+    image-passes image-agrees image-test
+images-pass = (refl, refl)
+
+pub images-hold : Each Shows images
+images-hold = each-tested image-test Shows image-tested images (images-pass .0)
+
+pub more-images-hold : Each Shows more-images
+more-images-hold = each-tested image-test Shows image-tested more-images (images-pass .1)
+
+-- the quotients are those
+pub quotients-hold : Each QuotientHolds quotients
+unfolding ℕ-discrete decLe decLt listed listed-decided el add mul neg chase inv Fp-discrete Dec·not Dec·and placed-check look first-check decided
+    compare-by compare each-at-most plus less less-all before-all leads divided division divided-by count-decided not-below-decided key-decided
+    term-decided list-checks same-numbers right-lists multiplies quotient-agrees quotient-test
+quotients-hold = each-tested quotient-test QuotientHolds quotient-tested quotients refl
+
+-- the files are read so
+pub files-hold : Each Reads files
+unfolding read read-one reading alone fault-number added flat follows numbers little records packed bytes
+files-hold = (refl, (refl, (refl, (refl, (refl, tt)))))
+
+-- P11: as values y⁷ and y agree everywhere modulo 7
+pub agree-as-values : map (λ y. power 7 y 7) (0 ∷ 1 ∷ 2 ∷ 3 ∷ 4 ∷ 5 ∷ 6 ∷ []) ≡ (0 ∷ 1 ∷ 2 ∷ 3 ∷ 4 ∷ 5 ∷ 6 ∷ [])
+unfolding power
+agree-as-values = refl
+
+-- the lists that are given as products are those
+pub products-hold : (P : Prime 17) → Each (Multiplies 17 P) products
+unfolding decLe decLt el add mul neg Fp-discrete compare-by compare plus less less-all multiplies
+products-hold P = each-tested (multiplies 17 P) (Multiplies 17 P) (multiplied 17 P) products refl
+
+-- the candidate of the example file is P1's record, with P1's terms first in the output
+pub example-answered : (output work : List ℕ) → length (p1 .skeleton) ≤ length output → work-room ≤ length work
+    → CandidateOfFile output work example (result p1 output work)
+unfolding read read-one reading alone fault-number added flat follows numbers little
+example-answered output work long room = asked refl _ (table-holds .0 output work long room)

@@ -1,0 +1,68 @@
+-- The contracts refute the wrong results: each passes its test, by computing.
+use mathlib.Core.Path.{refl}
+use mathlib.Core.Logic.{Dec·not, Dec·and}
+use native.Mathlib.Decide.{ℕ-discrete, decLe, decLt}
+use Rattle.algebra.specs.Ring.{pow}
+use Rattle.algebra.specs.Mono.{mono}
+use Rattle.algebra.specs.Laws.Four.{compare-by, compare}
+use Rattle.field.specs.Moduli.{listed}
+use Rattle.field.specs.modulus.Laws.{listed-decided}
+use Rattle.field.specs.Fp.{el, add, mul, neg, chase, inv}
+use Rattle.field.specs.element.Fp.{Fp-discrete}
+use Rattle.field.specs.fault.Decision.{placed-check, look, first-check, decided}
+use Rattle.poly.specs.loops.CellsModel.{cells}
+use Rattle.poly.specs.value.PowersModel.{power, powers}
+use Rattle.poly.specs.value.Model.{plus-term, value-from, value-of}
+use Rattle.poly.specs.euclid.Model.{size-to, scaled, monic, less-at, subtract, remainder, euclid, gcd}
+use Rattle.poly.specs.image.Model.{value-at, image-of-values, image-of}
+use Rattle.divisor.specs.Candidate.{points-of}
+use Rattle.divisor.specs.sorting.Model.{size-of, lesser, least-from, alike, kept-of}
+use Rattle.divisor.specs.monic.Model.{leading, scaled-terms}
+use Rattle.proved_table.specs.test.TermDivision.{each-at-most, plus, less, less-all, before-all, leads, divided, division}
+use Rattle.proved_table.specs.test.Computed.{tried, divided-by, by-answer, with-counts, by-kept, by-least, by-looks, computed}
+use Rattle.proved_table.specs.test.Decisions.{count-decided, not-below-decided, key-decided, term-decided, number-decided, checks-append}
+use Rattle.proved_table.specs.test.Decisions.{list-checks, skeleton-checks, points-checks, point-checks, checks, image-checks}
+use Rattle.case_file.specs.Format.{follows, numbers, little}
+use Rattle.case_file.specs.Case.{added, flat}
+use Rattle.case_file.specs.Reading.{fault-number, reading, read-one, alone, read}
+use Rattle.case_file.specs.Written.{records, packed, bytes}
+use Rattle.case_file.specs.Handed.{padded}
+use Rattle.proved_table.specs.Row.{Each}
+use Rattle.proved_table.specs.test.Rows.{same-numbers, agrees, passes, answers, test, image-passes, image-agrees, image-test}
+use Rattle.proved_table.specs.test.Rows.{multiplies, right-lists, quotient-agrees, quotient-test}
+use Rattle.proved_table.specs.test.RowsLaws.{each-tested}
+use Rattle.proved_table.specs.Wrong.{Refuted, QuotientRefuted, ImageRefuted, FileRefuted}
+use Rattle.proved_table.specs.WrongResults.{wrong-results}
+use Rattle.proved_table.specs.WrongServices.{wrong-quotients, wrong-images, wrong-files}
+use Rattle.proved_table.specs.test.Wrong.{clash, left-full, differs, wrong-test, wrong-quotient-test, wrong-image-test, file-numbers, wrong-file-test}
+use Rattle.proved_table.specs.test.WrongLaws.{refuted, quotient-refuted, image-refuted, file-refuted}
+
+-- the contract of the candidate refutes each of its wrong results
+pub wrong-results-refuted : Each Refuted wrong-results
+unfolding ℕ-discrete decLe decLt mono pow listed listed-decided el add mul neg chase inv Fp-discrete Dec·not Dec·and placed-check look first-check
+    decided cells power powers plus-term value-from value-of size-to scaled monic less-at subtract remainder euclid gcd value-at image-of-values
+    image-of points-of size-of lesser least-from alike kept-of leading scaled-terms compare-by compare each-at-most plus less before-all leads
+    divided division tried divided-by by-answer with-counts by-kept by-least by-looks computed count-decided not-below-decided key-decided
+    term-decided number-decided checks-append list-checks skeleton-checks points-checks checks same-numbers agrees passes answers test
+    clash left-full differs wrong-test
+wrong-results-refuted = each-tested wrong-test Refuted refuted wrong-results refl
+
+-- the contract of the quotient
+pub wrong-quotients-refuted : Each QuotientRefuted wrong-quotients
+unfolding ℕ-discrete decLe decLt listed listed-decided el add mul neg chase inv Fp-discrete Dec·not Dec·and placed-check look first-check decided
+    compare-by compare each-at-most plus less less-all before-all leads divided division divided-by count-decided not-below-decided key-decided
+    term-decided list-checks same-numbers right-lists multiplies quotient-agrees quotient-test clash left-full differs wrong-quotient-test
+wrong-quotients-refuted = each-tested wrong-quotient-test QuotientRefuted quotient-refuted wrong-quotients refl
+
+-- of the image
+pub wrong-images-refuted : Each ImageRefuted wrong-images
+unfolding ℕ-discrete decLe decLt listed listed-decided el add mul neg chase inv Dec·not Dec·and placed-check look first-check decided cells power
+    powers plus-term value-from value-of size-to scaled monic less-at subtract remainder euclid gcd value-at image-of-values image-of
+    count-decided not-below-decided key-decided term-decided number-decided checks-append list-checks point-checks image-checks same-numbers
+    image-passes image-agrees image-test clash wrong-image-test
+wrong-images-refuted = each-tested wrong-image-test ImageRefuted image-refuted wrong-images refl
+
+-- of the reader
+pub wrong-files-refuted : Each FileRefuted wrong-files
+unfolding read read-one reading alone fault-number added flat follows numbers little padded records packed bytes clash file-numbers wrong-file-test
+wrong-files-refuted = each-tested wrong-file-test FileRefuted file-refuted wrong-files refl
