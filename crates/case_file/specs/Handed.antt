@@ -10,7 +10,7 @@ use Rattle.case_file.specs.declared.Counts.{Counts}
 use Rattle.case_file.specs.declared.Contents.{Contents}
 use Rattle.field.specs.Refusal.{none}
 use Rattle.field.specs.Refusal as refusal
-use Rattle.field.specs.declared.Fault.{Fault}
+use Rattle.field.specs.declared.faults.Fault.{Fault}
 
 abbrev pub case : Reading → Case
 case (whole c at) = c

@@ -2,7 +2,7 @@
 use Prim.Native.Nat.{ℕ}
 use mathlib.Core.List.{List}
 use lib.ListN.{take}
-use Rattle.field.specs.declared.Fault.{Fault}
+use Rattle.field.specs.declared.faults.Fault.{Fault}
 use Rattle.case_file.specs.Format.{enough}
 use Rattle.case_file.specs.Reading.{Reading}
 use Rattle.case_file.proofs.Settled.{settled}

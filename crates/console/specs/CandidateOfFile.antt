@@ -3,7 +3,7 @@ use Prim.Native.Nat.{ℕ}
 use mathlib.Core.List.{List}
 use lib.ListN.{getD}
 use Rattle.io.specs.Counts.{Counts}
-use Rattle.field.specs.declared.Fault.{Fault}
+use Rattle.field.specs.declared.faults.Fault.{Fault}
 use Rattle.case_file.specs.Format.{modulus-kind, first-kind, second-kind, skeleton-kind, point-kind}
 use Rattle.case_file.specs.Reading.{Reading}
 use Rattle.case_file.specs.Handed.{list}

@@ -13,7 +13,7 @@ use Rattle.field.specs.modulus.Laws.{listed-prime}
 use Rattle.field.specs.Modulo.{Modulo}
 use Rattle.field.specs.Numbers.{SKELETON_COUNT, SKELETON_KEY, POINTS_COUNT, POINT_NUMBER}
 use Rattle.field.specs.Refusal.{Line, line, whole, first, Refuses, Passes}
-use Rattle.field.specs.declared.Fault.{Fault}
+use Rattle.field.specs.declared.faults.Fault.{Fault}
 use Rattle.poly.specs.Keys.{exponents}
 use Rattle.poly.specs.Terms.{Polynomial, terms-of, numbers-of}
 use Rattle.poly.specs.PointValue.{Point}

@@ -9,7 +9,7 @@ use Rattle.algebra.specs.Series.{Seq}
 use Rattle.algebra.specs.Field.{Field}
 use Rattle.field.specs.Moduli.{Listed}
 use Rattle.field.specs.Refusal.{Line, Refuses, Passes}
-use Rattle.field.specs.declared.Fault.{Fault}
+use Rattle.field.specs.declared.faults.Fault.{Fault}
 use Rattle.poly.specs.Terms.{Polynomial}
 use Rattle.poly.specs.PointValue.{Point}
 use Rattle.poly.specs.PointImage.{Bad, Image}

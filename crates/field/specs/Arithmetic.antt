@@ -7,9 +7,9 @@ use Rattle.field.specs.Moduli.{Listed}
 use Rattle.field.specs.Numbers.{MODULUS, OPERAND, INVERSE_OF_ZERO}
 use Rattle.field.specs.Refusal.{Line, line, placed, whole, none, Refuses, Passes}
 use Rattle.field.specs.Contract.{element, sum-of, difference-of, product-of, Inverse}
-use Rattle.field.specs.declared.Fault.{Fault}
-use Rattle.field.specs.declared.Element.{Element}
-use Rattle.field.specs.declared.Answer.{Answer}
+use Rattle.field.specs.declared.faults.Fault.{Fault}
+use Rattle.field.specs.declared.elements.Element.{Element}
+use Rattle.field.specs.declared.services.Answer.{Answer}
 
 -- the modulus is not in the list; the first operand is at least p
 abbrev pub first-operand : Element → List Line

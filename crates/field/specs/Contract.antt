@@ -1,16 +1,14 @@
 -- What the operations of `Element` ask for and promise, in plain numbers.
 use mathlib.Core.Path.{_≡_}
-use Prim.Native.Nat.{ℕ, _+_, _-_, _*_, _%_, _<_}
+use Prim.Native.Nat.{ℕ, _+_, _-_, _*_, _%_, _≤_, _<_}
 use Rattle.field.specs.Moduli.{Listed}
-use Rattle.field.specs.declared.Element.{Element}
+use Rattle.field.specs.declared.elements.Element.{Element}
 
 abbrev pub element : ℕ → ℕ → Element
 element modulus value = record { modulus = modulus; value = value }
 
--- two numbers of one listed modulus
+-- two numbers below the modulus
 pub record Fit (a b : Element) : Type 0 where
-  pub is-listed : Listed (a .modulus)
-  pub same : b .modulus ≡ a .modulus
   pub below : a .value < a .modulus
   pub other-below : b .value < a .modulus
 
@@ -28,6 +26,18 @@ difference-of a b = element (a .modulus) ((a .value + (a .modulus - b .value)) %
 
 abbrev pub product-of : Element → Element → Element
 product-of a b = element (a .modulus) ((a .value * b .value) % a .modulus)
+
+-- a sum with a product
+abbrev pub plus-product-of : Element → Element → Element → Element
+plus-product-of r a b = element (r .modulus) ((r .value + a .value * b .value) % r .modulus)
+
+-- the difference to a product: the modulus less the first factor is its opposite
+pub record Subtracts (r a : Element) : Type 0 where
+  pub positive : 0 < r .modulus
+  pub within : a .value ≤ r .modulus
+
+abbrev pub minus-product-of : Element → Element → Element → Element
+minus-product-of r a b = element (r .modulus) ((r .value + (r .modulus - a .value) * b .value) % r .modulus)
 
 -- the inverse by its law
 pub record Inverse (a r : Element) : Type 0 where

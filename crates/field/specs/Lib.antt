@@ -1,5 +1,4 @@
--- What the layers above cite of the arithmetic. Definitions: Prime, Moduli, Fp, Residues, Modulo, Numbers, Refusal, Contract, Arithmetic;
--- the others hold laws.
+-- Layer 1, arithmetic: definitions; then, for each source module, its laws.
 pub mod Prime
 pub mod Moduli
 pub mod Fp
@@ -10,6 +9,6 @@ pub mod Refusal
 pub mod Contract
 pub mod Arithmetic
 pub mod modulus
-pub mod element
-pub mod fault
+pub mod elements
+pub mod faults
 pub mod services

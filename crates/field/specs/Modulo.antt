@@ -4,9 +4,9 @@ use Rattle.algebra.specs.Field.{Field}
 use Rattle.field.specs.Prime.{Prime}
 use Rattle.field.specs.modulus.Prime.{prime-positive}
 use Rattle.field.specs.Fp.{el, inv}
-use Rattle.field.specs.element.Fp.{Fp-discrete}
+use Rattle.field.specs.elements.Fp.{Fp-discrete}
 use Rattle.field.specs.Residues.{Residues}
-use Rattle.field.specs.element.Inverse.{mul-inv, one≢zero}
+use Rattle.field.specs.elements.Inverse.{mul-inv, one≢zero}
 
 abbrev pub Modulo : (p : ℕ) → Prime p → Field
 Modulo p P =

@@ -2,7 +2,7 @@
 use Prim.Native.Nat.{ℕ, _<_}
 use Rattle.algebra.specs.Ring.{CommRing}
 use Rattle.field.specs.Fp.{Fp, el, add, mul, neg}
-use Rattle.field.specs.element.Fp.{Fp-set, Fp-add-assoc, Fp-add-comm, Fp-add-zero, Fp-add-neg, Fp-mul-assoc, Fp-mul-comm, Fp-mul-one, Fp-distrib}
+use Rattle.field.specs.elements.Fp.{Fp-set, Fp-add-assoc, Fp-add-comm, Fp-add-zero, Fp-add-neg, Fp-mul-assoc, Fp-mul-comm, Fp-mul-one, Fp-distrib}
 
 abbrev pub Residues : (p : ℕ) → 0 < p → CommRing
 Residues p positive =

@@ -3,7 +3,7 @@ use Prim.Native.Nat.{ℕ}
 use mathlib.Core.Path.{_≡_, sym, _∙_, ap}
 use mathlib.Core.List.{List}
 use lib.ListN.{length}
-use Rattle.field.specs.declared.Element.{Element}
+use Rattle.field.specs.declared.elements.Element.{Element}
 use Rattle.field.specs.Refusal.{Tested}
 use Rattle.field.specs.Arithmetic.{AskSum, AskDifference, AskProduct, AskInverse}
 use Rattle.field.specs.services.Laws.{sum-determined, difference-determined, product-determined, inverse-determined}

@@ -1,8 +1,8 @@
 -- How what a service answers is laid out in what a caller of the static library has lent. A record is numbers, in the order of docs/RULE.md.
 use mathlib.Core.List.{List, [], _∷_}
 use Prim.Native.Nat.{ℕ}
-use Rattle.field.specs.declared.Fault.{Fault}
-use Rattle.field.specs.declared.Answer.{Answer}
+use Rattle.field.specs.declared.faults.Fault.{Fault}
+use Rattle.field.specs.declared.services.Answer.{Answer}
 use Rattle.poly.specs.declared.ImageRecord.{ImageRecord}
 use Rattle.poly.specs.QuotientCall.{QuotientResult}
 use Rattle.divisor.specs.Candidate.{Result}

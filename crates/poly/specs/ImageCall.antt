@@ -10,7 +10,7 @@ use Rattle.field.specs.modulus.Laws.{listed-prime}
 use Rattle.field.specs.Modulo.{Modulo}
 use Rattle.field.specs.Numbers.{POINTS_COUNT, POINT_NUMBER, NO_GOOD_POINT}
 use Rattle.field.specs.Refusal.{Line, line, whole, first, fault, none, Refuses, Passes}
-use Rattle.field.specs.declared.Fault.{Fault}
+use Rattle.field.specs.declared.faults.Fault.{Fault}
 use Rattle.poly.specs.declared.ImageRecord.{ImageRecord}
 use Rattle.poly.specs.Terms.{Polynomial, terms-of}
 use Rattle.poly.specs.PointValue.{Point}

@@ -6,7 +6,7 @@ use denote.Ref.{RefT}
 use Prim.Native.Nat.{ℕ, _<_}
 use Rattle.field.specs.Numbers.{FIRST_COUNT, FIRST_TERM}
 use Rattle.field.specs.Refusal.{Line, line, whole, first, Refuses, Passes}
-use Rattle.field.specs.declared.Fault.{Fault}
+use Rattle.field.specs.declared.faults.Fault.{Fault}
 use Rattle.poly.specs.Keys.{exponents}
 use Rattle.poly.specs.Terms.{key-of}
 use Rattle.poly.specs.Lists.{most-terms, Count, WrongTerm}

@@ -10,7 +10,7 @@ use Rattle.field.specs.modulus.Laws.{listed-prime}
 use Rattle.field.specs.Modulo.{Modulo}
 use Rattle.field.specs.Numbers.{DOES_NOT_DIVIDE}
 use Rattle.field.specs.Refusal.{Line, fault, none, Refuses, Passes}
-use Rattle.field.specs.declared.Fault.{Fault}
+use Rattle.field.specs.declared.faults.Fault.{Fault}
 use Rattle.poly.specs.declared.QuotientRecord.{QuotientRecord}
 use Rattle.poly.specs.Keys.{keys}
 use Rattle.poly.specs.Terms.{poly}

@@ -3,7 +3,7 @@ use Prim.Native.Nat.{ℕ}
 use mathlib.Core.Path.{_≡_, refl, sym, _∙_, ap}
 use mathlib.Core.List.{List}
 use lib.ListN.{getD}
-use Rattle.field.specs.declared.Fault.{Fault}
+use Rattle.field.specs.declared.faults.Fault.{Fault}
 use Rattle.case_file.specs.declared.Counts.{Counts as CaseCounts}
 use Rattle.case_file.specs.Format.{modulus-kind}
 use Rattle.case_file.specs.Reading.{Reading, read}

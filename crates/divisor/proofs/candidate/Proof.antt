@@ -1,5 +1,5 @@
 -- `divisor::candidate` meets its contract: the fault of the table, or the answer. Assumes nothing.
-use Rattle.field.specs.fault.Laws.{tested-refuses, tested-passes}
+use Rattle.field.specs.faults.Laws.{tested-refuses, tested-passes}
 use Rattle.divisor.specs.Candidate.{Call, candidate-call, table, refused}
 use borrow.Author.Needs.{needs}
 use Rattle.divisor.proofs.candidate.Statement.{statement}

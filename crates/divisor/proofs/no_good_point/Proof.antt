@@ -1,7 +1,7 @@
 -- `divisor::no_good_point` meets its contract, from what its calls say. Assumes nothing.
 use mathlib.Core.Path.{ap}
 use borrow.Author.Needs.{needs}
-use Rattle.field.specs.declared.Fault.{Fault}
+use Rattle.field.specs.declared.faults.Fault.{Fault}
 use Rattle.poly.specs.Room.{work-room}
 use Rattle.poly.specs.rooms.Laws.{zeroed-all}
 use Rattle.divisor.proofs.no_good_point.Statement.{statement}

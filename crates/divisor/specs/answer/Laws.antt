@@ -8,7 +8,7 @@ use Rattle.field.specs.Moduli.{Listed}
 use Rattle.field.specs.Prime.{Prime}
 use Rattle.field.specs.Fp.{Fp}
 use Rattle.field.specs.Refusal.{fault, Passes}
-use Rattle.field.specs.declared.Fault.{Fault}
+use Rattle.field.specs.declared.faults.Fault.{Fault}
 use Rattle.divisor.specs.declared.CandidateRecord.{CandidateRecord}
 use Rattle.divisor.specs.declared.table.Kind.{Kind}
 use Rattle.divisor.specs.declared.table.Kind.the-variants.{None, One, Several}

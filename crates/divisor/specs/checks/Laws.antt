@@ -7,8 +7,8 @@ use native.Mathlib.Omega.{arith}
 use lib.ListN.{length, getD}
 use Rattle.field.specs.Numbers.{SKELETON_KEY, POINT_NUMBER}
 use Rattle.field.specs.Refusal.{fault, none, Tested}
-use Rattle.field.specs.fault.Laws.{placed-never, tested-line, tested-past, tested-end}
-use Rattle.field.specs.declared.Fault.{Fault}
+use Rattle.field.specs.faults.Laws.{placed-never, tested-line, tested-past, tested-end}
+use Rattle.field.specs.declared.faults.Fault.{Fault}
 use Rattle.poly.specs.Keys.{keys}
 use Rattle.poly.specs.Lists.{Count, WrongKey, above, not-below, WrongNumber}
 use Rattle.poly.specs.Search.{Searched}

@@ -8,7 +8,7 @@ use native.Mathlib.Omega.{arith}
 use lib.ListN.{length, getD}
 use Rattle.field.specs.Moduli.{Listed}
 use Rattle.field.specs.Refusal.{Passes}
-use Rattle.field.specs.fault.Laws.{never-placed}
+use Rattle.field.specs.faults.Laws.{never-placed}
 use Rattle.poly.specs.declared.ImageRecord.{ImageRecord}
 use Rattle.poly.specs.Keys.{keys}
 use Rattle.poly.specs.Lists.{Count, WrongKey, above, WrongNumber, of-lists}

@@ -8,7 +8,7 @@ use Rattle.algebra.specs.SeriesRing.{S4}
 use Rattle.algebra.specs.Monomial.{polynomial}
 use Rattle.field.specs.Moduli.{Listed}
 use Rattle.field.specs.Refusal.{Passes}
-use Rattle.field.specs.fault.Laws.{refuses-numbered}
+use Rattle.field.specs.faults.Laws.{refuses-numbered}
 use Rattle.poly.specs.Keys.{exponents, keys}
 use Rattle.poly.specs.Terms.{Polynomial}
 use Rattle.poly.specs.PointValue.{x-degree}

@@ -10,7 +10,7 @@ use Rattle.algebra.specs.Monomial.{Term, polynomial}
 use Rattle.algebra.specs.Laws.Ring.{zero-add}
 use Rattle.algebra.specs.Laws.Four.{same-exponents, below-irreflexive}
 use Rattle.algebra.specs.Laws.Monomial.{monomial-at, monomial-off, coef-ext}
-use Rattle.field.specs.fault.Decision.{either-decided}
+use Rattle.field.specs.faults.Decision.{either-decided}
 use Rattle.poly.specs.Terms.{Polynomial}
 use Rattle.divisor.specs.Demands.{Proposed, OnlyProposed}
 

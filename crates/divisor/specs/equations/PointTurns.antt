@@ -9,8 +9,8 @@ use lib.ListN.{getD}
 use Rattle.algebra.specs.Field.{Field}
 use Rattle.algebra.specs.Four.{Exponents}
 use Rattle.field.specs.Fp.{el}
-use Rattle.field.specs.element.Fp.{el-mod}
-use Rattle.field.specs.element.Link.{opposite-el}
+use Rattle.field.specs.elements.Fp.{el-mod}
+use Rattle.field.specs.elements.Link.{opposite-el}
 use Rattle.field.specs.Modulo.{Modulo}
 use Rattle.poly.specs.Keys.{exponents}
 use Rattle.poly.specs.value.PowersModel.{powers}

@@ -15,7 +15,7 @@ use Rattle.algebra.specs.Laws.Mono.{mono-at, mono-off}
 use Rattle.field.specs.Prime.{Prime}
 use Rattle.field.specs.modulus.Prime.{prime-positive}
 use Rattle.field.specs.Fp.{Fp, el, mul, neg}
-use Rattle.field.specs.element.Link.{product-el}
+use Rattle.field.specs.elements.Link.{product-el}
 use Rattle.field.specs.Modulo.{Modulo}
 use Rattle.poly.specs.Keys.{exponents}
 use Rattle.poly.specs.value.PowersModel.{powers}

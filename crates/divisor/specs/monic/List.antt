@@ -12,8 +12,8 @@ use Rattle.algebra.specs.Laws.Field.{inv-nonzero, no-zero-divisors}
 use Rattle.field.specs.Prime.{Prime}
 use Rattle.field.specs.modulus.Prime.{prime-positive}
 use Rattle.field.specs.Fp.{Fp, el, inv}
-use Rattle.field.specs.element.Fp.{el-nonzero, el-val, val-lt}
-use Rattle.field.specs.element.Link.{product-el}
+use Rattle.field.specs.elements.Fp.{el-nonzero, el-val, val-lt}
+use Rattle.field.specs.elements.Link.{product-el}
 use Rattle.field.specs.Modulo.{Modulo}
 use Rattle.poly.specs.Keys.{exponents, keys}
 use Rattle.poly.specs.Terms.{Polynomial, key-of, terms-of, coefficient-limit}

@@ -12,8 +12,8 @@ use Rattle.algebra.specs.Field.{Field}
 use Rattle.algebra.specs.Monomial.{Term}
 use Rattle.field.specs.Prime.{Prime}
 use Rattle.field.specs.Fp.{Fp, el, inv, mul}
-use Rattle.field.specs.element.Fp.{el-nonzero, el-val, val-of-el}
-use Rattle.field.specs.element.Link.{product-el}
+use Rattle.field.specs.elements.Fp.{el-nonzero, el-val, val-of-el}
+use Rattle.field.specs.elements.Link.{product-el}
 use Rattle.field.specs.Modulo.{Modulo}
 use Rattle.poly.specs.Keys.{key, exponents}
 use Rattle.poly.specs.Terms.{Polynomial, numbers-of, keyed}

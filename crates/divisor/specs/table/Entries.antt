@@ -11,8 +11,8 @@ use Rattle.algebra.specs.Laws.Solver.{_⊕_, _⊗_, ⊝, _≗_, k0, ring2}
 use Rattle.field.specs.Prime.{Prime}
 use Rattle.field.specs.modulus.Prime.{prime-positive}
 use Rattle.field.specs.Fp.{Fp, el, add, mul, neg, inv}
-use Rattle.field.specs.element.Fp.{el-nonzero, el-val}
-use Rattle.field.specs.element.Link.{product-el, plus-times-el, opposite-el}
+use Rattle.field.specs.elements.Fp.{el-nonzero, el-val}
+use Rattle.field.specs.elements.Link.{product-el, plus-times-el, opposite-el}
 use Rattle.field.specs.Modulo.{Modulo}
 use Rattle.divisor.specs.declared.table.Row.{Row}
 use Rattle.divisor.specs.table.Model.{COLUMNS, cell, minus, scaled-row}

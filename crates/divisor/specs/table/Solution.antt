@@ -17,8 +17,8 @@ use Rattle.field.specs.modulus.Laws.{listed-positive}
 use Rattle.field.specs.Prime.{Prime}
 use Rattle.field.specs.modulus.Prime.{prime-positive}
 use Rattle.field.specs.Fp.{el, add, neg}
-use Rattle.field.specs.element.Fp.{el-mod}
-use Rattle.field.specs.element.Link.{plus-times-el, opposite-el}
+use Rattle.field.specs.elements.Fp.{el-mod}
+use Rattle.field.specs.elements.Link.{plus-times-el, opposite-el}
 use Rattle.field.specs.Modulo.{Modulo}
 use Rattle.poly.specs.loops.Places.{replicate-all, set-all}
 use Rattle.divisor.specs.declared.table.Row.{Row}

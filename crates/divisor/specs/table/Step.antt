@@ -12,7 +12,7 @@ use Rattle.algebra.specs.Field.{Field}
 use Rattle.algebra.specs.Models.Elimination.{Table as Equations, solvable, failed, free, pivot, times, plus-times, step}
 use Rattle.field.specs.Prime.{Prime}
 use Rattle.field.specs.Fp.{Fp, el, neg, inv}
-use Rattle.field.specs.element.Fp.{el-nonzero}
+use Rattle.field.specs.elements.Fp.{el-nonzero}
 use Rattle.field.specs.Modulo.{Modulo}
 use Rattle.divisor.specs.declared.table.Row.{Row}
 use Rattle.divisor.specs.declared.table.Table.{Table}

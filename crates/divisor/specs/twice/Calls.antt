@@ -10,8 +10,8 @@ use lib.Seq.{length-take-le, getD-take, getD-drop, getD-append-add}
 use Rattle.field.specs.Prime.{Prime}
 use Rattle.field.specs.Fp.{el}
 use Rattle.field.specs.Refusal.{first, Refuses, Passes, refused as refused-by}
-use Rattle.field.specs.fault.Laws.{placed-never, refuses-numbered, tested-stops, tested-refuses, not-passes-and-refuses}
-use Rattle.field.specs.declared.Fault.{Fault}
+use Rattle.field.specs.faults.Laws.{placed-never, refuses-numbered, tested-stops, tested-refuses, not-passes-and-refuses}
+use Rattle.field.specs.declared.faults.Fault.{Fault}
 use Rattle.poly.specs.Lists.{Count, WrongNumber}
 use Rattle.poly.specs.Room.{of-rooms}
 use Rattle.poly.specs.ImageCall.{point-of}

@@ -10,7 +10,7 @@ use Rattle.algebra.specs.Monomial.{Term}
 use Rattle.field.specs.Prime.{Prime}
 use Rattle.field.specs.modulus.Prime.{prime-positive}
 use Rattle.field.specs.Fp.{el}
-use Rattle.field.specs.element.Fp.{el-val, val-lt}
+use Rattle.field.specs.elements.Fp.{el-val, val-lt}
 use Rattle.field.specs.Moduli.{Listed}
 use Rattle.field.specs.modulus.Laws.{listed-below}
 use Rattle.field.specs.Modulo.{Modulo}

@@ -8,16 +8,16 @@ use native.Mathlib.Omega.{arith}
 use lib.Dec.{T}
 use Rattle.field.specs.modulus.Laws.{listed-stable}
 use Rattle.field.specs.Fp.{el}
-use Rattle.field.specs.element.Fp.{el-below-inj}
-use Rattle.field.specs.element.Inverse.{inverse-unique}
-use Rattle.field.specs.element.Link.{inverse-mul}
+use Rattle.field.specs.elements.Fp.{el-below-inj}
+use Rattle.field.specs.elements.Inverse.{inverse-unique}
+use Rattle.field.specs.elements.Link.{inverse-mul}
 use Rattle.field.specs.Refusal.{Line, none, Passes, Tested}
-use Rattle.field.specs.fault.Laws.{OnePlaceEach, placed-one-place, whole-one-place, never-placed, refuses-determined, not-passes-and-refuses, numbered, tested-passes, tested-refuses}
+use Rattle.field.specs.faults.Laws.{OnePlaceEach, placed-one-place, whole-one-place, never-placed, refuses-determined, not-passes-and-refuses, numbered, tested-passes, tested-refuses}
 use Rattle.field.specs.Contract.{element, Fit, Invertible, sum-of, difference-of, product-of, Inverse}
 use Rattle.field.specs.Arithmetic.{two-operands, inverse-operand, Arithmetic, refused, answered, AskSum, AskDifference, AskProduct, AskInverse}
-use Rattle.field.specs.declared.Fault.{Fault}
-use Rattle.field.specs.declared.Element.{Element}
-use Rattle.field.specs.declared.Answer.{Answer}
+use Rattle.field.specs.declared.faults.Fault.{Fault}
+use Rattle.field.specs.declared.elements.Element.{Element}
+use Rattle.field.specs.declared.services.Answer.{Answer}
 
 abbrev pub answer : Fault → Element → Answer
 answer f e = record { fault = f; element = e }
@@ -76,8 +76,6 @@ operands-fit a b h =
     let first = never-placed (h .1 .0) in
     let second = never-placed (h .1 .1 .0) in
     record {
-      is-listed = listed-stable (a .modulus) (never-placed (h .0));
-      same = elim (ℕ-discrete (b .modulus) (a .modulus)) [ yes e ↦ e | no n ↦ absurd (second (inr n)) ];
       below = omega arith;
       other-below = let large : ¬ (a .modulus ≤ b .value) = λ l. second (inl l) in omega arith;
     }

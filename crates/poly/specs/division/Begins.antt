@@ -10,9 +10,9 @@ use Rattle.field.specs.Prime.{Prime}
 use Rattle.field.specs.Fp.{el, inv}
 use Rattle.field.specs.modulus.Laws.{listed-prime, listed-positive}
 use Rattle.field.specs.Modulo.{Modulo}
-use Rattle.field.specs.element.Link.{inverse-val}
+use Rattle.field.specs.elements.Link.{inverse-val}
 use Rattle.field.specs.Contract.{Invertible, Inverse}
-use Rattle.field.specs.declared.Element.{Element}
+use Rattle.field.specs.declared.elements.Element.{Element}
 use Rattle.poly.specs.Keys.{keys}
 use Rattle.poly.specs.Terms.{key-of, coefficient-of, poly}
 use Rattle.poly.specs.PointImage.{Divides}

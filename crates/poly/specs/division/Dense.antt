@@ -15,11 +15,11 @@ use Rattle.algebra.specs.Laws.Ring.{zero-add}
 use Rattle.algebra.specs.Laws.Solver.{_⊕_, _⊗_, _⊖_, ⊝, _≗_, k0, ring1, ring2, ring3, ring4}
 use Rattle.algebra.specs.Laws.Monomial.{monomial-at, monomial-off, monomial-add, monomial-zero, monomial-neg, monomial-mul}
 use Rattle.field.specs.Fp.{Fp, el, add, neg, mul}
-use Rattle.field.specs.element.Fp.{el-nonzero}
+use Rattle.field.specs.elements.Fp.{el-nonzero}
 use Rattle.field.specs.Prime.{Prime}
 use Rattle.field.specs.modulus.Prime.{prime-positive}
 use Rattle.field.specs.Modulo.{Modulo}
-use Rattle.field.specs.element.Link.{minus-times-el}
+use Rattle.field.specs.elements.Link.{minus-times-el}
 use Rattle.poly.specs.Keys.{exponents}
 use Rattle.poly.specs.Terms.{key-of, coefficient-of, term-of, poly}
 use Rattle.poly.specs.loops.Places.{set-all}

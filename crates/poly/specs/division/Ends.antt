@@ -16,8 +16,8 @@ use Rattle.algebra.specs.Division.{stop, Division}
 use Rattle.algebra.specs.Laws.Ring.{zero-add}
 use Rattle.algebra.specs.Laws.Division.{division-says}
 use Rattle.field.specs.Fp.{Fp, el, inv, mul}
-use Rattle.field.specs.element.Fp.{el-val, el-nonzero, Fp-mul-comm}
-use Rattle.field.specs.element.Inverse.{mul-inv}
+use Rattle.field.specs.elements.Fp.{el-val, el-nonzero, Fp-mul-comm}
+use Rattle.field.specs.elements.Inverse.{mul-inv}
 use Rattle.field.specs.Prime.{Prime}
 use Rattle.field.specs.modulus.Prime.{prime-positive}
 use Rattle.field.specs.modulus.Laws.{listed-below}

@@ -17,11 +17,11 @@ use Rattle.algebra.specs.Lead.{Lead}
 use Rattle.algebra.specs.Division.{Sizes, Over, Goes, done, stop, step, Division}
 use Rattle.algebra.specs.Laws.Division.{under-step}
 use Rattle.field.specs.Fp.{Fp, el, mul}
-use Rattle.field.specs.element.Fp.{el-below-inj, Fp-mul-assoc, Fp-mul-one}
+use Rattle.field.specs.elements.Fp.{el-below-inj, Fp-mul-assoc, Fp-mul-one}
 use Rattle.field.specs.Prime.{Prime}
 use Rattle.field.specs.modulus.Prime.{prime-positive}
 use Rattle.field.specs.Modulo.{Modulo}
-use Rattle.field.specs.element.Link.{product-el}
+use Rattle.field.specs.elements.Link.{product-el}
 use Rattle.poly.specs.Keys.{exponents, keys}
 use Rattle.poly.specs.Terms.{key-of, coefficient-of, term-of, terms-of, poly, coefficient-limit, keyed}
 use Rattle.poly.specs.Lists.{Falling}

@@ -18,13 +18,13 @@ use Rattle.algebra.specs.Laws.Mono.{mono-low, mono-high, mono-ends}
 use Rattle.algebra.specs.Laws.GreatestCommon.{Associate}
 use Rattle.algebra.specs.Laws.Univariate.{less, greatest-less, over-lead-associate}
 use Rattle.field.specs.Fp.{Fp, el, add, mul, neg, inv}
-use Rattle.field.specs.element.Fp.{el-val, el-mod, el-inj, el-mul, el-nonzero}
+use Rattle.field.specs.elements.Fp.{el-val, el-mod, el-inj, el-mul, el-nonzero}
 use Rattle.field.specs.Prime.{Prime}
-use Rattle.field.specs.element.Inverse.{mul-inv}
+use Rattle.field.specs.elements.Inverse.{mul-inv}
 use Rattle.field.specs.modulus.Prime.{prime-positive}
 use Rattle.field.specs.Residues.{Residues}
 use Rattle.field.specs.Modulo.{Modulo}
-use Rattle.field.specs.element.Link.{minus-times-el}
+use Rattle.field.specs.elements.Link.{minus-times-el}
 use Rattle.poly.specs.Coefficients.{Eight, series}
 use Rattle.poly.specs.loops.Cells.{cells-at, cells-all, past-end}
 use Rattle.poly.specs.euclid.Model.{size, scaled, monic, less-at, subtract, remainder}

@@ -8,8 +8,8 @@ use Rattle.field.specs.Modulo.{Modulo}
 use Rattle.field.specs.Moduli.{Listed}
 use Rattle.field.specs.modulus.Laws.{listed-prime, listed-unique}
 use Rattle.field.specs.Refusal.{none, Passes, Tested}
-use Rattle.field.specs.fault.Laws.{OnePlaceEach, whole-one-place, first-one-place, one-place-append, refuses-determined, not-passes-and-refuses, passes-front, passes-back, tested-passes, tested-refuses}
-use Rattle.field.specs.declared.Fault.{Fault}
+use Rattle.field.specs.faults.Laws.{OnePlaceEach, whole-one-place, first-one-place, one-place-append, refuses-determined, not-passes-and-refuses, passes-front, passes-back, tested-passes, tested-refuses}
+use Rattle.field.specs.declared.faults.Fault.{Fault}
 use Rattle.poly.specs.declared.ImageRecord.{ImageRecord}
 use Rattle.poly.specs.Terms.{Polynomial, terms-of}
 use Rattle.poly.specs.PointValue.{Point}

@@ -10,7 +10,7 @@ use lib.ListN.{length, getD}
 use Rattle.field.specs.Prime.{Prime}
 use Rattle.field.specs.modulus.Prime.{prime-positive}
 use Rattle.field.specs.Fp.{Fp, el}
-use Rattle.field.specs.element.Fp.{el-nonzero}
+use Rattle.field.specs.elements.Fp.{el-nonzero}
 use Rattle.field.specs.Modulo.{Modulo}
 use Rattle.field.specs.Numbers.{NO_GOOD_POINT}
 use Rattle.field.specs.Refusal.{fault}

@@ -15,7 +15,7 @@ use Rattle.algebra.specs.Laws.Ring.{zero-add, add-cancel}
 use Rattle.algebra.specs.Laws.Monomial.{monomial-at, monomial-off}
 use Rattle.field.specs.Prime.{Prime}
 use Rattle.field.specs.Fp.{el}
-use Rattle.field.specs.element.Fp.{el-below-inj, el-nonzero}
+use Rattle.field.specs.elements.Fp.{el-below-inj, el-nonzero}
 use Rattle.field.specs.Modulo.{Modulo}
 use Rattle.poly.specs.Keys.{keys, exponents}
 use Rattle.poly.specs.Terms.{coefficient-limit, keyed, key-of, coefficient-of, term-of, terms-of, poly}

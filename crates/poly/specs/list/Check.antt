@@ -8,8 +8,8 @@ use native.Mathlib.Omega.{arith}
 use lib.ListN.{length, getD, length-map, List·getD-map}
 use Rattle.field.specs.Numbers.{FIRST_COUNT, FIRST_TERM}
 use Rattle.field.specs.Refusal.{fault, none, Tested, refused, passed}
-use Rattle.field.specs.fault.Laws.{OnePlaceEach, whole-one-place, first-one-place, placed-never, tested-line, tested-past, tested-end, tested-determined}
-use Rattle.field.specs.declared.Fault.{Fault}
+use Rattle.field.specs.faults.Laws.{OnePlaceEach, whole-one-place, first-one-place, placed-never, tested-line, tested-past, tested-end, tested-determined}
+use Rattle.field.specs.declared.faults.Fault.{Fault}
 use Rattle.poly.specs.Keys.{keys}
 use Rattle.poly.specs.Terms.{key-of, coefficient-of, coefficient-limit}
 use Rattle.poly.specs.Lists.{most-terms, Count, WrongKey, above, not-below, WrongTerm, wrong-key, coefficient-zero, WrongModulo, wrong-term, coefficient-large, of-lists}

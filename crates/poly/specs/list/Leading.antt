@@ -9,8 +9,8 @@ use lib.ListN.{length, getD, take, drop, take-append-drop, length-drop, length-a
 use lib.Seq.{length-take-le, getD-take, getD-drop, getD-append-add, take-append-seam}
 use denote.Ref.{RefT}
 use Rattle.field.specs.Refusal.{Passes, Tested}
-use Rattle.field.specs.fault.Laws.{never-placed, not-passes-and-refuses, tested-passes, tested-refuses}
-use Rattle.field.specs.declared.Fault.{Fault}
+use Rattle.field.specs.faults.Laws.{never-placed, not-passes-and-refuses, tested-passes, tested-refuses}
+use Rattle.field.specs.declared.faults.Fault.{Fault}
 use Rattle.poly.specs.Keys.{keys}
 use Rattle.poly.specs.Terms.{key-of}
 use Rattle.poly.specs.Lists.{WrongTerm, wrong-key}

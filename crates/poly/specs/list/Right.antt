@@ -9,7 +9,7 @@ use Rattle.field.specs.Moduli.{Listed}
 use Rattle.field.specs.modulus.Laws.{listed-stable}
 use Rattle.field.specs.Numbers.{FIRST_COUNT, FIRST_TERM, SECOND_COUNT, SECOND_TERM}
 use Rattle.field.specs.Refusal.{Passes}
-use Rattle.field.specs.fault.Laws.{never-placed}
+use Rattle.field.specs.faults.Laws.{never-placed}
 use Rattle.poly.specs.Keys.{keys}
 use Rattle.poly.specs.Lists.{most-terms, of-lists, Falling}
 use Rattle.poly.specs.list.Model.{of-terms}

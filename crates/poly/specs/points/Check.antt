@@ -7,8 +7,8 @@ use native.Mathlib.Omega.{arith}
 use lib.ListN.{length, getD}
 use Rattle.field.specs.Numbers.{POINTS_COUNT, POINT_NUMBER}
 use Rattle.field.specs.Refusal.{fault, none, Passes, Tested}
-use Rattle.field.specs.fault.Laws.{placed-never, never-placed, tested-line, tested-past, tested-end}
-use Rattle.field.specs.declared.Fault.{Fault}
+use Rattle.field.specs.faults.Laws.{placed-never, never-placed, tested-line, tested-past, tested-end}
+use Rattle.field.specs.declared.faults.Fault.{Fault}
 use Rattle.poly.specs.Lists.{WrongNumber}
 use Rattle.poly.specs.ImageCall.{of-point}
 use Rattle.poly.specs.Search.{Searched}

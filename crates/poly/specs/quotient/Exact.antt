@@ -8,7 +8,7 @@ use lib.ListN.{length}
 use Rattle.field.specs.modulus.Laws.{listed-prime}
 use Rattle.field.specs.Numbers.{DOES_NOT_DIVIDE}
 use Rattle.field.specs.Refusal.{fault, none, Passes}
-use Rattle.field.specs.declared.Fault.{Fault}
+use Rattle.field.specs.declared.faults.Fault.{Fault}
 use Rattle.poly.specs.Keys.{keys}
 use Rattle.poly.specs.Room.{work-room, zeroed, written, cleared}
 use Rattle.poly.specs.QuotientCall.{QuotientCall, quotient-table, Quotient, no-quotient, quotient}

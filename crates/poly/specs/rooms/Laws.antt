@@ -7,8 +7,8 @@ use borrow.Author.Fill.{fill-none, fill-more}
 use lib.ListN.{length, getD, set, drop, replicate, length-append, length-drop, length-replicate, getD-replicate, List·getD-append}
 use lib.Seq.{drop-at, drop-drop}
 use Rattle.field.specs.Refusal.{Tested}
-use Rattle.field.specs.fault.Laws.{whole-one-place, tested-determined}
-use Rattle.field.specs.declared.Fault.{Fault}
+use Rattle.field.specs.faults.Laws.{whole-one-place, tested-determined}
+use Rattle.field.specs.declared.faults.Fault.{Fault}
 use Rattle.poly.specs.Room.{of-rooms, zeroed}
 
 pub rooms-check-determined : (output needed work : ℕ) (f g : Fault) → Tested (of-rooms output needed work) f → Tested (of-rooms output needed work) g → f ≡ g

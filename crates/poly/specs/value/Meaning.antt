@@ -13,7 +13,7 @@ use Rattle.algebra.specs.Laws.Mono.{mono-at, mono-off}
 use Rattle.field.specs.Prime.{Prime}
 use Rattle.field.specs.modulus.Prime.{prime-positive}
 use Rattle.field.specs.Fp.{Fp, el, add, mul}
-use Rattle.field.specs.element.Fp.{el-mod, el-add, el-mul}
+use Rattle.field.specs.elements.Fp.{el-mod, el-add, el-mul}
 use Rattle.field.specs.Modulo.{Modulo}
 use Rattle.poly.specs.Keys.{keys, exponents}
 use Rattle.poly.specs.Terms.{key-of, coefficient-of, term-of, terms-of}

@@ -7,8 +7,8 @@ use native.Mathlib.Omega.{arith}
 use lib.ListN.{getD}
 use Rattle.algebra.specs.Ring.{pow}
 use Rattle.field.specs.Fp.{Fp, el, mul}
-use Rattle.field.specs.element.Fp.{el-mod, el-mul}
-use Rattle.field.specs.element.Remainder.{mod-mul-mod}
+use Rattle.field.specs.elements.Fp.{el-mod, el-mul}
+use Rattle.field.specs.elements.Remainder.{mod-mul-mod}
 use Rattle.field.specs.Residues.{Residues}
 use Rattle.poly.specs.Coefficients.{Eight}
 use Rattle.poly.specs.Powers.{Powers}

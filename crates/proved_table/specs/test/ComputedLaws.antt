@@ -11,7 +11,7 @@ use Rattle.field.specs.Prime.{Prime}
 use Rattle.field.specs.modulus.Prime.{prime-positive}
 use Rattle.field.specs.Moduli.{Listed}
 use Rattle.field.specs.Fp.{Fp, el}
-use Rattle.field.specs.element.Fp.{el-val, val-lt}
+use Rattle.field.specs.elements.Fp.{el-val, val-lt}
 use Rattle.field.specs.Modulo.{Modulo}
 use Rattle.field.specs.Refusal.{Passes}
 use Rattle.poly.specs.declared.ImageRecord.{ImageRecord}

@@ -9,7 +9,7 @@ use lib.ListN.{length, getD, length-map}
 use Rattle.field.specs.Numbers.{MODULUS, FIRST_COUNT, FIRST_TERM, SECOND_COUNT, SECOND_TERM, SKELETON_COUNT, SKELETON_KEY, POINTS_COUNT, POINT_NUMBER}
 use Rattle.field.specs.modulus.Laws.{listed-decided}
 use Rattle.field.specs.Refusal.{Line}
-use Rattle.field.specs.fault.Decision.{either-decided, Checks, placed-check, first-check}
+use Rattle.field.specs.faults.Decision.{either-decided, Checks, placed-check, first-check}
 use Rattle.poly.specs.Keys.{keys}
 use Rattle.poly.specs.Terms.{key-of, coefficient-of}
 use Rattle.poly.specs.Lists.{most-terms, Count, WrongKey, above, not-below, wrong-key}

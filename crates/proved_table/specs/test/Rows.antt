@@ -11,7 +11,7 @@ use Rattle.field.specs.modulus.Laws.{listed-prime, listed-decided}
 use Rattle.field.specs.Modulo.{Modulo}
 use Rattle.field.specs.Numbers.{DOES_NOT_DIVIDE}
 use Rattle.field.specs.Refusal.{Line}
-use Rattle.field.specs.fault.Decision.{Checks, decided}
+use Rattle.field.specs.faults.Decision.{Checks, decided}
 use Rattle.poly.specs.declared.ImageRecord.{ImageRecord}
 use Rattle.poly.specs.declared.QuotientRecord.{QuotientRecord}
 use Rattle.poly.specs.Terms.{terms-of}

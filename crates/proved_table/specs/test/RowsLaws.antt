@@ -13,8 +13,8 @@ use Rattle.field.specs.modulus.Laws.{every, listed-prime, listed-decided}
 use Rattle.field.specs.Modulo.{Modulo}
 use Rattle.field.specs.Numbers.{DOES_NOT_DIVIDE}
 use Rattle.field.specs.Refusal.{fault, none, Passes}
-use Rattle.field.specs.fault.Laws.{placed-never, passes-append}
-use Rattle.field.specs.fault.Decision.{decided-tested, decided-passes}
+use Rattle.field.specs.faults.Laws.{placed-never, passes-append}
+use Rattle.field.specs.faults.Decision.{decided-tested, decided-passes}
 use Rattle.poly.specs.declared.ImageRecord.{ImageRecord}
 use Rattle.poly.specs.declared.QuotientRecord.{QuotientRecord}
 use Rattle.poly.specs.Keys.{keys}

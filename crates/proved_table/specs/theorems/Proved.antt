@@ -15,8 +15,8 @@ use Rattle.field.specs.Prime.{Prime}
 use Rattle.field.specs.Moduli.{listed}
 use Rattle.field.specs.modulus.Laws.{every, listed-decided}
 use Rattle.field.specs.Fp.{el, add, mul, neg, chase, inv}
-use Rattle.field.specs.element.Fp.{Fp-discrete}
-use Rattle.field.specs.fault.Decision.{placed-check, look, first-check, decided}
+use Rattle.field.specs.elements.Fp.{Fp-discrete}
+use Rattle.field.specs.faults.Decision.{placed-check, look, first-check, decided}
 use Rattle.poly.specs.Room.{work-room}
 use Rattle.poly.specs.loops.CellsModel.{cells}
 use Rattle.poly.specs.value.PowersModel.{power, powers}

@@ -8,8 +8,8 @@ use Rattle.algebra.specs.Laws.Four.{compare-by, compare}
 use Rattle.field.specs.Moduli.{listed}
 use Rattle.field.specs.modulus.Laws.{listed-decided}
 use Rattle.field.specs.Fp.{el, add, mul, neg, chase, inv}
-use Rattle.field.specs.element.Fp.{Fp-discrete}
-use Rattle.field.specs.fault.Decision.{placed-check, look, first-check, decided}
+use Rattle.field.specs.elements.Fp.{Fp-discrete}
+use Rattle.field.specs.faults.Decision.{placed-check, look, first-check, decided}
 use Rattle.poly.specs.loops.CellsModel.{cells}
 use Rattle.poly.specs.value.PowersModel.{power, powers}
 use Rattle.poly.specs.value.Model.{plus-term, value-from, value-of}

@@ -2,8 +2,8 @@
 use mathlib.Core.List.{List, _++_}
 use lib.ListN.{length}
 use Rattle.field.specs.Refusal.{Line, Tested}
-use Rattle.field.specs.declared.Fault.{Fault}
-use Rattle.field.specs.fault.Laws.{tested-stops, tested-goes-on}
+use Rattle.field.specs.declared.faults.Fault.{Fault}
+use Rattle.field.specs.faults.Laws.{tested-stops, tested-goes-on}
 use Rattle.poly.specs.Lists.{of-lists}
 use Rattle.poly.specs.Room.{of-rooms}
 use Rattle.divisor.specs.Candidate.{of-skeleton, of-points}

@@ -1,7 +1,7 @@
 -- `divisor::checks::points_fault` meets its contract: each way out is an answer of the check. Assumes nothing.
 use mathlib.Core.Path.{refl}
 use mathlib.Core.Logic.{inl, inr}
-use Rattle.field.specs.fault.Laws.{tested-line}
+use Rattle.field.specs.faults.Laws.{tested-line}
 use Rattle.divisor.specs.checks.Laws.{points-wrong, points-right}
 use borrow.Author.Needs.{needs}
 use Rattle.divisor.proofs.checks.points_fault.Statement.{statement}

@@ -6,7 +6,7 @@ use mathlib.Core.List.{List}
 use Prim.Native.Nat.{ℕ, _+_, _-_, _≤_, _<_}
 use native.Mathlib.Omega.{arith}
 use lib.ListN.{length, take, getD, length-set}
-use Rattle.field.specs.element.Link.{inverse-val}
+use Rattle.field.specs.elements.Link.{inverse-val}
 use Rattle.field.specs.modulus.Laws.{listed-prime, listed-positive}
 use Rattle.field.specs.Fp.{el, inv}
 use Rattle.poly.specs.Terms.{keyed}

@@ -3,7 +3,7 @@
 use lib.ListN.{set}
 use Rattle.field.specs.modulus.Laws.{listed-prime}
 use Rattle.field.specs.Fp.{el, inv}
-use Rattle.field.specs.element.Link.{inverse-val}
+use Rattle.field.specs.elements.Link.{inverse-val}
 use mathlib.Core.Path.{_≡_, sym, ap, _∙_}
 use Prim.Native.Nat.{ℕ, _+_, _-_, _*_, _%_, _≤_}
 use Rattle.divisor.specs.table.Model.{cell, altered}

@@ -1,7 +1,7 @@
 -- `poly::division::rooms_fault` meets its contract: each way out is an answer of the check. Assumes nothing.
 use mathlib.Core.Path.{refl}
 use native.Mathlib.Omega.{arith}
-use Rattle.field.specs.fault.Laws.{placed-never, tested-line, tested-past, tested-end}
+use Rattle.field.specs.faults.Laws.{placed-never, tested-line, tested-past, tested-end}
 use borrow.Author.Needs.{needs}
 use Rattle.poly.proofs.division.rooms_fault.Statement.{statement}
 use Rattle.poly.proofs.division.rooms_fault.Tie as tie

@@ -2,7 +2,7 @@
 use mathlib.Core.Path.{ap, _∙_}
 use Prim.Native.Nat.{ℕ}
 use Rattle.field.specs.modulus.Laws.{listed-prime, listed-positive}
-use Rattle.field.specs.element.Link.{inverse-val}
+use Rattle.field.specs.elements.Link.{inverse-val}
 use Rattle.poly.specs.euclid.Model.{scaled, monic}
 use borrow.Author.Needs.{needs}
 use Rattle.poly.proofs.euclid.monic.Statement.{statement}

@@ -1,5 +1,5 @@
 -- `poly::image::image_fault` meets its contract: the lines of the modulus and the lists, then those of the point. Assumes nothing.
-use Rattle.field.specs.fault.Laws.{tested-stops, tested-goes-on}
+use Rattle.field.specs.faults.Laws.{tested-stops, tested-goes-on}
 use borrow.Author.Needs.{needs}
 use Rattle.poly.proofs.image.image_fault.Statement.{statement}
 use Rattle.poly.proofs.image.image_fault.Tie as tie

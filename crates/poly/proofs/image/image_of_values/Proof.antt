@@ -4,7 +4,7 @@ use Prim.Native.Nat.{ℕ, _-_}
 use native.Mathlib.Omega.{arith}
 use mathlib.Core.List.{List}
 use Rattle.field.specs.modulus.Laws.{listed-prime}
-use Rattle.field.specs.declared.Fault.{Fault}
+use Rattle.field.specs.declared.faults.Fault.{Fault}
 use Rattle.poly.specs.declared.ImageRecord.{ImageRecord}
 use Rattle.poly.specs.euclid.Model.{size, gcd}
 use Rattle.poly.specs.euclid.Gcd.{gcd-nonzero}

@@ -3,7 +3,7 @@ use mathlib.Core.Path.{sym, refl, _∙_}
 use borrow.Author.Tests.{not-true, not-false}
 use Rattle.field.specs.Moduli.{Listed}
 use Rattle.field.specs.modulus.Laws.{unlisted}
-use Rattle.field.specs.fault.Laws.{placed-never, tested-line, tested-past, tested-stops, tested-goes-on}
+use Rattle.field.specs.faults.Laws.{placed-never, tested-line, tested-past, tested-stops, tested-goes-on}
 use borrow.Author.Needs.{needs}
 use Rattle.poly.proofs.list.lists_fault.Statement.{statement}
 use Rattle.poly.proofs.list.lists_fault.Tie as tie

@@ -1,5 +1,5 @@
 -- `poly::quotient::quotient` meets its contract: a fault of the table is the answer, and inputs that pass are divided. Assumes nothing.
-use Rattle.field.specs.fault.Laws.{tested-passes, tested-refuses}
+use Rattle.field.specs.faults.Laws.{tested-passes, tested-refuses}
 use Rattle.poly.specs.QuotientCall.{QuotientCall, quotient-call, quotient-table, refused}
 use borrow.Author.Needs.{needs}
 use Rattle.poly.proofs.quotient.quotient.Statement.{statement}

@@ -1,0 +1,88 @@
+-- `field::Element::inverse` meets its contract. The loop keeps `Chased`: the value times t is r, with 0 < r < p; the measure is r.
+-- Assumes nothing.
+use mathlib.Core.Path.{refl}
+use Prim.Native.Nat.{_/_, _<_}
+use native.Mathlib.Omega.{arith}
+use native.Mathlib.Nat.{div-le-self, le-of-lt, mod-lt}
+use Rattle.field.specs.modulus.Laws.{listed-prime}
+use Rattle.field.specs.elements.Products.{mul-below}
+use Rattle.field.specs.elements.Chase.{Chased, begin, next, end}
+use Rattle.field.proofs.elements.Element.inverse.Statement.{statement}
+use Rattle.field.proofs.elements.Element.inverse.Tie as tie
+
+abbrev Inv-loop : tie.InvT-loop
+Inv-loop self p r₀ t₀ r t = Chased (self .modulus) (self .value) r t
+
+abbrev μ-loop : tie.MeasureT-loop
+μ-loop self p r₀ t₀ r t = r
+
+cast-p : tie.Need-cast-p Inv-loop μ-loop
+cast-p c = omega arith
+
+cast-r : tie.Need-cast-r Inv-loop μ-loop
+cast-r c = omega arith
+
+loop-holds : tie.Need-loop-holds Inv-loop μ-loop
+loop-holds c =
+    let s = c .before .before in
+    begin (listed-prime (s .pre .is-listed)) (s .args .self .value) (s .pre .nonzero) (s .pre .below)
+
+div-m : tie.Need-div-m Inv-loop μ-loop
+div-m c = omega arith
+
+mul-m : tie.Need-mul-m Inv-loop μ-loop
+mul-m c =
+    let p = c .before .before .before .before .args .self .modulus in
+    let q : p / c .before .loop .r < 65536 = omega (arith, div-le-self p (c .before .loop .r)) in
+    let t : c .before .loop .t < 65536 = omega arith in
+    record { fits = mul-below q t }
+
+rem-m : tie.Need-rem-m Inv-loop μ-loop
+rem-m c = omega arith
+
+rem-r : tie.Need-rem-r Inv-loop μ-loop
+rem-r c = omega arith
+
+sub-t : tie.Need-sub-t Inv-loop μ-loop
+sub-t c = le-of-lt (mod-lt _ (omega arith))
+
+rem-t : tie.Need-rem-t Inv-loop μ-loop
+rem-t c = omega arith
+
+loop-less : tie.Need-loop-less Inv-loop μ-loop
+loop-less c = mod-lt (c .before .before .before .before .args .self .modulus) (omega arith)
+
+loop-again : tie.Need-loop-again Inv-loop μ-loop
+loop-again c =
+    next (listed-prime (c .before .before .before .before .pre .is-listed)) (c .before .loop .inv) (c .loop-test .taken)
+
+cast-t9 : tie.Need-cast-t9 Inv-loop μ-loop
+cast-t9 c = omega arith
+
+returns : tie.Need-returns Inv-loop μ-loop
+returns c =
+    record {
+      same = refl;
+      below = omega arith;
+      product-one = end (omega arith) (c .before .loop .inv) (c .loop-test .left);
+    }
+
+pub inverse-spec : {M : Type 1} → statement M
+inverse-spec =
+    tie.close
+    (tie.spec
+    Inv-loop
+    μ-loop
+    cast-p
+    cast-r
+    loop-holds
+    div-m
+    mul-m
+    rem-m
+    rem-r
+    sub-t
+    rem-t
+    loop-less
+    loop-again
+    cast-t9
+    returns)

@@ -1,0 +1,35 @@
+-- `field::Element::product` meets its contract: the product fits twice the width, and its remainder is below the modulus.
+use Prim.Native.Nat.{_*_}
+use native.Mathlib.Omega.{arith}
+use native.Mathlib.Nat.{mod-lt}
+use Rattle.field.specs.elements.Products.{mul-below}
+use borrow.Author.Needs.{needs}
+use borrow.Author.Needs.{needs}
+use Rattle.field.proofs.elements.Element.product.Statement.{statement}
+use Rattle.field.proofs.elements.Element.product.Tie as tie
+
+cast-v : tie.Need-cast-v
+cast-v c = search needs
+
+cast-v-2 : tie.Need-cast-v-2
+cast-v-2 c = search needs
+
+mul-v : tie.Need-mul-v
+mul-v c = record { fits = mul-below {m = 65536} (omega arith) (omega arith) }
+
+cast-v-3 : tie.Need-cast-v-3
+cast-v-3 c = search needs
+
+rem-v : tie.Need-rem-v
+rem-v c = search needs
+
+cast-t8 : tie.Need-cast-t8
+cast-t8 c =
+    let start = c .before .before .before in
+    omega (arith, mod-lt (start .args .self .value * start .args .other .value) (start .pre))
+
+returns : tie.Need-returns
+returns c = search needs
+
+pub product-spec : {M : Type 1} → statement M
+product-spec = tie.close (tie.spec cast-v cast-v-2 mul-v cast-v-3 rem-v cast-t8 returns)

@@ -1,5 +1,0 @@
--- Numbers modulo p: the field laws, and what the code computes.
-pub mod Remainder
-pub mod Fp
-pub mod Inverse
-pub mod Link
