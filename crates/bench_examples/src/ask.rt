@@ -6,10 +6,11 @@ ghost use Rattle.divisor.specs.Candidate.{candidate-call, candidate-result, Can
 use crate::lists::MODULUS;
 use console::print;
 use field::Answer;
-use field::Number;
+use field::KeyBits;
+use field::Residue;
+use field::Term;
 use libc::STDOUT_FILENO;
-use poly::Term;
-use poly::division::WORK_ROOM;
+use poly::rooms::WORK_ROOM;
 
 // The most keys of a skeleton.
 const SKELETON: usize = 32;
@@ -29,11 +30,11 @@ fn print_found(label: &[u8], numbers: &[usize], terms: &[Term]) {
 // The candidate in rooms that are long enough.
 pub(crate) fn candidate(
     label: &[u8],
-    p: Number,
+    p: Residue,
     first: &[Term],
     second: &[Term],
-    skeleton: &[Number],
-    points: &[Number],
+    skeleton: &[KeyBits],
+    points: &[Residue],
 ) {
     let mut out = [0; SKELETON];
     let mut work = [0; WORK_ROOM];
@@ -52,13 +53,13 @@ pub(crate) fn candidate(
 // The candidate in rooms of the caller's, which are left as the service leaves them.
 pub(crate) fn candidate_in(
     label: &[u8],
-    p: Number,
+    p: Residue,
     first: &[Term],
     second: &[Term],
-    skeleton: &[Number],
-    points: &[Number],
+    skeleton: &[KeyBits],
+    points: &[Residue],
     out: &mut [Term],
-    work: &mut [Number],
+    work: &mut [Residue],
 )
     ensures { λ _. ⌜ ((found : CandidateRecord) × Candidate (candidate-call p (now (first .entry)) (now (second .entry)) (now (skeleton .entry))
         (now (points .entry)) (now (out .entry)) (now (work .entry)))
@@ -85,7 +86,7 @@ pub(crate) fn quotient(
     first: &[Term],
     second: &[Term],
     out: &mut [Term],
-    work: &mut [Number],
+    work: &mut [Residue],
 )
     ensures { λ _. ⌜ ((found : QuotientRecord) × Quotient (quotient-call 17 (now (first .entry)) (now (second .entry)) (now (out .entry))
         (now (work .entry))) (quotient-result found (now (out .exit)) (now (work .exit)))) ⌝ }
@@ -97,7 +98,7 @@ pub(crate) fn quotient(
     print_found(label, &numbers, &out[..terms]);
 }
 
-pub(crate) fn image(label: &[u8], first: &[Term], second: &[Term], point: &[Number]) {
+pub(crate) fn image(label: &[u8], first: &[Term], second: &[Term], point: &[Residue]) {
     print_label(label);
     print::image(poly::image::image(MODULUS, first, second, point));
 }

@@ -5,22 +5,23 @@ use crate::lists::MODULUS;
 use crate::lists::P1_FIRST;
 use crate::lists::P1_SECOND;
 use crate::lists::X_1;
-use field::Number;
-use poly::Term;
+use field::KeyBits;
+use field::Residue;
+use field::Term;
 
 fn with_first(label: &[u8], first: &[Term]) {
     ask::candidate(label, MODULUS, first, &P1_SECOND, &X_1, &[0, 0, 0]);
 }
 
-fn with_skeleton(label: &[u8], skeleton: &[Number]) {
+fn with_skeleton(label: &[u8], skeleton: &[KeyBits]) {
     ask::candidate(label, MODULUS, &P1_FIRST, &P1_SECOND, skeleton, &[0, 0, 0]);
 }
 
-fn with_points(label: &[u8], points: &[Number]) {
+fn with_points(label: &[u8], points: &[Residue]) {
     ask::candidate(label, MODULUS, &P1_FIRST, &P1_SECOND, &X_1, points);
 }
 
-fn with_rooms(label: &[u8], out: &mut [Term], work: &mut [Number]) {
+fn with_rooms(label: &[u8], out: &mut [Term], work: &mut [Residue]) {
     let origin = [0, 0, 0];
     ask::candidate_in(
         label,

@@ -5,9 +5,9 @@ use crate::ask;
 use crate::lists;
 use crate::lists::MODULUS;
 use field::Element;
-use field::Number;
+use field::Residue;
 
-fn element(modulus: Number, value: Number) -> Element
+fn element(modulus: Residue, value: Residue) -> Element
     ensures { λ r. ⌜ r ≡ element modulus value ⌝ }
 {
     Element { modulus, value }

@@ -4,7 +4,9 @@ ghost use Rattle.case_file.specs.Reading.{refused, read-one, read as rea
 ghost use Rattle.case_file.specs.Handed.{contents, Gives};
 ghost use Rattle.case_file.specs.Room.{Ready, Adds};
 use field::Fault;
-use field::Number;
+use field::KeyBits;
+use field::RefusalNumber;
+use field::Residue;
 
 mod record;
 
@@ -23,15 +25,15 @@ pub const POINT_NUMBERS: usize = POINTS * COORDINATES;
 
 pub type Terms = [Term; TERMS];
 
-pub type Keys = [Number; KEYS];
+pub type Keys = [KeyBits; KEYS];
 
-pub type PointNumbers = [Number; POINT_NUMBERS];
+pub type PointNumbers = [Residue; POINT_NUMBERS];
 
 // What is read beside the lists: how many numbers each of them has, and the offset after the end record (0 on refusal).
 pub struct Counts {
     pub fault: Fault,
     pub next: usize,
-    pub modulus: Number,
+    pub modulus: Residue,
     pub first: usize,
     pub second: usize,
     pub skeleton: usize,
@@ -40,7 +42,7 @@ pub struct Counts {
 
 pub struct Contents {
     pub fault: Fault,
-    pub modulus: Number,
+    pub modulus: Residue,
     pub first: Terms,
     pub first_count: usize,
     pub second: Terms,
@@ -53,7 +55,7 @@ pub struct Contents {
 
 // A refusal: zeros, with counts 0. With number 0 it is what stands before the first record.
 fn nothing(
-    number: Number,
+    number: RefusalNumber,
     place: usize,
     first: &mut Terms,
     second: &mut Terms,

@@ -14,7 +14,7 @@ use crate::PointNumbers;
 use crate::TERMS;
 use crate::Terms;
 use field::Fault;
-use field::Number;
+use field::RefusalNumber;
 
 // The kinds.
 pub(crate) const MODULUS: u8 = 1;
@@ -74,7 +74,7 @@ fn held(kind: u8, counts: Counts) -> usize
 }
 
 // The number of the first test that a record does not pass, or 0. `left` bytes follow its kind byte.
-pub(crate) fn fault_of(before: u8, kind: u8, counts: Counts, left: usize) -> Number
+pub(crate) fn fault_of(before: u8, kind: u8, counts: Counts, left: usize) -> RefusalNumber
     ensures { λ r. ⌜ r ≡ fault-number before kind (held-of counts kind) left ⌝ }
 {
     if kind < MODULUS {

@@ -6,9 +6,9 @@ use crate::input;
 use crate::print;
 use divisor::CandidateRecord;
 use field::Fault;
-use field::Number;
-use poly::Term;
-use poly::division::WORK_ROOM;
+use field::Residue;
+use field::Term;
+use poly::rooms::WORK_ROOM;
 
 // What a reader's refusal gives: number and place, and zeros.
 fn refused(fault: Fault) -> CandidateRecord
@@ -25,7 +25,7 @@ fn refused(fault: Fault) -> CandidateRecord
 }
 
 // Reads the case and asks for its candidate.
-pub fn candidate_of(bytes: &[u8], out: &mut [Term], work: &mut [Number]) -> CandidateRecord
+pub fn candidate_of(bytes: &[u8], out: &mut [Term], work: &mut [Residue]) -> CandidateRecord
     ensures { λ r. ⌜ Answered (now (bytes .entry)) (now (out .entry)) (now (work .entry)) (candidate-result r (now (out .exit)) (now (work .exit))) ⌝ }
 {
     let mut first = [0; case_file::TERMS];

@@ -1,9 +1,9 @@
 // Lines on standard output: numbers with a space between two.
 use divisor::CandidateRecord;
 use field::Fault;
+use field::Term;
 use libc::STDOUT_FILENO;
 use poly::ImageRecord;
-use poly::Term;
 use poly::key::Key;
 
 pub fn line(numbers: &[usize]) {

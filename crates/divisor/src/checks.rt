@@ -4,21 +4,17 @@ ghost use Rattle.field.specs.Refusal.{Tested};
 ghost use Rattle.poly.specs.Lists.{WrongKey};
 ghost use Rattle.poly.specs.Search.{Searched};
 ghost use Rattle.divisor.specs.Candidate.{of-skeleton, of-points, of-call};
+use field::COORDINATES;
 use field::Fault;
-use field::Number;
-use poly::COORDINATES;
-use poly::Term;
+use field::KeyBits;
+use field::MOST_KEYS;
+use field::MOST_POINT_NUMBERS;
+use field::Residue;
+use field::Term;
 use poly::key::Key;
 
-// The most keys of a skeleton, the most points, and the most point numbers.
-pub(crate) const KEYS: usize = 32;
-
-pub(crate) const POINTS: usize = 32;
-
-const POINT_NUMBERS: usize = COORDINATES * POINTS;
-
 // The place of the first key that is wrong, or the length.
-fn first_wrong_key(skeleton: &[Number]) -> usize
+fn first_wrong_key(skeleton: &[KeyBits]) -> usize
     ensures { λ r. ⌜ Searched (WrongKey (now (skeleton .entry))) (length (now (skeleton .entry))) r ⌝ }
 {
     let mut before = Key::LIMIT;
@@ -34,13 +30,13 @@ fn first_wrong_key(skeleton: &[Number]) -> usize
 }
 
 // The refusals 6 and 7.
-fn skeleton_fault(skeleton: &[Number]) -> Fault
+fn skeleton_fault(skeleton: &[KeyBits]) -> Fault
     ensures { λ r. ⌜ Tested (of-skeleton (now (skeleton .entry))) r ⌝ }
 {
     if skeleton.len() == 0 {
         return Fault::at(Fault::SKELETON_COUNT, 0);
     }
-    if skeleton.len() > KEYS {
+    if skeleton.len() > MOST_KEYS {
         return Fault::at(Fault::SKELETON_COUNT, 0);
     }
     let place = first_wrong_key(skeleton);
@@ -51,19 +47,19 @@ fn skeleton_fault(skeleton: &[Number]) -> Fault
 }
 
 // The refusals 8 and 9.
-fn points_fault(p: Number, points: &[Number]) -> Fault
+fn points_fault(p: Residue, points: &[Residue]) -> Fault
     ensures { λ r. ⌜ Tested (of-points p (now (points .entry))) r ⌝ }
 {
     if points.len() == 0 {
         return Fault::at(Fault::POINTS_COUNT, 0);
     }
-    if points.len() > POINT_NUMBERS {
+    if points.len() > MOST_POINT_NUMBERS {
         return Fault::at(Fault::POINTS_COUNT, 0);
     }
     if points.len() % COORDINATES != 0 {
         return Fault::at(Fault::POINTS_COUNT, 0);
     }
-    let place = poly::image::first_large(p, points);
+    let place = poly::points::first_large(p, points);
     if place < points.len() {
         return Fault::at(Fault::POINT_NUMBER, place);
     }
@@ -72,11 +68,11 @@ fn points_fault(p: Number, points: &[Number]) -> Fault
 
 // All of them; 10 and 11 by the lengths of the rooms that are lent.
 pub(crate) fn candidate_fault(
-    p: Number,
+    p: Residue,
     first: &[Term],
     second: &[Term],
-    skeleton: &[Number],
-    points: &[Number],
+    skeleton: &[KeyBits],
+    points: &[Residue],
     output: usize,
     work: usize,
 ) -> Fault
@@ -94,5 +90,5 @@ pub(crate) fn candidate_fault(
     if numbers.number != 0 {
         return numbers;
     }
-    poly::division::rooms_fault(output, skeleton.len(), work)
+    poly::rooms::rooms_fault(output, skeleton.len(), work)
 }

@@ -5,26 +5,28 @@ ghost use Prim.Native.Nat.{_+_, _-_, _/_};
 ghost use lib.ListN.{length};
 ghost use Rattle.divisor.specs.equations.Model.{EquationReady, IsEquation, PointReady, Equations-to};
 ghost use Rattle.divisor.specs.points.Model.{next-column, ColumnReady, EquationsReady, Equations-before};
+use crate::sorting::Size;
 use crate::sorting::Sizes;
 use crate::table::COLUMNS;
 use crate::table::Row;
 use crate::table::Table;
-use field::Number;
-use poly::COORDINATES;
+use field::COORDINATES;
+use field::KeyBits;
+use field::Residue;
 use poly::Eight;
 use poly::POWERS;
 use poly::key::Key;
 
 // The equation of x^i at a point, where the powers of y, z and w are given: a number for each key, u in the multiplier's column.
 fn equation(
-    p: Number,
+    p: Residue,
     ys: Eight,
     zs: Eight,
     ws: Eight,
-    skeleton: &[Number],
-    i: Number,
+    skeleton: &[KeyBits],
+    i: KeyBits,
     column: usize,
-    u: Number,
+    u: Residue,
 ) -> Row
     requires { ⌜ EquationReady p ys zs ws (now skeleton) column u ⌝ }
     ensures { λ r. ⌜ IsEquation p ys zs ws (now (skeleton .entry)) i column u r ⌝ }
@@ -48,10 +50,10 @@ fn equation(
 // The equations of a point, for each power of x, into the table. The point's powers are worked once.
 fn point_equations(
     t: Table,
-    p: Number,
-    skeleton: &[Number],
-    point: &[Number],
-    image: &[Number],
+    p: Residue,
+    skeleton: &[KeyBits],
+    point: &[Residue],
+    image: &[Residue],
     column: usize,
 ) -> Table
     requires { ⌜ PointReady p t (now skeleton) (now point) (now image) column ⌝ }
@@ -64,7 +66,7 @@ fn point_equations(
     let mut i: usize = 0;
     while i < POWERS {
         let u = (p - image[i]) % p;
-        let e = equation(p, ys, zs, ws, skeleton, i as u16, column, u);
+        let e = equation(p, ys, zs, ws, skeleton, i as KeyBits, column, u);
         // An equation without entries says nothing: adding it would only copy the table.
         if crate::table::first_entry(e) < COLUMNS {
             s = crate::table::with_added(s, e, p);
@@ -88,13 +90,13 @@ fn column_of(keys: usize, kept: usize, columns: usize) -> usize
 // The equations of the kept points, those whose size is the least, one after the other into one table. The first one's multiplier is fixed
 // at 1, in the last column; the others' stand behind the skeleton, in the order lent.
 pub(crate) fn equations(
-    p: Number,
-    skeleton: &[Number],
-    points: &[Number],
+    p: Residue,
+    skeleton: &[KeyBits],
+    points: &[Residue],
     sizes: Sizes,
-    least: Number,
+    least: Size,
     columns: usize,
-    work: &[Number],
+    work: &[Residue],
 ) -> Table
     requires { ⌜ EquationsReady p (now skeleton) (now points) sizes (now work) least columns ⌝ }
     ensures { λ r. ⌜ Equations-before (length (now (points .entry)) / 3) p (now (skeleton .entry)) (now (points .entry)) sizes

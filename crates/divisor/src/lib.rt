@@ -5,11 +5,12 @@ ghost use Rattle.field.specs.Refusal.{Passes};
 ghost use Rattle.poly.specs.Room.{work-room};
 ghost use Prim.Native.Nat.{_≤_};
 ghost use lib.ListN.{length};
+use field::COORDINATES;
 use field::Fault;
-use field::Number;
-use poly::COORDINATES;
-use poly::Term;
-use poly::division::WORK_ROOM;
+use field::KeyBits;
+use field::Residue;
+use field::Term;
+use poly::rooms::WORK_ROOM;
 
 mod checks;
 mod equations;
@@ -30,11 +31,11 @@ pub struct CandidateRecord {
 }
 
 // 12: no point of n is good. The work room is cleared.
-fn no_good_point(n: usize, work: &mut [Number]) -> CandidateRecord
+fn no_good_point(n: usize, work: &mut [Residue]) -> CandidateRecord
     requires { ⌜ work-room ≤ length (now work) ⌝ }
     ensures { λ r. ⌜ NoGoodPoint n (now (work .entry)) (now (work .exit)) r ⌝ }
 {
-    poly::division::clear(WORK_ROOM, work);
+    poly::rooms::clear(WORK_ROOM, work);
     CandidateRecord {
         fault: Fault::at(Fault::NO_GOOD_POINT, 0),
         degree: 0,
@@ -47,13 +48,13 @@ fn no_good_point(n: usize, work: &mut [Number]) -> CandidateRecord
 
 // The answer to inputs that pass: the points sorted by their images, the equations of those kept, and the verdict on their solution.
 fn answer(
-    p: Number,
+    p: Residue,
     first: &[Term],
     second: &[Term],
-    skeleton: &[Number],
-    points: &[Number],
+    skeleton: &[KeyBits],
+    points: &[Residue],
     out: &mut [Term],
-    work: &mut [Number],
+    work: &mut [Residue],
 ) -> CandidateRecord
     requires { ⌜ Passes (table-of (candidate-call p (now first) (now second) (now skeleton) (now points) (now out) (now work))) ⌝ }
     ensures { λ r. ⌜ Candidate (candidate-call p (now (first .entry)) (now (second .entry)) (now (skeleton .entry)) (now (points .entry))
@@ -84,13 +85,13 @@ fn answer(
 
 // The common divisor of two lists that the equations of the kept points fix, in proposed monomials; or a refusal. Nothing that is proposed is trusted.
 pub fn candidate(
-    p: Number,
+    p: Residue,
     first: &[Term],
     second: &[Term],
-    skeleton: &[Number],
-    points: &[Number],
+    skeleton: &[KeyBits],
+    points: &[Residue],
     out: &mut [Term],
-    work: &mut [Number],
+    work: &mut [Residue],
 ) -> CandidateRecord
     ensures { λ r. ⌜ Candidate (candidate-call p (now (first .entry)) (now (second .entry)) (now (skeleton .entry)) (now (points .entry))
         (now (out .entry)) (now (work .entry)))

@@ -4,14 +4,15 @@ ghost use lib.ListN.{take};
 ghost use Rattle.divisor.specs.monic.Model.{leading as leading-of, Solvable, Monic};
 ghost use Rattle.divisor.specs.points.PartsModel.{Within};
 ghost use Rattle.divisor.specs.table.Model.{COLUMNS as columns-most};
-use crate::checks::KEYS;
 use crate::table::Cells;
 use field::Element;
-use field::Number;
-use poly::Term;
+use field::KeyBits;
+use field::MOST_KEYS;
+use field::Residue;
+use field::Term;
 
 // A term for each key that a skeleton can have.
-pub(crate) type Terms = [Term; KEYS];
+pub(crate) type Terms = [Term; MOST_KEYS];
 
 // The terms, of which the first `count` are the divisor's.
 pub(crate) struct Divisor {
@@ -20,7 +21,7 @@ pub(crate) struct Divisor {
 }
 
 // The first of n coefficients that is not 0, or 0.
-fn leading(values: Cells, n: usize) -> Number
+fn leading(values: Cells, n: usize) -> Residue
     requires { ⌜ Within columns-most n values ⌝ }
     ensures { λ r. ⌜ r ≡ leading-of (take n values) ⌝ }
 {
@@ -35,7 +36,7 @@ fn leading(values: Cells, n: usize) -> Number
 }
 
 // The terms of the keys whose coefficient is not 0, each coefficient times the inverse of the leading one.
-pub(crate) fn made_monic(p: Number, skeleton: &[Number], values: Cells) -> Divisor
+pub(crate) fn made_monic(p: Residue, skeleton: &[KeyBits], values: Cells) -> Divisor
     requires { ⌜ Solvable p (now skeleton) values ⌝ }
     ensures { λ r. ⌜ Monic p (now (skeleton .entry)) values r ⌝ }
 {
@@ -45,7 +46,7 @@ pub(crate) fn made_monic(p: Number, skeleton: &[Number], values: Cells) -> Divis
     };
     let inverse = lead.inverse();
     let factor = inverse.value;
-    let mut terms: Terms = [0; KEYS];
+    let mut terms: Terms = [0; MOST_KEYS];
     let mut count: usize = 0;
     let mut i: usize = 0;
     while i < skeleton.len() {

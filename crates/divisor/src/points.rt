@@ -4,17 +4,18 @@ ghost use Rattle.divisor.specs.sorting.Model.{size-of};
 ghost use mathlib.Core.Path.{_≡_};
 ghost use Prim.Native.Nat.{_/_, _<_};
 ghost use lib.ListN.{length};
-use crate::checks::POINTS;
+use crate::sorting::Size;
 use crate::sorting::Sizes;
-use field::Number;
-use poly::COORDINATES;
+use field::COORDINATES;
+use field::MOST_POINTS;
+use field::Residue;
+use field::Term;
 use poly::Eight;
 use poly::ImageRecord;
 use poly::POWERS;
-use poly::Term;
 
 // Eight numbers into the work room, from a place on.
-fn store(coefficients: Eight, at: usize, work: &mut [Number])
+fn store(coefficients: Eight, at: usize, work: &mut [Residue])
     requires { ⌜ StoreReady at (now work) ⌝ }
     ensures { λ _. ⌜ Stored 8 coefficients at (now (work .entry)) (now (work .exit)) ⌝ }
 {
@@ -26,7 +27,7 @@ fn store(coefficients: Eight, at: usize, work: &mut [Number])
 }
 
 // 0 for a bad point, else one more than the image's degree.
-fn size(seen: ImageRecord) -> Number
+fn size(seen: ImageRecord) -> Size
     requires { ⌜ seen .degree < 8 ⌝ }
     ensures { λ r. ⌜ r ≡ size-of seen ⌝ }
 {
@@ -34,22 +35,22 @@ fn size(seen: ImageRecord) -> Number
     if fault.number != 0 {
         return 0;
     }
-    seen.degree as Number + 1
+    seen.degree as Size + 1
 }
 
 // The image at each point into the work room, and the sizes.
 pub(crate) fn look(
-    p: Number,
+    p: Residue,
     first: &[Term],
     second: &[Term],
-    points: &[Number],
-    work: &mut [Number],
+    points: &[Residue],
+    work: &mut [Residue],
 ) -> Sizes
     requires { ⌜ LookReady p (now first) (now second) (now points) (now work) ⌝ }
     ensures { λ r. ⌜ Looks (length (now (points .entry)) / 3) p (now (first .entry)) (now (second .entry)) (now (points .entry)) (now (work .entry))
         (now (work .exit)) r ⌝ }
 {
-    let mut sizes: Sizes = [0; POINTS];
+    let mut sizes: Sizes = [0; MOST_POINTS];
     let mut i: usize = 0;
     while i < points.len() / COORDINATES {
         let at = COORDINATES * i;

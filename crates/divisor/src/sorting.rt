@@ -4,14 +4,16 @@ ghost use lib.ListN.{take};
 ghost use Rattle.divisor.specs.Candidate.{most-points};
 ghost use Rattle.divisor.specs.points.PartsModel.{Within};
 ghost use Rattle.divisor.specs.sorting.Model.{lesser as lesser-of, least, alike as alike-of};
-use crate::checks::POINTS;
-use field::Number;
+use field::MOST_POINTS;
+
+// 0 for a bad point, else one more than the degree of its image.
+pub(crate) type Size = u16;
 
 // A size for each point that can be lent.
-pub(crate) type Sizes = [Number; POINTS];
+pub(crate) type Sizes = [Size; MOST_POINTS];
 
 // The less of two sizes, of which 0 is none.
-fn lesser(a: Number, b: Number) -> Number
+fn lesser(a: Size, b: Size) -> Size
     ensures { λ r. ⌜ r ≡ lesser-of a b ⌝ }
 {
     if b == 0 {
@@ -24,11 +26,11 @@ fn lesser(a: Number, b: Number) -> Number
 }
 
 // The least size but 0 of the first n, or 0.
-pub(crate) fn least_size(sizes: Sizes, n: usize) -> Number
+pub(crate) fn least_size(sizes: Sizes, n: usize) -> Size
     requires { ⌜ Within most-points n sizes ⌝ }
     ensures { λ r. ⌜ r ≡ least (take n sizes) ⌝ }
 {
-    let mut m: Number = 0;
+    let mut m: Size = 0;
     let mut i: usize = 0;
     while i < n {
         m = lesser(m, sizes[i]);
@@ -38,7 +40,7 @@ pub(crate) fn least_size(sizes: Sizes, n: usize) -> Number
 }
 
 // How many of the first n sizes are m.
-pub(crate) fn alike(sizes: Sizes, n: usize, m: Number) -> usize
+pub(crate) fn alike(sizes: Sizes, n: usize, m: Size) -> usize
     requires { ⌜ Within most-points n sizes ⌝ }
     ensures { λ r. ⌜ r ≡ alike-of m (take n sizes) ⌝ }
 {

@@ -4,15 +4,15 @@
 ghost use mathlib.Core.Path.{_≡_};
 ghost use Rattle.poly.specs.Search.{Searched};
 ghost use Rattle.divisor.specs.table.Model.{COLUMNS as columns-most, Entry, Columns, Column, Back, TableReady, Ready, empty-table, minus, scaled-row, with-row, kind, value, values, solved};
-use crate::checks::KEYS;
-use crate::checks::POINTS;
 use field::Element;
-use field::Number;
+use field::MOST_KEYS;
+use field::MOST_POINTS;
+use field::Residue;
 
 // An unknown for each key that a skeleton can have, and a multiplier for each point, of which the first is fixed.
-pub(crate) const COLUMNS: usize = KEYS + POINTS;
+pub(crate) const COLUMNS: usize = MOST_KEYS + MOST_POINTS;
 
-pub(crate) type Cells = [Number; COLUMNS];
+pub(crate) type Cells = [Residue; COLUMNS];
 
 pub(crate) struct Row {
     pub cells: Cells,
@@ -67,7 +67,7 @@ pub(crate) fn first_entry(row: Row) -> usize
 }
 
 // The row less the multiple of the pivot's row that makes its cell in column j 0. Before column j both have zeros, and nothing changes there.
-fn subtract(row: &mut Cells, pivot: Row, j: usize, columns: usize, p: Number)
+fn subtract(row: &mut Cells, pivot: Row, j: usize, columns: usize, p: Residue)
     requires { ⌜ Column p (record { cells = now row }) j columns ⌝ }
     ensures { λ _. ⌜ record { cells = now (row .exit) } ≡ minus p (record { cells = now (row .entry) }) pivot j columns ⌝ }
 {
@@ -80,7 +80,7 @@ fn subtract(row: &mut Cells, pivot: Row, j: usize, columns: usize, p: Number)
 }
 
 // The row times the inverse of its cell in column j, which becomes 1.
-fn scaled(row: Row, j: usize, columns: usize, p: Number) -> Row
+fn scaled(row: Row, j: usize, columns: usize, p: Residue) -> Row
     requires { ⌜ Column p row j columns ⌝ }
     ensures { λ r. ⌜ r ≡ scaled-row p row j columns ⌝ }
 {
@@ -101,7 +101,7 @@ fn scaled(row: Row, j: usize, columns: usize, p: Number) -> Row
 
 // One more equation: column after column the kept row is taken off, and the equation is kept in the first column where none is and its cell is not 0.
 // The table is copied once, at the top: with a copy where a row is kept there would be two tables to hand back, and each way out would copy again.
-pub(crate) fn with_equation(t: Table, e: Row, p: Number) -> Table
+pub(crate) fn with_equation(t: Table, e: Row, p: Residue) -> Table
     requires { ⌜ Ready p t e ⌝ }
     ensures { λ r. ⌜ r ≡ with-row p t e ⌝ }
 {
@@ -124,7 +124,7 @@ pub(crate) fn with_equation(t: Table, e: Row, p: Number) -> Table
 }
 
 // The same on a table that is lent.
-pub(crate) fn add_equation(t: &mut Table, e: Row, p: Number)
+pub(crate) fn add_equation(t: &mut Table, e: Row, p: Residue)
     requires { ⌜ Ready p (now t) e ⌝ }
     ensures { λ _. ⌜ now (t .exit) ≡ with-row p (now (t .entry)) e ⌝ }
 {
@@ -133,7 +133,7 @@ pub(crate) fn add_equation(t: &mut Table, e: Row, p: Number)
 }
 
 // The lender: by value outside, lent inside, so that a loop over equations carries the table by value.
-pub(crate) fn with_added(t: Table, e: Row, p: Number) -> Table
+pub(crate) fn with_added(t: Table, e: Row, p: Residue) -> Table
     requires { ⌜ Ready p t e ⌝ }
     ensures { λ r. ⌜ r ≡ with-row p t e ⌝ }
 {
@@ -164,7 +164,7 @@ fn kind_of(t: Table) -> Kind
 }
 
 // The unknown of column j, by its row, from the values of those behind it; the last one is 1.
-fn value_at(row: Row, values: Cells, j: usize, last: usize, p: Number) -> Number
+fn value_at(row: Row, values: Cells, j: usize, last: usize, p: Residue) -> Residue
     requires { ⌜ Back p row j last ⌝ }
     ensures { λ r. ⌜ r ≡ value p row values j last ⌝ }
 {
@@ -178,7 +178,7 @@ fn value_at(row: Row, values: Cells, j: usize, last: usize, p: Number) -> Number
 }
 
 // Back substitution, from the last unknown to the first.
-fn values_of(t: Table, p: Number) -> Cells
+fn values_of(t: Table, p: Residue) -> Cells
     requires { ⌜ TableReady p t ⌝ }
     ensures { λ r. ⌜ r ≡ values p t ⌝ }
 {
@@ -194,7 +194,7 @@ fn values_of(t: Table, p: Number) -> Cells
 }
 
 // How many solutions the equations have, and the values of the only one.
-pub(crate) fn solution(t: Table, p: Number) -> Solved
+pub(crate) fn solution(t: Table, p: Residue) -> Solved
     requires { ⌜ TableReady p t ⌝ }
     ensures { λ r. ⌜ r ≡ solved p t ⌝ }
 {

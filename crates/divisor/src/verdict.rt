@@ -8,23 +8,25 @@ use crate::table::Cells;
 use crate::table::Kind;
 use crate::table::Solved;
 use field::Fault;
-use field::Number;
-use poly::Term;
-use poly::division::WORK_ROOM;
+use field::KeyBits;
+use field::RefusalNumber;
+use field::Residue;
+use field::Term;
+use poly::rooms::WORK_ROOM;
 
 // The number, and the count of the terms that are written.
 pub(crate) struct Verdict {
-    pub number: Number,
+    pub number: RefusalNumber,
     pub terms: usize,
 }
 
 // Whether the divisor divides both lists. The work room is left cleared.
 fn divides_both(
-    p: Number,
+    p: Residue,
     first: &[Term],
     second: &[Term],
     divisor: &[Term],
-    work: &mut [Number],
+    work: &mut [Residue],
 ) -> bool
     requires { ⌜ CanDivideBoth p (now first) (now second) (now divisor) (now work) ⌝ }
     ensures { λ r. ⌜ BothDivided p (now (first .entry)) (now (second .entry)) (now (divisor .entry)) (now (work .entry)) (now (work .exit)) r ⌝ }
@@ -48,23 +50,23 @@ fn write(terms: &[Term], output: &mut [Term])
 }
 
 // A refusal: nothing is written, and the work room is cleared.
-fn refused(number: Number, work: &mut [Number]) -> Verdict
+fn refused(number: RefusalNumber, work: &mut [Residue]) -> Verdict
     requires { ⌜ work-room ≤ length (now work) ⌝ }
     ensures { λ r. ⌜ Refused number (now (work .entry)) (now (work .exit)) r ⌝ }
 {
-    poly::division::clear(WORK_ROOM, work);
+    poly::rooms::clear(WORK_ROOM, work);
     Verdict { number, terms: 0 }
 }
 
 // The divisor of the only solution, which is accepted if it divides both lists, whoever proposed it.
 fn divided(
-    p: Number,
+    p: Residue,
     first: &[Term],
     second: &[Term],
-    skeleton: &[Number],
+    skeleton: &[KeyBits],
     values: Cells,
     output: &mut [Term],
-    work: &mut [Number],
+    work: &mut [Residue],
 ) -> Verdict
     requires { ⌜ VerdictReady p (now first) (now second) (now skeleton) (only values) (now output) (now work) ⌝ }
     ensures { λ r. ⌜ Settled p (now (first .entry)) (now (second .entry)) (now (skeleton .entry)) (only values) (now (output .entry))
@@ -89,13 +91,13 @@ fn divided(
 
 // The number, and the terms written, that the solution of the equations brings about.
 pub(crate) fn settle(
-    p: Number,
+    p: Residue,
     first: &[Term],
     second: &[Term],
-    skeleton: &[Number],
+    skeleton: &[KeyBits],
     solved: Solved,
     output: &mut [Term],
-    work: &mut [Number],
+    work: &mut [Residue],
 ) -> Verdict
     requires { ⌜ VerdictReady p (now first) (now second) (now skeleton) solved (now output) (now work) ⌝ }
     ensures { λ r. ⌜ Settled p (now (first .entry)) (now (second .entry)) (now (skeleton .entry)) solved (now (output .entry)) (now (output .exit))

@@ -18,20 +18,21 @@ use case_file::PointNumbers;
 use case_file::Terms;
 use field::Answer;
 use field::Element;
-use field::Number;
+use field::KeyBits;
+use field::Residue;
+use field::Term;
 use poly::Eight;
-use poly::Term;
 
 // Numbers: number, place, d, bad, unlucky, kept, count of terms.
 #[no_mangle]
 pub extern "C" fn balungkiro_candidate(
-    modulus: Number,
+    modulus: Residue,
     first: &[Term],
     second: &[Term],
-    skeleton: &[Number],
-    points: &[Number],
+    skeleton: &[KeyBits],
+    points: &[Residue],
     out: &mut [Term],
-    work: &mut [Number],
+    work: &mut [Residue],
     numbers: &mut [usize; 7],
 )
     ensures { λ _. ⌜ Laid of-candidate (Candidate (candidate-call modulus (now (first .entry)) (now (second .entry)) (now (skeleton .entry))
@@ -53,11 +54,11 @@ pub extern "C" fn balungkiro_candidate(
 // Numbers: number, place, count of terms.
 #[no_mangle]
 pub extern "C" fn balungkiro_quotient(
-    modulus: Number,
+    modulus: Residue,
     first: &[Term],
     second: &[Term],
     out: &mut [Term],
-    work: &mut [Number],
+    work: &mut [Residue],
     numbers: &mut [usize; 3],
 )
     ensures { λ _. ⌜ Laid of-quotient (Quotient (quotient-call modulus (now (first .entry)) (now (second .entry)) (now (out .entry))
@@ -70,10 +71,10 @@ pub extern "C" fn balungkiro_quotient(
 // Numbers: number, place, degree.
 #[no_mangle]
 pub extern "C" fn balungkiro_image(
-    modulus: Number,
+    modulus: Residue,
     first: &[Term],
     second: &[Term],
-    point: &[Number],
+    point: &[Residue],
     coefficients: &mut Eight,
     numbers: &mut [usize; 3],
 )
@@ -118,10 +119,10 @@ fn answer_numbers(answer: Answer) -> [usize; 4]
 
 #[no_mangle]
 pub extern "C" fn balungkiro_sum(
-    modulus: Number,
-    value: Number,
-    other_modulus: Number,
-    other_value: Number,
+    modulus: Residue,
+    value: Residue,
+    other_modulus: Residue,
+    other_value: Residue,
     numbers: &mut [usize; 4],
 )
     ensures { λ _. ⌜ Laid of-answer (AskSum (element modulus value) (element «other_modulus» «other_value»)) (now (numbers .exit)) ⌝ }
@@ -136,10 +137,10 @@ pub extern "C" fn balungkiro_sum(
 
 #[no_mangle]
 pub extern "C" fn balungkiro_difference(
-    modulus: Number,
-    value: Number,
-    other_modulus: Number,
-    other_value: Number,
+    modulus: Residue,
+    value: Residue,
+    other_modulus: Residue,
+    other_value: Residue,
     numbers: &mut [usize; 4],
 )
     ensures { λ _. ⌜ Laid of-answer (AskDifference (element modulus value) (element «other_modulus» «other_value»)) (now (numbers .exit)) ⌝ }
@@ -154,10 +155,10 @@ pub extern "C" fn balungkiro_difference(
 
 #[no_mangle]
 pub extern "C" fn balungkiro_product(
-    modulus: Number,
-    value: Number,
-    other_modulus: Number,
-    other_value: Number,
+    modulus: Residue,
+    value: Residue,
+    other_modulus: Residue,
+    other_value: Residue,
     numbers: &mut [usize; 4],
 )
     ensures { λ _. ⌜ Laid of-answer (AskProduct (element modulus value) (element «other_modulus» «other_value»)) (now (numbers .exit)) ⌝ }
@@ -171,7 +172,7 @@ pub extern "C" fn balungkiro_product(
 }
 
 #[no_mangle]
-pub extern "C" fn balungkiro_inverse(modulus: Number, value: Number, numbers: &mut [usize; 4])
+pub extern "C" fn balungkiro_inverse(modulus: Residue, value: Residue, numbers: &mut [usize; 4])
     ensures { λ _. ⌜ Laid of-answer (AskInverse (element modulus value)) (now (numbers .exit)) ⌝ }
 {
     let a = Element { modulus, value };

@@ -1,12 +1,12 @@
 // Reads a case file from standard input and prints a line for each of its points: number, place, degree and the eight coefficients of the image,
 // or number and place of the refusal. A case without points is answered by one line: what the service refuses an empty point with.
-use case_file::COORDINATES;
 use console::input;
 use console::print;
-use field::Number;
-use poly::Term;
+use field::COORDINATES;
+use field::Residue;
+use field::Term;
 
-fn print_images(p: Number, first: &[Term], second: &[Term], points: &[Number]) {
+fn print_images(p: Residue, first: &[Term], second: &[Term], points: &[Residue]) {
     if points.len() == 0 {
         print::image(poly::image::image(p, first, second, points));
     }

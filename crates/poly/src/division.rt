@@ -1,40 +1,22 @@
 // Division by leading terms in a lent work room: one number for each key holds the remainder, the next as many hold the quotient's coefficients.
 ghost use mathlib.Core.Path.{_≡_};
-ghost use Prim.Native.Nat.{min, max};
+ghost use Prim.Native.Nat.{max};
 ghost use lib.ListN.{length};
-ghost use Rattle.field.specs.Refusal.{Tested};
 ghost use Rattle.poly.specs.Keys.{keys};
-ghost use Rattle.poly.specs.Room.{of-rooms, zeroed};
 ghost use Rattle.poly.specs.TrialDivision.{CanDivide, TrialDivision};
 ghost use Rattle.poly.specs.division.SpreadModel.{spread as spread-over};
 ghost use Rattle.poly.specs.division.Model.{KeysBelow, most-key, at-most, fits-in, less-product};
 ghost use Rattle.poly.specs.division.WorkRoomModel.{CanSubtract, CanStep, Stepped, CanBegin, Divided};
-use crate::Term;
 use crate::key::Key;
+use crate::rooms::CELLS;
+use crate::rooms::WORK_ROOM;
+use crate::rooms::clear;
 use field::Element;
-use field::Fault;
-use field::Number;
+use field::KeyBits;
+use field::Residue;
+use field::Term;
 
-// A number for each key.
-pub const KEYS: usize = Key::LIMIT as usize;
-
-// The numbers of the work room that a division uses.
-pub const WORK_ROOM: usize = 2 * KEYS;
-
-// The refusals 10 and 11: of the rooms that are lent only the lengths matter, and how many terms the output needs.
-pub fn rooms_fault(output: usize, needed: usize, work: usize) -> Fault
-    ensures { λ r. ⌜ Tested (of-rooms output needed work) r ⌝ }
-{
-    if output < needed {
-        return Fault::at(Fault::OUTPUT_SHORT, 0);
-    }
-    if work < WORK_ROOM {
-        return Fault::at(Fault::WORK_SHORT, 0);
-    }
-    Fault::none()
-}
-
-fn larger(a: u16, b: u16) -> u16
+fn larger(a: KeyBits, b: KeyBits) -> KeyBits
     ensures { λ r. ⌜ r ≡ max a b ⌝ }
 {
     if a < b { b } else { a }
@@ -45,10 +27,10 @@ fn most(terms: &[Term]) -> Key
     requires { ⌜ KeysBelow 0 keys (now terms) ⌝ }
     ensures { λ r. ⌜ r .bits ≡ most-key (now (terms .entry)) ⌝ }
 {
-    let mut x: u16 = 0;
-    let mut y: u16 = 0;
-    let mut z: u16 = 0;
-    let mut w: u16 = 0;
+    let mut x: KeyBits = 0;
+    let mut y: KeyBits = 0;
+    let mut z: KeyBits = 0;
+    let mut w: KeyBits = 0;
     let mut i: usize = 0;
     while i < terms.len() {
         let key = Key::of(terms[i]);
@@ -69,7 +51,7 @@ fn at_most(a: Key, b: Key) -> bool
 }
 
 // Whether the term at the key `k` can be divided by the one at `lead`: no exponent of the quotient is negative, none above the bound.
-fn fits(k: u16, lead: u16, bound: Key) -> bool
+fn fits(k: KeyBits, lead: KeyBits, bound: Key) -> bool
     ensures { λ r. ⌜ r ≡ fits-in lead (bound .bits) k ⌝ }
 {
     if !at_most(Key { bits: lead }, Key { bits: k }) {
@@ -78,20 +60,8 @@ fn fits(k: u16, lead: u16, bound: Key) -> bool
     at_most(Key { bits: k - lead }, bound)
 }
 
-// The first `n` numbers set to 0, or all of them where there are fewer.
-pub fn clear(n: usize, numbers: &mut [Number])
-    ensures { λ _. ⌜ now (numbers .exit) ≡ zeroed (min n (length (now (numbers .entry)))) (now (numbers .entry)) ⌝ }
-{
-    let end = if n < numbers.len() { n } else { numbers.len() };
-    let mut i: usize = 0;
-    while i < end {
-        numbers[i] = 0;
-        i += 1;
-    }
-}
-
 // Each term's coefficient stored at its key.
-fn spread(terms: &[Term], cells: &mut [Number])
+fn spread(terms: &[Term], cells: &mut [Residue])
     requires { ⌜ KeysBelow 0 (length (now cells)) (now terms) ⌝ }
     ensures { λ _. ⌜ now (cells .exit) ≡ spread-over (now (terms .entry)) (now (cells .entry)) ⌝ }
 {
@@ -106,7 +76,7 @@ fn spread(terms: &[Term], cells: &mut [Number])
 }
 
 // The cells less a term of the quotient, `q` at the key `shift`, times the divisor.
-fn subtract(p: Number, q: Number, shift: usize, divisor: &[Term], cells: &mut [Number])
+fn subtract(p: Residue, q: Residue, shift: usize, divisor: &[Term], cells: &mut [Residue])
     requires { ⌜ CanSubtract p q shift (now divisor) (now cells) ⌝ }
     ensures { λ _. ⌜ now (cells .exit) ≡ less-product p shift q (now (divisor .entry)) (now (cells .entry)) ⌝ }
 {
@@ -124,13 +94,13 @@ fn subtract(p: Number, q: Number, shift: usize, divisor: &[Term], cells: &mut [N
 // The steps of a division, where the cells from `top` on are 0. Each leading term that can be divided gives a term of the quotient, stored at
 // its key; the search for the next one is left at the first that cannot.
 fn steps(
-    p: Number,
+    p: Residue,
     divisor: &[Term],
-    lead: u16,
-    inverse: Number,
+    lead: KeyBits,
+    inverse: Residue,
     bound: Key,
     top: usize,
-    work: &mut [Number],
+    work: &mut [Residue],
 ) -> bool
     requires { ⌜ CanStep (record { modulus = p; terms = now divisor; lead = lead; inverse = inverse; bound = bound .bits }) top (now work) ⌝ }
     ensures { λ r. ⌜ Stepped (record { modulus = p; terms = now (divisor .entry); lead = lead; inverse = inverse; bound = bound .bits })
@@ -146,7 +116,7 @@ fn steps(
             }
             k -= 1;
             if work[k] != 0 {
-                if !fits(k as u16, lead, bound) {
+                if !fits(k as KeyBits, lead, bound) {
                     whole = false;
                     break 'steps;
                 }
@@ -154,14 +124,14 @@ fn steps(
             }
         }
         let q = field::times(p, work[k], inverse);
-        work[KEYS + (k - low)] = q;
+        work[CELLS + (k - low)] = q;
         subtract(p, q, k - low, divisor, work);
     }
     whole
 }
 
 // Whether the divisor divides the dividend, in a room whose cells of the remainder are 0; the quotient's coefficients are stored in its other cells.
-pub(crate) fn divide(p: Number, dividend: &[Term], divisor: &[Term], work: &mut [Number]) -> bool
+pub(crate) fn divide(p: Residue, dividend: &[Term], divisor: &[Term], work: &mut [Residue]) -> bool
     requires { ⌜ CanBegin p (now dividend) (now divisor) (now work) ⌝ }
     ensures { λ r. ⌜ Divided p (now (dividend .entry)) (now (divisor .entry)) (now (work .entry)) (now (work .exit)) r ⌝ }
 {
@@ -187,11 +157,11 @@ pub(crate) fn divide(p: Number, dividend: &[Term], divisor: &[Term], work: &mut 
 }
 
 // Trial division: whether the divisor divides the dividend, as polynomials. The work room is left cleared.
-pub fn divides(p: Number, dividend: &[Term], divisor: &[Term], work: &mut [Number]) -> bool
+pub fn divides(p: Residue, dividend: &[Term], divisor: &[Term], work: &mut [Residue]) -> bool
     requires { ⌜ CanDivide p (now dividend) (now divisor) (now work) ⌝ }
     ensures { λ r. ⌜ TrialDivision p (now (dividend .entry)) (now (divisor .entry)) (now (work .entry)) (now (work .exit)) r ⌝ }
 {
-    clear(KEYS, work);
+    clear(CELLS, work);
     let whole = divide(p, dividend, divisor, work);
     clear(WORK_ROOM, work);
     whole

@@ -6,7 +6,7 @@ ghost use Rattle.poly.specs.euclid.Steps.{Divisible, Step, Reducible, Pa
 use crate::Eight;
 use crate::POWERS;
 use field::Element;
-use field::Number;
+use field::Residue;
 
 // The place after the highest number that is not 0.
 pub(crate) fn size(f: Eight) -> usize
@@ -23,7 +23,7 @@ pub(crate) fn size(f: Eight) -> usize
 }
 
 // Each number times c.
-fn scaled(p: Number, c: Number, f: Eight) -> Eight
+fn scaled(p: Residue, c: Residue, f: Eight) -> Eight
     requires { ⌜ 0 < p ⌝ }
     ensures { λ r. ⌜ r ≡ scaled-of p c f ⌝ }
 {
@@ -37,7 +37,7 @@ fn scaled(p: Number, c: Number, f: Eight) -> Eight
 }
 
 // All divided by the number at n.
-fn monic(p: Number, n: usize, f: Eight) -> Eight
+fn monic(p: Residue, n: usize, f: Eight) -> Eight
     requires { ⌜ Divisible p n f ⌝ }
     ensures { λ r. ⌜ r ≡ monic-of p n f ⌝ }
 {
@@ -50,7 +50,7 @@ fn monic(p: Number, n: usize, f: Eight) -> Eight
 }
 
 // f becomes f - c x^k g.
-fn subtract(p: Number, c: Number, k: usize, f: &mut Eight, g: Eight)
+fn subtract(p: Residue, c: Residue, k: usize, f: &mut Eight, g: Eight)
     requires { ⌜ Step p c k (now f) ⌝ }
     ensures { λ _. ⌜ now (f .exit) ≡ subtract-of p c k (now (f .entry)) g ⌝ }
 {
@@ -63,7 +63,7 @@ fn subtract(p: Number, c: Number, k: usize, f: &mut Eight, g: Eight)
 }
 
 // The remainder of f by g, which is monic of degree m.
-fn remainder(p: Number, m: usize, g: Eight, f: Eight) -> Eight
+fn remainder(p: Residue, m: usize, g: Eight, f: Eight) -> Eight
     requires { ⌜ Reducible p m f ⌝ }
     ensures { λ r. ⌜ r ≡ remainder-of p m g (8 - m) f ⌝ }
 {
@@ -78,7 +78,7 @@ fn remainder(p: Number, m: usize, g: Eight, f: Eight) -> Eight
 }
 
 // The monic greatest common divisor of a, which is not 0, and b.
-pub(crate) fn gcd(p: Number, a: Eight, b: Eight) -> Eight
+pub(crate) fn gcd(p: Residue, a: Eight, b: Eight) -> Eight
     requires { ⌜ Pair p a b ⌝ }
     ensures { λ r. ⌜ r ≡ gcd-of p a b ⌝ }
 {

@@ -1,25 +1,22 @@
 // The image of two polynomials at a point: the monic greatest common divisor of their values, as polynomials in x.
 ghost use mathlib.Core.Path.{_≡_};
-ghost use lib.ListN.{length};
 ghost use Rattle.field.specs.Refusal.{Tested};
-ghost use Rattle.poly.specs.Lists.{WrongNumber};
-ghost use Rattle.poly.specs.ImageCall.{image-call, refusal, of-point, image-table, Fine, AnswersPoint, ImageAnswer};
-ghost use Rattle.poly.specs.Search.{Searched};
+ghost use Rattle.poly.specs.ImageCall.{image-call, refusal, image-table, Fine, AnswersPoint, ImageAnswer};
 ghost use Rattle.poly.specs.euclid.Model.{gcd};
 ghost use Rattle.poly.specs.euclid.Steps.{Pair};
 ghost use Rattle.poly.specs.image.Model.{image-record};
-use crate::COORDINATES;
 use crate::Eight;
 use crate::ImageRecord;
 use crate::POWERS;
-use crate::Term;
 use crate::euclid;
 use crate::key::Key;
 use crate::list;
+use crate::points;
 use crate::value;
 use field::Element;
 use field::Fault;
-use field::Number;
+use field::Residue;
+use field::Term;
 
 // On refusal the coefficients and the degree are 0.
 fn refused(fault: Fault) -> ImageRecord
@@ -33,7 +30,7 @@ fn refused(fault: Fault) -> ImageRecord
 }
 
 // The image where the values are a, which is not 0, and b.
-fn image_of_values(p: Number, a: Eight, b: Eight) -> ImageRecord
+fn image_of_values(p: Residue, a: Eight, b: Eight) -> ImageRecord
     requires { ⌜ Pair p a b ⌝ }
     ensures { λ r. ⌜ r ≡ image-record (gcd p a b) ⌝ }
 {
@@ -48,7 +45,7 @@ fn image_of_values(p: Number, a: Eight, b: Eight) -> ImageRecord
 
 // The image at a point, of inputs that are in order: for the service below, and for the layer above. The point is bad if A's value has 0 at
 // A's highest power of x; then B's value is not worked.
-pub fn image_at(p: Number, first: &[Term], second: &[Term], point: &[Number]) -> ImageRecord
+pub fn image_at(p: Residue, first: &[Term], second: &[Term], point: &[Residue]) -> ImageRecord
     requires { ⌜ Fine p (now first) (now second) (now point) ⌝ }
     ensures { λ r. ⌜ AnswersPoint p (now (first .entry)) (now (second .entry)) (now (point .entry)) r ⌝ }
 {
@@ -64,47 +61,19 @@ pub fn image_at(p: Number, first: &[Term], second: &[Term], point: &[Number]) ->
     image_of_values(p, a, b)
 }
 
-// The place of the first point number that is at least p, or the length.
-pub fn first_large(p: Number, numbers: &[Number]) -> usize
-    ensures { λ r. ⌜ Searched (WrongNumber p (now (numbers .entry))) (length (now (numbers .entry))) r ⌝ }
-{
-    let mut i: usize = 0;
-    while i < numbers.len() {
-        if numbers[i] >= p {
-            return i;
-        }
-        i += 1;
-    }
-    i
-}
-
-// The refusals 8 and 9, of one point.
-fn point_fault(p: Number, point: &[Number]) -> Fault
-    ensures { λ r. ⌜ Tested (of-point p (now (point .entry))) r ⌝ }
-{
-    if point.len() != COORDINATES {
-        return Fault::at(Fault::POINTS_COUNT, 0);
-    }
-    let place = first_large(p, point);
-    if place < point.len() {
-        return Fault::at(Fault::POINT_NUMBER, place);
-    }
-    Fault::none()
-}
-
 // The refusals of the image's inputs.
-fn image_fault(p: Number, first: &[Term], second: &[Term], point: &[Number]) -> Fault
+fn image_fault(p: Residue, first: &[Term], second: &[Term], point: &[Residue]) -> Fault
     ensures { λ r. ⌜ Tested (image-table (image-call p (now (first .entry)) (now (second .entry)) (now (point .entry)))) r ⌝ }
 {
     let fault = list::lists_fault(p, first, second);
     if fault.number != 0 {
         return fault;
     }
-    point_fault(p, point)
+    points::point_fault(p, point)
 }
 
 // The image service.
-pub fn image(p: Number, first: &[Term], second: &[Term], point: &[Number]) -> ImageRecord
+pub fn image(p: Residue, first: &[Term], second: &[Term], point: &[Residue]) -> ImageRecord
     ensures { λ r. ⌜ ImageAnswer (image-call p (now (first .entry)) (now (second .entry)) (now (point .entry))) r ⌝ }
 {
     let fault = image_fault(p, first, second, point);

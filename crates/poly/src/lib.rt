@@ -1,26 +1,22 @@
 // Layer 2, polynomials in x, y, z, w modulo a listed prime: keys and lists, the value and the image at a point, division.
 use field::Fault;
-use field::Number;
+use field::Residue;
 
 pub mod division;
 mod euclid;
 pub mod image;
 pub mod key;
 pub mod list;
+pub mod points;
 pub mod quotient;
+pub mod rooms;
 pub mod value;
-
-// A term: its key times 65536, plus its coefficient.
-pub type Term = u32;
 
 // The powers of a variable, 0 to 7.
 pub const POWERS: usize = 8;
 
-// The coordinates of a point, y, z and w.
-pub const COORDINATES: usize = 3;
-
 // Eight numbers below the modulus: the coefficients of x^0 to x^7, or the powers 0 to 7 of a number.
-pub type Eight = [Number; POWERS];
+pub type Eight = [Residue; POWERS];
 
 // What the image service answers: U's coefficients and its degree; on refusal all are 0.
 pub struct ImageRecord {

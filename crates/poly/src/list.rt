@@ -6,13 +6,12 @@ ghost use Rattle.poly.specs.Lists.{WrongModulo, of-lists};
 ghost use Rattle.poly.specs.LeadingPart.{of-list, LeadingPart};
 ghost use Rattle.poly.specs.Search.{Searched};
 ghost use Rattle.poly.specs.list.Model.{of-terms, Lower};
-use crate::Term;
 use crate::key::Key;
 use field::Fault;
-use field::Number;
-
-// The most terms that a list has.
-const MOST: usize = 256;
+use field::MOST_TERMS;
+use field::RefusalNumber;
+use field::Residue;
+use field::Term;
 
 // The place of the first term that is wrong where coefficients are below the bound, or the length.
 fn first_wrong(bound: u32, terms: &[Term]) -> usize
@@ -35,13 +34,13 @@ fn first_wrong(bound: u32, terms: &[Term]) -> usize
 }
 
 // The check of one list, whose two refusal numbers are given.
-fn list_fault(count: Number, term: Number, bound: u32, terms: &[Term]) -> Fault
+fn list_fault(count: RefusalNumber, term: RefusalNumber, bound: u32, terms: &[Term]) -> Fault
     ensures { λ r. ⌜ Tested (of-terms count term bound (now (terms .entry))) r ⌝ }
 {
     if terms.len() == 0 {
         return Fault::at(count, 0);
     }
-    if terms.len() > MOST {
+    if terms.len() > MOST_TERMS {
         return Fault::at(count, 0);
     }
     let place = first_wrong(bound, terms);
@@ -52,7 +51,7 @@ fn list_fault(count: Number, term: Number, bound: u32, terms: &[Term]) -> Fault
 }
 
 // The refusals 1 to 5, of the modulus and the two lists.
-pub fn lists_fault(p: Number, first: &[Term], second: &[Term]) -> Fault
+pub fn lists_fault(p: Residue, first: &[Term], second: &[Term]) -> Fault
     ensures { λ r. ⌜ Tested (of-lists p (now (first .entry)) (now (second .entry))) r ⌝ }
 {
     if !field::is_modulus(p) {

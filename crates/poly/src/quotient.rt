@@ -7,14 +7,16 @@ ghost use Rattle.poly.specs.Room.{of-rooms};
 ghost use Rattle.poly.specs.QuotientCall.{quotient-call, quotient-result, quotient-table, Quotient};
 ghost use Rattle.poly.specs.division.WorkRoomModel.{CanGather, Gathered};
 use crate::QuotientRecord;
-use crate::Term;
-use crate::division::KEYS;
-use crate::division::WORK_ROOM;
+use crate::rooms;
+use crate::rooms::CELLS;
+use crate::rooms::WORK_ROOM;
 use field::Fault;
-use field::Number;
+use field::KeyBits;
+use field::Residue;
+use field::Term;
 
 // The terms of the cells that are not 0, the highest key first, written first in the output; how many there are.
-fn gather(cells: &[Number], out: &mut [Term]) -> usize
+fn gather(cells: &[Residue], out: &mut [Term]) -> usize
     requires { ⌜ CanGather (now cells) (now out) ⌝ }
     ensures { λ r. ⌜ Gathered (now (cells .entry)) (now (out .entry)) (now (out .exit)) r ⌝ }
 {
@@ -24,7 +26,7 @@ fn gather(cells: &[Number], out: &mut [Term]) -> usize
         k -= 1;
         let c = cells[k];
         if c != 0 {
-            out[n] = crate::key::term(k as u16, c);
+            out[n] = crate::key::term(k as KeyBits, c);
             n += 1;
         }
     }
@@ -32,39 +34,39 @@ fn gather(cells: &[Number], out: &mut [Term]) -> usize
 }
 
 // The refusals of the inputs, 1 to 5, 10 and 11; of the two rooms only the lengths matter.
-fn quotient_fault(p: Number, first: &[Term], second: &[Term], output: usize, work: usize) -> Fault
+fn quotient_fault(p: Residue, first: &[Term], second: &[Term], output: usize, work: usize) -> Fault
     ensures { λ r. ⌜ Tested (of-lists p (now (first .entry)) (now (second .entry)) ++ of-rooms output keys work) r ⌝ }
 {
     let fault = crate::list::lists_fault(p, first, second);
     if fault.number != 0 {
         return fault;
     }
-    crate::division::rooms_fault(output, KEYS, work)
+    rooms::rooms_fault(output, CELLS, work)
 }
 
 // The quotient of inputs that pass, or 15. The work room is left cleared.
 fn exact(
-    p: Number,
+    p: Residue,
     first: &[Term],
     second: &[Term],
     out: &mut [Term],
-    work: &mut [Number],
+    work: &mut [Residue],
 ) -> QuotientRecord
     requires { ⌜ Passes (quotient-table (quotient-call p (now first) (now second) (now out) (now work))) ⌝ }
     ensures { λ r. ⌜ Quotient (quotient-call p (now (first .entry)) (now (second .entry)) (now (out .entry)) (now (work .entry)))
         (quotient-result r (now (out .exit)) (now (work .exit))) ⌝ }
 {
-    crate::division::clear(WORK_ROOM, work);
+    rooms::clear(WORK_ROOM, work);
     let whole = crate::division::divide(p, first, second, work);
     if !whole {
-        crate::division::clear(WORK_ROOM, work);
+        rooms::clear(WORK_ROOM, work);
         return QuotientRecord {
             fault: Fault::at(Fault::DOES_NOT_DIVIDE, 0),
             terms: 0,
         };
     }
-    let terms = gather(&work[KEYS..WORK_ROOM], out);
-    crate::division::clear(WORK_ROOM, work);
+    let terms = gather(&work[CELLS..WORK_ROOM], out);
+    rooms::clear(WORK_ROOM, work);
     QuotientRecord {
         fault: Fault::none(),
         terms,
@@ -73,11 +75,11 @@ fn exact(
 
 // First over second: the quotient's terms and their count, or a refusal.
 pub fn quotient(
-    p: Number,
+    p: Residue,
     first: &[Term],
     second: &[Term],
     out: &mut [Term],
-    work: &mut [Number],
+    work: &mut [Residue],
 ) -> QuotientRecord
     ensures { λ r. ⌜ Quotient (quotient-call p (now (first .entry)) (now (second .entry)) (now (out .entry)) (now (work .entry)))
         (quotient-result r (now (out .exit)) (now (work .exit))) ⌝ }

@@ -5,13 +5,13 @@ ghost use Rattle.poly.specs.Powers.{Powers};
 ghost use Rattle.poly.specs.value.Model.{Ready, value-of};
 use crate::Eight;
 use crate::POWERS;
-use crate::Term;
 use crate::key::Key;
 use field::Element;
-use field::Number;
+use field::Residue;
+use field::Term;
 
 // The powers 0 to 7 of a number: for the value below, and for the equations of the layer above.
-pub fn powers(p: Number, y: Number) -> Eight
+pub fn powers(p: Residue, y: Residue) -> Eight
     requires { ⌜ 0 < p ⌝ }
     ensures { λ r. ⌜ Powers p y r ⌝ }
 {
@@ -25,7 +25,7 @@ pub fn powers(p: Number, y: Number) -> Eight
 }
 
 // The value of a list where the powers of y, z and w are given: eight coefficients in x.
-pub(crate) fn value(p: Number, ys: Eight, zs: Eight, ws: Eight, terms: &[Term]) -> Eight
+pub(crate) fn value(p: Residue, ys: Eight, zs: Eight, ws: Eight, terms: &[Term]) -> Eight
     requires { ⌜ Ready p ys zs ws (now terms) ⌝ }
     ensures { λ r. ⌜ r ≡ value-of p ys zs ws (now (terms .entry)) ⌝ }
 {

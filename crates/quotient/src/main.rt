@@ -3,14 +3,14 @@ ghost use Rattle.poly.specs.QuotientCall.{quotient-result};
 ghost use Rattle.quotient.specs.QuotientOfFile.{Answered};
 use console::input;
 use console::print;
-use field::Number;
+use field::Residue;
+use field::Term;
 use poly::QuotientRecord;
-use poly::Term;
-use poly::division::KEYS;
-use poly::division::WORK_ROOM;
+use poly::rooms::CELLS;
+use poly::rooms::WORK_ROOM;
 
 // Reads the case and asks for its quotient.
-fn quotient_of(bytes: &[u8], out: &mut [Term], work: &mut [Number]) -> QuotientRecord
+fn quotient_of(bytes: &[u8], out: &mut [Term], work: &mut [Residue]) -> QuotientRecord
     ensures { λ r. ⌜ Answered (now (bytes .entry)) (now (out .entry)) (now (work .entry)) (quotient-result r (now (out .exit)) (now (work .exit))) ⌝ }
 {
     let mut first = [0; case_file::TERMS];
@@ -30,7 +30,7 @@ fn quotient_of(bytes: &[u8], out: &mut [Term], work: &mut [Number]) -> QuotientR
 fn main() {
     let mut bytes = io::buffer();
     let n = input::read_file(&mut bytes);
-    let mut out = [0; KEYS];
+    let mut out = [0; CELLS];
     let mut work = [0; WORK_ROOM];
     let found = quotient_of(&bytes[..n], &mut out, &mut work);
     let terms = found.terms;

@@ -7,8 +7,8 @@ use Rattle.poly.specs.Lists.{WrongNumber}
 use Rattle.poly.specs.list.Searching.{Searching}
 use Rattle.poly.specs.list.Search.{search-begins, search-goes-on, search-stops, search-ends}
 use borrow.Author.Needs.{needs}
-use Rattle.poly.proofs.image.first_large.Statement.{statement}
-use Rattle.poly.proofs.image.first_large.Tie as tie
+use Rattle.poly.proofs.points.first_large.Statement.{statement}
+use Rattle.poly.proofs.points.first_large.Tie as tie
 
 abbrev Inv-loop : tie.InvT-loop
 Inv-loop p numbers i₀ i = Searching (WrongNumber p numbers) (length numbers) i

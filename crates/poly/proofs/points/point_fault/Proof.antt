@@ -1,8 +1,8 @@
 -- `poly::image::point_fault` meets its contract: each way out is an answer of the check. Assumes nothing.
 use Rattle.poly.specs.points.Check.{point-miscounted, point-wrong, point-right}
 use borrow.Author.Needs.{needs}
-use Rattle.poly.proofs.image.point_fault.Statement.{statement}
-use Rattle.poly.proofs.image.point_fault.Tie as tie
+use Rattle.poly.proofs.points.point_fault.Statement.{statement}
+use Rattle.poly.proofs.points.point_fault.Tie as tie
 
 at-requires : tie.Need-at-requires
 at-requires c κs = search needs

@@ -3,8 +3,8 @@ use mathlib.Core.Path.{refl}
 use native.Mathlib.Omega.{arith}
 use Rattle.field.specs.faults.Laws.{placed-never, tested-line, tested-past, tested-end}
 use borrow.Author.Needs.{needs}
-use Rattle.poly.proofs.division.rooms_fault.Statement.{statement}
-use Rattle.poly.proofs.division.rooms_fault.Tie as tie
+use Rattle.poly.proofs.rooms.rooms_fault.Statement.{statement}
+use Rattle.poly.proofs.rooms.rooms_fault.Tie as tie
 
 at-requires : tie.Need-at-requires
 at-requires c κs = search needs

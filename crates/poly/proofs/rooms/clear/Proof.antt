@@ -8,8 +8,8 @@ use lib.ListN.{length, set, length-set}
 use Rattle.poly.specs.Room.{zeroed}
 use Rattle.poly.specs.rooms.Laws.{zeroed-none, zeroed-more}
 use borrow.Author.Needs.{needs}
-use Rattle.poly.proofs.division.clear.Statement.{statement}
-use Rattle.poly.proofs.division.clear.Tie as tie
+use Rattle.poly.proofs.rooms.clear.Statement.{statement}
+use Rattle.poly.proofs.rooms.clear.Tie as tie
 
 abbrev Inv-loop : tie.InvT-loop
 Inv-loop n numbers₀ end i₀ numbers i =
