@@ -15,7 +15,7 @@ use Rattle.field.specs.declared.faults.Fault.{Fault}
 use Rattle.poly.specs.Lists.{Count, WrongNumber}
 use Rattle.poly.specs.Room.{of-rooms}
 use Rattle.poly.specs.ImageCall.{point-of}
-use Rattle.divisor.specs.Candidate.{most-point-numbers, Call, table, of-points, point-at, points-of, prime, Numbers, A, B, monomials, Result, Candidate, refused, answered}
+use Rattle.divisor.specs.Candidate.{most-point-numbers, Call, of-skeleton, table, of-points, point-at, points-of, prime, Numbers, A, B, monomials, Result, Candidate, refused, answered}
 use Rattle.divisor.specs.Repeated.{once-more, again, lines-before-points, AlikeButOne, Repeated}
 use Rattle.divisor.specs.twice.Equations.{Inserted, here, there, Again, behind, later}
 use Rattle.divisor.specs.twice.Rule.{repeated-point}
@@ -114,7 +114,10 @@ module _ (c : Call) (i j : ℕ) (k : i < j) (h : 3 * j ≤ length (c .points)) w
       λ w. elim w [ inl x ↦ elim x [ inl y ↦ omega arith | inr y ↦ omega arith ] | inr n ↦ n (omega arith) ] in
       let small : (place : ℕ) → ¬ first (WrongNumber (c .modulus) (c .points)) place =
       λ place w. let b = below place (w .0 .there) in let g = w .0 .large in omega arith in
-      (pass .0, (pass .1 .0, (pass .1 .1 .0, (pass .1 .1 .1 .0, (pass .1 .1 .1 .1 .0, (skeleton .0, (skeleton .1 .0, (placed-never counted, (small, rooms)))))))))
+      let rest : Passes (of-skeleton (c .skeleton) ++ (of-points (c .modulus) (c .points)
+      ++ of-rooms (length (c .output)) (length (c .skeleton)) (length (c .work)))) =
+      (skeleton .0, (skeleton .1 .0, (placed-never counted, (small, rooms)))) in
+      (pass .0, (pass .1 .0, (pass .1 .1 .0, (pass .1 .1 .1 .0, (pass .1 .1 .1 .1 .0, rest)))))
 
   alike : (r r′ : Result) → Candidate c r → Candidate (again c i j) r′ → Passes (table (again c i j)) → AlikeButOne c i r r′
   alike r r′ (refused f x) meets pass = absurd (not-passes-and-refuses (table c) f (passes pass) x)
