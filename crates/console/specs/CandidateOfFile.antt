@@ -2,13 +2,12 @@
 use Prim.Native.Nat.{ℕ}
 use mathlib.Core.List.{List}
 use lib.ListN.{getD}
-use Rattle.io.specs.Counts.{Counts}
 use Rattle.field.specs.declared.faults.Fault.{Fault}
 use Rattle.case_file.specs.Format.{modulus-kind, first-kind, second-kind, skeleton-kind, point-kind}
 use Rattle.case_file.specs.Reading.{Reading}
 use Rattle.case_file.specs.Handed.{list}
 use Rattle.divisor.specs.Candidate.{Call, candidate-call, Result, candidate-result, Candidate, refusal}
-use Rattle.console.specs.OfFile.{OfFile}
+use Rattle.console.specs.OfFile.{OfFile, Answered}
 
 module _ (output work : List ℕ) where
   abbrev pub unread : Fault → Result
@@ -20,9 +19,7 @@ module _ (output work : List ℕ) where
       candidate-call (getD (list o modulus-kind) 0 0) (list o first-kind) (list o second-kind) (list o skeleton-kind) (list o point-kind) output work
 
   abbrev pub CandidateOfFile : List ℕ → Result → Type 0
-  CandidateOfFile bytes r = OfFile unread (λ (o : Reading). Candidate (call o)) bytes r
+  CandidateOfFile = OfFile unread (λ (o : Reading). Candidate (call o))
 
--- the promise of a call on the bytes of a file; the terms stand first in the output
-pub record Answered (bytes output work : List ℕ) (r : Result) : Type 0 where
-  pub is : CandidateOfFile output work bytes r
-  pub terms-first : Counts (r .found .terms) (r .output)
+  abbrev pub CandidateAnswered : List ℕ → Result → Type 0
+  CandidateAnswered = Answered unread (λ (o : Reading). Candidate (call o)) (λ r. r .found .terms) (λ r. r .output)

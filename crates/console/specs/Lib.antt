@@ -1,5 +1,5 @@
--- What the contracts of the programs' common functions say, and laws for the programs.
-pub mod Lists
+-- What the contracts of the programs' common functions say; then, for each source module, its laws.
 pub mod OfFile
 pub mod CandidateOfFile
+pub mod input
 pub mod answer

@@ -1,3 +1,4 @@
 -- What is found of a file.
 pub mod OfFile
 pub mod TermsFirst
+pub mod Candidate

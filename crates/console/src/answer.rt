@@ -1,8 +1,7 @@
 // The candidate of a case file.
 ghost use mathlib.Core.Path.{_≡_};
 ghost use Rattle.divisor.specs.Candidate.{candidate-result, refusal};
-ghost use Rattle.console.specs.CandidateOfFile.{Answered};
-use crate::input;
+ghost use Rattle.console.specs.CandidateOfFile.{CandidateAnswered};
 use crate::print;
 use divisor::CandidateRecord;
 use field::Fault;
@@ -26,13 +25,13 @@ fn refused(fault: Fault) -> CandidateRecord
 
 // Reads the case and asks for its candidate.
 pub fn candidate_of(bytes: &[u8], out: &mut [Term], work: &mut [Residue]) -> CandidateRecord
-    ensures { λ r. ⌜ Answered (now (bytes .entry)) (now (out .entry)) (now (work .entry)) (candidate-result r (now (out .exit)) (now (work .exit))) ⌝ }
+    ensures { λ r. ⌜ CandidateAnswered (now (out .entry)) (now (work .entry)) (now (bytes .entry)) (candidate-result r (now (out .exit)) (now (work .exit))) ⌝ }
 {
     let mut first = [0; case_file::TERMS];
     let mut second = [0; case_file::TERMS];
     let mut skeleton = [0; case_file::KEYS];
     let mut points = [0; case_file::POINT_NUMBERS];
-    let counts = input::read_case(bytes, &mut first, &mut second, &mut skeleton, &mut points);
+    let counts = case_file::read_into(bytes, &mut first, &mut second, &mut skeleton, &mut points);
     let fault = counts.fault;
     if fault.number != 0 {
         return refused(fault);

@@ -1,2 +1,3 @@
--- What the contracts of the static library say.
+-- What the contracts of the static library say, and that they determine the results.
 pub mod Layout
+pub mod library

@@ -23,7 +23,7 @@ fn print_images_of(bytes: &[u8]) {
     let mut second = [0; case_file::TERMS];
     let mut skeleton = [0; case_file::KEYS];
     let mut points = [0; case_file::POINT_NUMBERS];
-    let counts = input::read_case(bytes, &mut first, &mut second, &mut skeleton, &mut points);
+    let counts = case_file::read_into(bytes, &mut first, &mut second, &mut skeleton, &mut points);
     let fault = counts.fault;
     if fault.number != 0 {
         print::fault(fault);

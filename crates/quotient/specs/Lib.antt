@@ -1,2 +1,3 @@
--- What the program's function on bytes promises.
+-- What the program's function on bytes promises, and its laws.
 pub mod QuotientOfFile
+pub mod answer

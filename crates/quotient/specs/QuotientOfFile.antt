@@ -2,13 +2,12 @@
 use Prim.Native.Nat.{ℕ}
 use mathlib.Core.List.{List}
 use lib.ListN.{getD}
-use Rattle.io.specs.Counts.{Counts}
 use Rattle.field.specs.declared.faults.Fault.{Fault}
 use Rattle.case_file.specs.Format.{modulus-kind, first-kind, second-kind}
 use Rattle.case_file.specs.Reading.{Reading}
 use Rattle.case_file.specs.Handed.{list}
 use Rattle.poly.specs.QuotientCall.{QuotientCall, quotient-call, QuotientResult, quotient-result, Quotient}
-use Rattle.console.specs.OfFile.{OfFile}
+use Rattle.console.specs.OfFile.{Answered}
 
 module _ (output work : List ℕ) where
   abbrev pub unread : Fault → QuotientResult
@@ -18,10 +17,5 @@ module _ (output work : List ℕ) where
   abbrev pub call : Reading → QuotientCall
   call o = quotient-call (getD (list o modulus-kind) 0 0) (list o first-kind) (list o second-kind) output work
 
-  abbrev pub QuotientOfFile : List ℕ → QuotientResult → Type 0
-  QuotientOfFile bytes r = OfFile unread (λ (o : Reading). Quotient (call o)) bytes r
-
--- the promise of a call on the bytes of a file; the terms stand first in the output
-pub record Answered (bytes output work : List ℕ) (r : QuotientResult) : Type 0 where
-  pub is : QuotientOfFile output work bytes r
-  pub terms-first : Counts (r .found .terms) (r .output)
+  abbrev pub QuotientAnswered : List ℕ → QuotientResult → Type 0
+  QuotientAnswered = Answered unread (λ (o : Reading). Quotient (call o)) (λ r. r .found .terms) (λ r. r .output)

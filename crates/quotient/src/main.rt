@@ -1,6 +1,6 @@
 // Reads a case file from standard input and prints A over B: `0 0` and a line for each term, or number and place.
 ghost use Rattle.poly.specs.QuotientCall.{quotient-result};
-ghost use Rattle.quotient.specs.QuotientOfFile.{Answered};
+ghost use Rattle.quotient.specs.QuotientOfFile.{QuotientAnswered};
 use console::input;
 use console::print;
 use field::Residue;
@@ -11,13 +11,13 @@ use poly::rooms::WORK_ROOM;
 
 // Reads the case and asks for its quotient.
 fn quotient_of(bytes: &[u8], out: &mut [Term], work: &mut [Residue]) -> QuotientRecord
-    ensures { λ r. ⌜ Answered (now (bytes .entry)) (now (out .entry)) (now (work .entry)) (quotient-result r (now (out .exit)) (now (work .exit))) ⌝ }
+    ensures { λ r. ⌜ QuotientAnswered (now (out .entry)) (now (work .entry)) (now (bytes .entry)) (quotient-result r (now (out .exit)) (now (work .exit))) ⌝ }
 {
     let mut first = [0; case_file::TERMS];
     let mut second = [0; case_file::TERMS];
     let mut skeleton = [0; case_file::KEYS];
     let mut points = [0; case_file::POINT_NUMBERS];
-    let counts = input::read_case(bytes, &mut first, &mut second, &mut skeleton, &mut points);
+    let counts = case_file::read_into(bytes, &mut first, &mut second, &mut skeleton, &mut points);
     let fault = counts.fault;
     if fault.number != 0 {
         return QuotientRecord { fault, terms: 0 };

@@ -1,4 +1,4 @@
--- The first 4,096 bytes of a file settle what is found of it, so a program reads no more. Assumes nothing.
+-- The first 4,096 bytes of a file settle what is found of it, so a program reads no more.
 use Prim.Native.Nat.{ℕ}
 use mathlib.Core.List.{List}
 use lib.ListN.{take}

@@ -1,4 +1,4 @@
--- What a call of the static library hands back and leaves in what is lent is settled by its contract, as the service's answer is. Assumes nothing.
+-- What a call of the static library hands back and leaves in what is lent is determined by its contract, as the service's result is.
 use Prim.Native.Nat.{ℕ}
 use mathlib.Core.Path.{_≡_, sym, _∙_, ap}
 use mathlib.Core.List.{List}

@@ -1,2 +1,0 @@
--- Laws of the static library that belong to no single function.
-pub mod Determined

@@ -1,0 +1,2 @@
+-- The results of the library are determined.
+pub mod Determined

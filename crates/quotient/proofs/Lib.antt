@@ -1,2 +1,0 @@
--- Laws of the program.
-pub mod Answered
