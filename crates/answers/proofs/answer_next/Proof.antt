@@ -1,4 +1,4 @@
--- `answers::answer_next` is safe: a length of two bytes lies within the buffer. Assumes nothing.
+-- `answers::answer_next` is safe: a length of two bytes lies within the buffer.
 use mathlib.Core.Path.{sym}
 use lib.Seq.{length-take-le}
 use borrow.Author.Needs.{needs}

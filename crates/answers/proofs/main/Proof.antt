@@ -1,4 +1,4 @@
--- `answers::main` is safe and ends: the measure is the number of turns that are left. Assumes nothing.
+-- `answers::main` is safe and ends: the measure is the number of turns that are left.
 use borrow.Author.Needs.{needs}
 use Rattle.answers.proofs.main.Statement.{statement}
 use Rattle.answers.proofs.main.Tie as tie

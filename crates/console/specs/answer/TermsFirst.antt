@@ -1,4 +1,4 @@
--- The terms that a service finds stand first in the output, whether it refuses or answers. Assumes nothing.
+-- The terms that a service finds stand first in the output, whether it refuses or answers.
 use Prim.Native.Nat.{ℕ, _≤_, zero-le}
 use native.Mathlib.Omega.{arith}
 use mathlib.Core.Path.{refl}

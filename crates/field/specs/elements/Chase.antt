@@ -1,4 +1,4 @@
--- What the loop of `inverse` keeps: a t is r modulo p, with 0 < r < p. Assumes nothing.
+-- What the loop of `inverse` keeps: a t is r modulo p, with 0 < r < p.
 use mathlib.Core.Path.{_≡_, ap, _∙_}
 use Prim.Native.Nat.{ℕ, _-_, _*_, _/_, _%_, _<_}
 use native.Mathlib.Omega.{arith}

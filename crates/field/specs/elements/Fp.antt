@@ -1,4 +1,4 @@
--- The laws of the numbers modulo p, and how `el` carries sums, products and opposites over. Only the law of `neg` wants 0 < p. Assumes nothing.
+-- The laws of the numbers modulo p, and how `el` carries sums, products and opposites over. Only the law of `neg` wants 0 < p.
 use mathlib.Core.Path.{_≡_, refl, sym, ap, _∙_, subst}
 use mathlib.Core.HLevel.{hedberg, isProp→PathP}
 use Prim.Native.Nat.{ℕ, _+_, _*_, _-_, _/_, _%_, _<_}

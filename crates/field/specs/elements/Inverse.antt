@@ -1,4 +1,4 @@
--- Modulo a prime `inv` gives the inverse of each element but 0, and an element has one inverse at most. Assumes nothing.
+-- Modulo a prime `inv` gives the inverse of each element but 0, and an element has one inverse at most.
 use mathlib.Core.Path.{_≡_, refl, sym, ap, _∙_}
 use mathlib.Core.Bool.{Bool, true, false}
 use Prim.Native.Nat.{ℕ, zero, suc, _/_, _%_, _≤_, _<_}

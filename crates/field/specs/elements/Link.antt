@@ -1,4 +1,4 @@
--- What the code's numbers are modulo p: one law for each operation, from the contracts' plain numbers to `Fp p`. Assumes nothing.
+-- What the code's numbers are modulo p: one law for each operation, from the contracts' plain numbers to `Fp p`.
 use mathlib.Core.Path.{_≡_, sym, ap, _∙_}
 use Prim.Native.Nat.{ℕ, _+_, _-_, _*_, _%_, _≤_, _<_}
 use native.Mathlib.Omega.{arith}

@@ -1,4 +1,4 @@
--- Products of 16-bit numbers fit 32 bits, with a 16-bit number added too. Assumes nothing.
+-- Products of 16-bit numbers fit 32 bits, with a 16-bit number added too.
 use Prim.Native.Nat.{ℕ, _+_, _*_, _≤_, _<_}
 use native.Mathlib.Omega.{arith}
 use native.Mathlib.Nat.{le-of-lt, lt-of-le-of-lt, mul-le-mul, mul-le-mul-left, mul-lt-mul-of-pos-right}

@@ -1,4 +1,4 @@
--- A computed check of each line decides a table. Assumes nothing.
+-- A computed check of each line decides a table.
 use mathlib.Core.Path.{_≡_, refl}
 use mathlib.Core.Logic.{_⊎_, inl, inr}
 use mathlib.Core.List.{List, [], _∷_}

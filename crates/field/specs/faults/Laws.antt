@@ -1,5 +1,4 @@
 -- Laws of tables of refusals: a table gives one fault at most, and does not both pass and refuse; a table may be tested part by part.
--- Assumes nothing.
 use mathlib.Core.Path.{_≡_, refl, sym, _∙_, ap}
 use mathlib.Core.Logic.{inl, inr}
 use mathlib.Core.Bool.{Bool, true, _&&_}

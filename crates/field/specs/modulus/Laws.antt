@@ -1,4 +1,4 @@
--- Each listed modulus is prime, by one computed test over the table, and within the bounds that the code leans on. Assumes nothing.
+-- Each listed modulus is prime, by one computed test over the table, and within the bounds that the code leans on.
 use mathlib.Core.Path.{_≡_, refl, sym, _∙_, subst}
 use mathlib.Core.Bool.{Bool, true, false, _&&_, _||_, Bool-discrete, true≢false}
 use mathlib.Core.HLevel.{hedberg}

@@ -1,4 +1,4 @@
--- The numbers of a `match` arm, as the test of a table. Assumes nothing.
+-- The numbers of a `match` arm, as the test of a table.
 use mathlib.Core.Path.{_≡_, refl, ap, _∙_}
 use mathlib.Core.Logic.{inl, inr}
 use mathlib.Core.Bool.{true, false, _||_, or-true}

@@ -1,4 +1,4 @@
--- A computed test of primes, by trial division, and what it gives. Assumes nothing.
+-- A computed test of primes, by trial division, and what it gives.
 use mathlib.Core.Path.{_≡_, refl, sym, ap, _∙_}
 use mathlib.Core.Logic.{_⊎_, inl, inr}
 use mathlib.Core.Bool.{Bool, true, false, true≢false}

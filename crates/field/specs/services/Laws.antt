@@ -1,4 +1,4 @@
--- The promises of the arithmetic services settle their answers, and what is known where no line applies. Assumes nothing.
+-- The promises of the arithmetic services settle their answers, and what is known where no line applies.
 use mathlib.Core.Path.{_≡_, sym, ap, _∙_}
 use mathlib.Core.Logic.{inl, inr}
 use mathlib.Core.List.{List}

@@ -1,4 +1,4 @@
--- `balungkiro_check_list` meets its contract: it lays out what the check gives. Assumes nothing.
+-- `balungkiro_check_list` meets its contract: it lays out what the check gives.
 use borrow.Author.Needs.{needs}
 use Rattle.handheld.specs.Layout.{laid}
 use Rattle.handheld.proofs.balungkiro_check_list.Statement.{statement}

@@ -1,4 +1,4 @@
--- `balungkiro_leading_part` meets its contract: it hands back the length of the head. Assumes nothing.
+-- `balungkiro_leading_part` meets its contract: it hands back the length of the head.
 use borrow.Author.Needs.{needs}
 use Rattle.handheld.specs.Layout.{laid}
 use Rattle.handheld.proofs.balungkiro_leading_part.Statement.{statement}

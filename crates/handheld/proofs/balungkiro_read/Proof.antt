@@ -1,4 +1,4 @@
--- `balungkiro_read` meets its contract: it lays out what the reader gives beside the four arrays. Assumes nothing.
+-- `balungkiro_read` meets its contract: it lays out what the reader gives beside the four arrays.
 use borrow.Author.Needs.{needs}
 use mathlib.Core.Path.{refl}
 use Rattle.handheld.specs.Layout.{laid}

@@ -1,4 +1,4 @@
--- What is computed for a call whose inputs pass meets the promise of the call. Assumes nothing.
+-- What is computed for a call whose inputs pass meets the promise of the call.
 use mathlib.Core.Path.{_≡_, refl, sym, _∙_, ap, ap₂, subst}
 use mathlib.Core.List.{List, [], _∷_, map}
 use Prim.Native.Nat.{ℕ, zero, suc, _+_, _≤_, _<_}

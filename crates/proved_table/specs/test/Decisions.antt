@@ -1,4 +1,4 @@
--- The lines of the candidate's inputs and of the image's, each decided by computing. Assumes nothing.
+-- The lines of the candidate's inputs and of the image's, each decided by computing.
 use mathlib.Core.Path.{_≡_, refl, subst}
 use mathlib.Core.Logic.{_⊎_, inl, inr, Dec·not, Dec·and}
 use mathlib.Core.List.{List, [], _∷_, _++_, map}

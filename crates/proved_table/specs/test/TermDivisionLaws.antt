@@ -1,4 +1,4 @@
--- What the division of short lists says is so: where it says that the divisor divides, or that it does not. Assumes nothing.
+-- What the division of short lists says is so: where it says that the divisor divides, or that it does not.
 use mathlib.Core.Path.{_≡_, refl, sym, _∙_, ap, ap₂, subst}
 use mathlib.Core.Logic.{_⊎_, inl, inr}
 use mathlib.Core.Bool.{Bool, true, false, false≢true}

@@ -1,4 +1,5 @@
--- `bench_examples::ask::candidate_in` is safe: the terms that are printed stand first in the output. Assumes nothing.
+-- `bench_examples::ask::candidate_in` meets its contract: the rooms are left as the service leaves them, and the terms that are printed stand first in the
+-- output.
 use borrow.Author.Needs.{needs}
 use Rattle.console.specs.answer.TermsFirst.{candidate-first}
 use Rattle.bench_examples.proofs.ask.candidate_in.Statement.{statement}

@@ -1,4 +1,4 @@
--- `bench_examples::ask::quotient` is safe: the terms that are printed stand first in the output. Assumes nothing.
+-- `bench_examples::ask::quotient` meets its contract: the rooms are left as the service leaves them, and the terms that are printed stand first in the output.
 use borrow.Author.Needs.{needs}
 use Rattle.console.specs.answer.TermsFirst.{quotient-first}
 use Rattle.bench_examples.proofs.ask.quotient.Statement.{statement}

@@ -1,4 +1,4 @@
--- `console::print::line` is safe and ends. The index stays within the numbers; the measure is how many are left. Assumes nothing.
+-- `console::print::line` is safe and ends. The index stays within the numbers; the measure is how many are left.
 use Prim.Native.Nat.{_≤_, _-_}
 use lib.ListN.{length}
 use borrow.Author.Needs.{needs}

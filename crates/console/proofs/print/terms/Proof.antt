@@ -1,4 +1,4 @@
--- `console::print::terms` is safe and ends. The index stays within the list; the measure is how many terms are left. Assumes nothing.
+-- `console::print::terms` is safe and ends. The index stays within the list; the measure is how many terms are left.
 use Prim.Native.Nat.{_≤_, _-_}
 use lib.ListN.{length}
 use borrow.Author.Needs.{needs}

@@ -1,4 +1,4 @@
--- `field::plus_times` meets its contract: the sum fits twice the width, and its remainder is below p. Assumes nothing.
+-- `field::plus_times` meets its contract: the sum fits twice the width, and its remainder is below p.
 use Prim.Native.Nat.{_+_, _*_}
 use native.Mathlib.Omega.{arith}
 use native.Mathlib.Nat.{mod-lt}

@@ -1,4 +1,4 @@
--- `field::times` meets its contract: the product fits twice the width, and its remainder is below p. Assumes nothing.
+-- `field::times` meets its contract: the product fits twice the width, and its remainder is below p.
 use Prim.Native.Nat.{_*_}
 use native.Mathlib.Omega.{arith}
 use native.Mathlib.Nat.{mod-lt}

@@ -1,4 +1,4 @@
--- `field::is_modulus` meets its contract: the numbers of the `match` are those of the table. Assumes nothing.
+-- `field::is_modulus` meets its contract: the numbers of the `match` are those of the table.
 use mathlib.Core.Path.{sym}
 use Rattle.field.specs.Moduli.{listed, moduli}
 use Rattle.field.specs.modulus.Match.{among-true, among-false}

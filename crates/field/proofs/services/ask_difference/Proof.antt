@@ -1,4 +1,4 @@
--- `field::ask_difference` meets its contract: where no line applies, the operands are those that `difference` asks for. Assumes nothing.
+-- `field::ask_difference` meets its contract: where no line applies, the operands are those that `difference` asks for.
 use borrow.Author.Needs.{needs}
 use Rattle.field.specs.faults.Laws.{tested-passes}
 use Rattle.field.specs.services.Laws.{operands-fit, arithmetic-refused, arithmetic-answered}

@@ -1,4 +1,4 @@
--- `field::ask_inverse` meets its contract: where no line applies, the operand is one that `inverse` asks for. Assumes nothing.
+-- `field::ask_inverse` meets its contract: where no line applies, the operand is one that `inverse` asks for.
 use borrow.Author.Needs.{needs}
 use Rattle.field.specs.faults.Laws.{tested-passes}
 use Rattle.field.specs.services.Laws.{operand-invertible, arithmetic-refused, arithmetic-answered}

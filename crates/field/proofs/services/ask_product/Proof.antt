@@ -1,4 +1,4 @@
--- `field::ask_product` meets its contract: where no line applies, the operands are those that `product` asks for. Assumes nothing.
+-- `field::ask_product` meets its contract: where no line applies, the operands are those that `product` asks for.
 use native.Mathlib.Omega.{arith}
 use borrow.Author.Needs.{needs}
 use Rattle.field.specs.faults.Laws.{tested-passes}

@@ -1,4 +1,4 @@
--- `field::ask_sum` meets its contract: where no line applies, the operands are those that `sum` asks for. Assumes nothing.
+-- `field::ask_sum` meets its contract: where no line applies, the operands are those that `sum` asks for.
 use borrow.Author.Needs.{needs}
 use Rattle.field.specs.faults.Laws.{tested-passes}
 use Rattle.field.specs.services.Laws.{operands-fit, arithmetic-refused, arithmetic-answered}

@@ -1,4 +1,4 @@
--- `field::first_operand_fault` meets its contract: the answer is that of the first of the two lines that applies. Assumes nothing.
+-- `field::first_operand_fault` meets its contract: the answer is that of the first of the two lines that applies.
 use mathlib.Core.Path.{refl, sym, _∙_}
 use Prim.Native.Nat.{_<_}
 use native.Mathlib.Omega.{arith}

@@ -1,5 +1,4 @@
 -- `field::inverse_operand_fault` meets its contract: the lines of the operand by `first_operand_fault`, then that of an inverse of 0.
--- Assumes nothing.
 use mathlib.Core.Path.{refl}
 use borrow.Author.Needs.{needs}
 use Rattle.field.specs.declared.faults.Fault.{Fault}

@@ -1,5 +1,4 @@
 -- `field::two_operands_fault` meets its contract: the lines of the first operand by `first_operand_fault`, then those of the second.
--- Assumes nothing.
 use mathlib.Core.Path.{_≡_, refl, sym, ap, _∙_, subst}
 use mathlib.Core.Logic.{_⊎_, inl, inr}
 use mathlib.Core.Bool.{Bool, true, false, _&&_, and-false}

@@ -1,5 +1,4 @@
 -- `field::Element::inverse` meets its contract. The loop keeps `Chased`: the value times t is r, with 0 < r < p; the measure is r.
--- Assumes nothing.
 use mathlib.Core.Path.{refl}
 use Prim.Native.Nat.{_/_, _<_}
 use native.Mathlib.Omega.{arith}
