@@ -1,4 +1,5 @@
 -- Layer 1, arithmetic: definitions; then, for each source module, its laws.
+pub mod Widths
 pub mod Prime
 pub mod Moduli
 pub mod Fp

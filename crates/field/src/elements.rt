@@ -84,7 +84,7 @@ impl Element {
         }
     }
 
-    // The sum with a product, by one division. 65535 + 65535 * 65535 is below 2^32.
+    // The sum with a product, by one division: below the square of what residues are below, which is what a wide number is below.
     pub fn plus_product(self, a: Element, b: Element) -> Element
         requires { ⌜ 0 < self .modulus ⌝ }
         ensures { λ r. ⌜ r ≡ plus-product-of self a b ⌝ }

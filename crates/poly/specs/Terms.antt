@@ -4,6 +4,7 @@ use Prim.Native.Nat.{ℕ, _+_, _*_, _/_, _%_}
 use Rattle.algebra.specs.Field.{Field}
 use Rattle.algebra.specs.SeriesRing.{S4}
 use Rattle.algebra.specs.Monomial.{Term, polynomial}
+use Rattle.field.specs.Widths.{residue-limit}
 use Rattle.field.specs.Prime.{Prime}
 use Rattle.field.specs.Fp.{el}
 use Rattle.field.specs.Modulo.{Modulo}
@@ -11,7 +12,7 @@ use Rattle.poly.specs.Keys.{key, exponents}
 
 -- every coefficient is below
 abbrev pub coefficient-limit : ℕ
-coefficient-limit = 65536
+coefficient-limit = residue-limit
 
 -- the term of a key and a coefficient
 abbrev pub keyed : ℕ → ℕ → ℕ

@@ -1,16 +1,21 @@
--- Products of 16-bit numbers fit 32 bits, with a 16-bit number added too.
-use Prim.Native.Nat.{ℕ, _+_, _*_, _≤_, _<_}
+-- A product of two numbers below m, with a third added too, is below the square of m.
+use mathlib.Core.Path.{_≡_}
+use Prim.Native.Nat.{ℕ, zero, suc, _+_, _*_, _≤_, _<_}
 use native.Mathlib.Omega.{arith}
-use native.Mathlib.Nat.{le-of-lt, lt-of-le-of-lt, mul-le-mul, mul-le-mul-left, mul-lt-mul-of-pos-right}
+use native.Mathlib.Nat.{mul-le-mul, mul-suc, suc-mul}
 
--- a product of two numbers below m is below the square of m
+square-next : (k : ℕ) → suc k * suc k ≡ k * k + k + suc k
+square-next k = let e = mul-suc (suc k) k in let f = suc-mul k k in omega arith
+
+below-square : (m r a b : ℕ) → r < m → a < m → b < m → r + a * b < m * m
+below-square zero r a b hr ha hb = absurd (omega arith)
+below-square (suc k) r a b hr ha hb =
+    let product : a * b ≤ k * k = mul-le-mul {n₁ = a} {m₁ = b} {n₂ = k} {m₂ = k} (omega arith) (omega arith) in
+    let square = square-next k in
+    omega arith
+
+pub plus-below : {r a b m : ℕ} → r < m → a < m → b < m → r + a * b < m * m
+plus-below {r} {a} {b} {m} = below-square m r a b
+
 pub mul-below : {a b m : ℕ} → a < m → b < m → a * b < m * m
-mul-below {a} {b} {m} ha hb =
-    lt-of-le-of-lt (mul-le-mul-left a (le-of-lt hb)) (mul-lt-mul-of-pos-right ha (omega arith))
-
-pub plus-below : {r a b : ℕ} → r < 65536 → a < 65536 → b < 65536 → r + a * b < 4294967296
-plus-below {r} {a} {b} hr ha hb =
-    omega (arith, square a b (omega arith) (omega arith))
-  where
-    square : (a b : ℕ) → a ≤ 65535 → b ≤ 65535 → a * b ≤ 65535 * 65535
-    square a b ha hb = mul-le-mul {n₁ = a} {m₁ = b} {n₂ = 65535} {m₂ = 65535} ha hb
+mul-below {a} {b} {m} ha hb = let h = below-square m 0 a b (omega arith) ha hb in omega arith

@@ -6,6 +6,7 @@ use mathlib.Core.List.{List, [], _∷_}
 use Prim.Native.Nat.{ℕ, _<_}
 use native.Mathlib.Omega.{arith}
 use lib.Dec.{T, eqb, ltb, eqb→eq, ltb→lt}
+use Rattle.field.specs.Widths.{residue-limit}
 use Rattle.field.specs.Prime.{Prime}
 use Rattle.field.specs.modulus.Prime.{prime-test, test-prime}
 use Rattle.field.specs.Moduli.{moduli, among, listed, Listed}
@@ -46,8 +47,8 @@ listed-above h = listed-prime h .above
 pub listed-positive : {p : ℕ} → Listed p → 0 < p
 listed-positive h = omega (arith, listed-above h)
 
-pub listed-below : {p : ℕ} → Listed p → p < 65522
-listed-below {p} h = ltb→lt p 65522 (listed-every (λ n. ltb n 65522) tt p h)
+pub listed-below : {p : ℕ} → Listed p → p < residue-limit
+listed-below {p} h = ltb→lt p residue-limit (listed-every (λ n. ltb n residue-limit) tt p h)
 
 -- whether a modulus is listed is decided
 unfoldable pub listed-decided : (p : ℕ) → Dec (Listed p)

@@ -2,13 +2,14 @@
 use Prim.Native.Nat.{_*_}
 use native.Mathlib.Omega.{arith}
 use native.Mathlib.Nat.{mod-lt}
+use Rattle.field.specs.Widths.{residue-limit}
 use Rattle.field.specs.elements.Products.{mul-below}
 use borrow.Author.Needs.{needs}
 use Rattle.field.proofs.elements.times.Statement.{statement}
 use Rattle.field.proofs.elements.times.Tie as tie
 
 mul-result : tie.Need-mul-result
-mul-result c = record { fits = mul-below {m = 65536} (omega arith) (omega arith) }
+mul-result c = record { fits = mul-below {m = residue-limit} (omega arith) (omega arith) }
 
 rem-result : tie.Need-rem-result
 rem-result c = search needs

@@ -3,6 +3,7 @@ use mathlib.Core.Path.{refl}
 use Prim.Native.Nat.{_/_, _<_}
 use native.Mathlib.Omega.{arith}
 use native.Mathlib.Nat.{div-le-self, le-of-lt, mod-lt}
+use Rattle.field.specs.Widths.{residue-limit}
 use Rattle.field.specs.modulus.Laws.{listed-prime}
 use Rattle.field.specs.elements.Products.{mul-below}
 use Rattle.field.specs.elements.Chase.{Chased, begin, next, end}
@@ -32,8 +33,8 @@ div-m c = omega arith
 mul-m : tie.Need-mul-m Inv-loop μ-loop
 mul-m c =
     let p = c .before .before .before .before .args .self .modulus in
-    let q : p / c .before .loop .r < 65536 = omega (arith, div-le-self p (c .before .loop .r)) in
-    let t : c .before .loop .t < 65536 = omega arith in
+    let q : p / c .before .loop .r < residue-limit = omega (arith, div-le-self p (c .before .loop .r)) in
+    let t : c .before .loop .t < residue-limit = omega arith in
     record { fits = mul-below q t }
 
 rem-m : tie.Need-rem-m Inv-loop μ-loop

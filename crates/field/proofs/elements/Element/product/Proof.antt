@@ -2,6 +2,7 @@
 use Prim.Native.Nat.{_*_}
 use native.Mathlib.Omega.{arith}
 use native.Mathlib.Nat.{mod-lt}
+use Rattle.field.specs.Widths.{residue-limit}
 use Rattle.field.specs.elements.Products.{mul-below}
 use borrow.Author.Needs.{needs}
 use borrow.Author.Needs.{needs}
@@ -15,7 +16,7 @@ cast-v-2 : tie.Need-cast-v-2
 cast-v-2 c = search needs
 
 mul-v : tie.Need-mul-v
-mul-v c = record { fits = mul-below {m = 65536} (omega arith) (omega arith) }
+mul-v c = record { fits = mul-below {m = residue-limit} (omega arith) (omega arith) }
 
 cast-v-3 : tie.Need-cast-v-3
 cast-v-3 c = search needs
