@@ -1,41 +1,57 @@
--- `fault_of` makes the tests of a record one after another. Assumes nothing.
-use mathlib.Core.Path.{_≡_, sym, _∙_}
+-- `fault_of` makes the tests of a record one after another: each answer is that of the first test that fails, by what the tests before it left.
+use mathlib.Core.Path.{_≡_, refl, sym, _∙_}
 use mathlib.Core.Bool.{true}
-use Prim.Native.Nat.{_≤_}
+use mathlib.Core.List.{[], _∷_}
+use Prim.Native.Nat.{ℕ, _≤_}
+use native.Mathlib.Omega.{arith}
 use borrow.Author.Tests.{not-true, not-false}
 use borrow.Author.Needs.{needs}
-use Rattle.case_file.specs.Format.{follows, body}
-use Rattle.case_file.proofs.Tests.{fails-low, fails-high, fails-order, fails-whole, fails-limit, passes}
+use lib.ListN.{getD}
+use Rattle.case_file.specs.Format.{today, known, kind-of, follows, body, limit}
+use Rattle.case_file.specs.record.Tests.{fails-known, fails-order, fails-whole, fails-limit, passes}
+use Rattle.case_file.specs.record.Today.{by-kind, in-range, out-of-range}
 use Rattle.case_file.proofs.record.fault_of.Statement.{statement}
 use Rattle.case_file.proofs.record.fault_of.Tie as tie
 
+is-known : (c : tie.Else2) → known today (c .before .before .args .kind) ≡ true
+is-known c = in-range _ (c .before .if1 .left) (c .if2 .left)
+
 in-order : (c : tie.Else3)
-    → follows (c .before .before .before .before .args .before) (c .before .before .before .before .args .kind) ≡ true
+    → follows today (c .before .before .before .before .args .before) (c .before .before .before .before .args .kind) ≡ true
 in-order c = sym (c .before .follows .ensures) ∙ not-false _ (c .if3 .left)
 
 is-whole : (c : tie.Else4)
-    → body (c .before .before .before .before .before .before .args .kind) ≤ c .before .before .before .before .before .before .args .left
+    → body today (c .before .before .before .before .before .before .args .kind) ≤ c .before .before .before .before .before .before .args .left
 is-whole c = rw (c .before .body .ensures) at (c .if4 .left)
 
+-- the array of limits, by kind
+limit-is : (c : tie.Else2) → getD (0 ∷ 1 ∷ 256 ∷ 256 ∷ 32 ∷ 32 ∷ 1 ∷ []) (c .before .before .args .kind) 0 ≡ limit today (c .before .before .args .kind)
+unfolding kind-of
+limit-is c =
+    by-kind (λ (k : ℕ). getD (0 ∷ 1 ∷ 256 ∷ 256 ∷ 32 ∷ 32 ∷ 1 ∷ []) k 0 ≡ limit today k) (c .before .before .args .kind) (c .before .if1 .left)
+    (c .if2 .left) refl refl refl refl refl refl
+
 returns : tie.Need-returns
-returns c = fails-low _ _ _ _ (c .if1 .taken)
+returns c = fails-known today _ _ _ _ (out-of-range _ (λ h. omega (arith, h .0, c .if1 .taken)))
 
 returns-2 : tie.Need-returns-2
-returns-2 c = fails-high _ _ _ _ (c .if2 .taken)
+returns-2 c = fails-known today _ _ _ _ (out-of-range _ (λ h. omega (arith, h .1, c .if2 .taken)))
 
 follows-requires : tie.Need-follows-requires
 follows-requires c κs = search needs
 
 returns-3 : tie.Need-returns-3
-returns-3 c = fails-order _ _ _ _ (c .before .before .before .if1 .left) (c .before .before .if2 .left)
-    (sym (c .before .follows .ensures) ∙ not-true _ (c .if3 .taken))
+returns-3 c =
+    fails-order today _ _ _ _ (is-known (c .before .before)) (sym (c .before .follows .ensures) ∙ not-true _ (c .if3 .taken))
 
 body-requires : tie.Need-body-requires
 body-requires c κs = search needs
 
+-- from here on t is the place where the order is right, d the one where the kind is known
 returns-4 : tie.Need-returns-4
-returns-4 c = fails-whole _ _ _ _ (c .before .before .before .before .before .if1 .left) (c .before .before .before .before .if2 .left)
-    (in-order (c .before .before)) (rw (c .before .body .ensures) at (c .if4 .taken))
+returns-4 c =
+    let t = c .before .before in
+    fails-whole today _ _ _ _ (is-known (t .before .before)) (in-order t) (rw (c .before .body .ensures) at (c .if4 .taken))
 
 mul-if5 : tie.Need-mul-if5
 mul-if5 c = search needs
@@ -47,14 +63,16 @@ held-requires : tie.Need-held-requires
 held-requires c κs = search needs
 
 returns-5 : tie.Need-returns-5
-returns-5 c = fails-limit _ _ _ _ (c .before .before .before .before .before .before .before .if1 .left)
-    (c .before .before .before .before .before .before .if2 .left) (in-order (c .before .before .before .before)) (is-whole (c .before .before))
-    (rw (c .before .held .ensures) at (c .if5 .taken))
+returns-5 c =
+    let t = c .before .before .before .before in
+    let d = t .before .before in
+    fails-limit today _ _ _ _ (is-known d) (in-order t) (is-whole (c .before .before)) (rw (c .before .held .ensures, limit-is d) at (c .if5 .taken))
 
 returns-6 : tie.Need-returns-6
-returns-6 c = passes _ _ _ _ (c .before .before .before .before .before .before .before .if1 .left)
-    (c .before .before .before .before .before .before .if2 .left) (in-order (c .before .before .before .before)) (is-whole (c .before .before))
-    (rw (c .before .held .ensures) at (c .if5 .left))
+returns-6 c =
+    let t = c .before .before .before .before in
+    let d = t .before .before in
+    passes today _ _ _ _ (is-known d) (in-order t) (is-whole (c .before .before)) (rw (c .before .held .ensures, limit-is d) at (c .if5 .left))
 
 pub fault-of-spec : {M : Type 1} → statement M
 fault-of-spec =

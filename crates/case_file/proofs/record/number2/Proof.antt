@@ -1,6 +1,6 @@
--- `number2` reads a number of two bytes. Assumes nothing.
+-- `number2` reads a number of two bytes.
 use borrow.Author.Needs.{needs}
-use Rattle.case_file.proofs.Bytes.{number-of-two}
+use Rattle.case_file.specs.record.Packing.{number-of-two}
 use Rattle.case_file.proofs.record.number2.Statement.{statement}
 use Rattle.case_file.proofs.record.number2.Tie as tie
 

@@ -1,8 +1,8 @@
--- `put_point` stores the three numbers of a body behind those of the list. Assumes nothing.
+-- `put_point` stores the three numbers of a body behind those of the list.
 use mathlib.Core.Path.{refl}
 use borrow.Author.Needs.{needs}
 use native.Mathlib.Numerals.{add-one, add-two}
-use Rattle.case_file.proofs.Bytes.{three-numbers}
+use Rattle.case_file.specs.record.Packing.{three-numbers}
 use Rattle.case_file.proofs.record.put_point.Statement.{statement}
 use Rattle.case_file.proofs.record.put_point.Tie as tie
 

@@ -1,4 +1,4 @@
--- `put_term` stores the number of a body behind those of the list. Assumes nothing.
+-- `put_term` stores the number of a body behind those of the list.
 use mathlib.Core.Path.{refl}
 use borrow.Author.Needs.{needs}
 use Rattle.case_file.specs.Format.{numbers}

@@ -1,4 +1,4 @@
--- What the reader hands back, and what it leaves in the lent arrays, is determined by its contracts. Assumes nothing.
+-- What the reader hands back, and what it leaves in the lent arrays, is determined by its contracts.
 use Prim.Native.Nat.{ℕ}
 use mathlib.Core.Path.{_≡_, sym, _∙_}
 use mathlib.Core.List.{List}

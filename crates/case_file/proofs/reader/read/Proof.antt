@@ -1,7 +1,7 @@
--- `read` puts what `read_into` gives into one record. Assumes nothing.
+-- `read` puts what `read_into` gives into one record.
 use borrow.Author.Needs.{needs}
-use Rattle.case_file.proofs.read.Statement.{statement}
-use Rattle.case_file.proofs.read.Tie as tie
+use Rattle.case_file.proofs.reader.read.Statement.{statement}
+use Rattle.case_file.proofs.reader.read.Tie as tie
 
 read-into-requires : tie.Need-read-into-requires
 read-into-requires c κs = search needs

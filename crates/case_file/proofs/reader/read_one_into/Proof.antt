@@ -1,13 +1,13 @@
 -- The loop of `read_one_into`: the arrays hold the case read so far, and reading on gives what reading from the start gives (`Progress`).
--- The measure is what is left of the file. Assumes nothing.
+-- The measure is what is left of the file.
 use Prim.Native.Nat.{_-_}
 use native.Mathlib.Omega.{arith}
 use borrow.Author.Needs.{needs}
 use lib.ListN.{length}
 use Rattle.case_file.specs.Case.{added}
-use Rattle.case_file.proofs.Progress.{Progress, begun, out, stopped, ended, fits-in, ready, carried}
-use Rattle.case_file.proofs.read_one_into.Statement.{statement}
-use Rattle.case_file.proofs.read_one_into.Tie as tie
+use Rattle.case_file.specs.reader.Progress.{Progress, begun, out, stopped, ended, fits-in, ready, carried}
+use Rattle.case_file.proofs.reader.read_one_into.Statement.{statement}
+use Rattle.case_file.proofs.reader.read_one_into.Tie as tie
 
 abbrev Inv-loop : tie.InvT-loop
 Inv-loop bytes first₀ second₀ skeleton₀ points₀ counts₀ before₀ at₀ first second skeleton points counts before at =

@@ -1,14 +1,15 @@
--- A list in an array, zeros beyond it: further numbers go to the first places after the list. Assumes nothing.
+-- A list in an array, zeros beyond it: further numbers go to the first places after the list.
 use Prim.Native.Nat.{ℕ, zero, suc, _+_, _-_, _*_, _≤_, _<_}
 use mathlib.Core.Path.{_≡_, refl, sym, ap, _∙_}
 use mathlib.Core.List.{List, [], _∷_, _++_, append-assoc, append-nil}
 use native.Mathlib.Omega.{arith}
 use lib.ListN.{length, drop, set, replicate, length-append}
 use lib.Seq.{set-at, sets}
-use Rattle.case_file.specs.Format.{count, limit, content, numbers}
+use Rattle.case_file.specs.Format.{Kind, numbers}
 use Rattle.case_file.specs.Case.{flat}
 use Rattle.case_file.specs.Handed.{padded}
-use Rattle.case_file.specs.Room.{Place, Put}
+use Rattle.case_file.specs.record.Room.{most, Place, Put}
+use Rattle.case_file.specs.record.Packing.{length-numbers}
 
 padded-more : (n : ℕ) (xs : List ℕ) (v : ℕ) → length xs < n → set (padded n xs) (length xs) v ≡ padded n (xs ++ v ∷ [])
 unfolding padded
@@ -29,18 +30,13 @@ unfolding flat
 flat-more [] ns = append-nil ns
 flat-more (r ∷ rs) ns = rw (flat-more rs ns) (sym (append-assoc r (flat rs) ns))
 
-pub length-numbers : (n w : ℕ) (bs : List ℕ) → length (numbers n w bs) ≡ n
-unfolding numbers
-length-numbers zero w bs = refl
-length-numbers (suc n) w bs = ap suc (length-numbers n w (drop w bs))
-
 -- the list of the records rs of kind k, with one more
-module _ {k : ℕ} {bytes : List ℕ} {at n r : ℕ} {before after : List ℕ} (p : Place k bytes at n) (q : Put k bytes at n r before after)
+module _ {k : Kind} {bytes : List ℕ} {at n r : ℕ} {before after : List ℕ} (p : Place k bytes at n) (q : Put k bytes at n r before after)
     (rs : List (List ℕ)) (e : n ≡ length (flat rs)) where
-  pub put-counted : r ≡ length (flat (rs ++ content k (drop at bytes) ∷ []))
-  put-counted = rw (flat-more, length-append, length-numbers) (q .counted ∙ ap (λ (m : ℕ). m + count k) e)
+  pub put-counted : r ≡ length (flat (rs ++ numbers (k .widths) (drop at bytes) ∷ []))
+  put-counted = rw (flat-more, length-append, length-numbers) (q .counted ∙ ap (λ (m : ℕ). m + length (k .widths)) e)
 
-  pub put-stored : before ≡ padded (limit k * count k) (flat rs) → after ≡ padded (limit k * count k) (flat (rs ++ content k (drop at bytes) ∷ []))
+  pub put-stored : before ≡ padded (most k) (flat rs) → after ≡ padded (most k) (flat (rs ++ numbers (k .widths) (drop at bytes) ∷ []))
   put-stored b =
       rw (flat-more, q .stored, b)
-      (padded-sets (limit k * count k) n (flat rs) (content k (drop at bytes)) e (rw length-numbers (p .room)))
+      (padded-sets (most k) n (flat rs) (numbers (k .widths) (drop at bytes)) e (rw length-numbers (p .room)))

@@ -1,4 +1,4 @@
--- A case with further records of one kind: what becomes of each of its lists. Assumes nothing.
+-- A case with further records of one kind: what becomes of each of its lists.
 use Prim.Native.Nat.{ℕ}
 use mathlib.Core.Path.{_≡_, refl, sym, _∙_, fun-ext}
 use mathlib.Core.Bool.{Bool, true, false}

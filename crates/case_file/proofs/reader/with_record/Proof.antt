@@ -1,13 +1,13 @@
--- `with_record` puts the numbers of a record behind those of its list, and leaves the other lists. Assumes nothing.
+-- `with_record` puts the numbers of a record behind those of its list, and leaves the other lists.
 use mathlib.Core.Path.{_≡_}
 use native.Mathlib.Omega.{arith}
 use lib.ListN.{length}
-use Rattle.case_file.specs.Format.{first-kind, second-kind, skeleton-kind, point-kind, numbers}
+use Rattle.case_file.specs.Format.{kind-of, first-term, key, point, first-kind, second-kind, skeleton-kind, point-kind, numbers}
 use Rattle.case_file.specs.Case.{added, flat}
-use Rattle.case_file.specs.Room.{Place}
-use Rattle.case_file.proofs.Arrays.{put-counted, put-stored}
-use Rattle.case_file.proofs.with_record.Statement.{statement}
-use Rattle.case_file.proofs.with_record.Tie as tie
+use Rattle.case_file.specs.record.Room.{Place}
+use Rattle.case_file.specs.record.Arrays.{put-counted, put-stored}
+use Rattle.case_file.proofs.reader.with_record.Statement.{statement}
+use Rattle.case_file.proofs.reader.with_record.Tie as tie
 
 is-point : (c : tie.At-match-rest) → c .before .before .args .kind ≡ point-kind
 is-point c =
@@ -15,32 +15,37 @@ is-point c =
     omega (arith, c .before .before .pre .low, c .before .before .pre .high, none .0 .0 .0 .1, none .0 .0 .1, none .0 .1, none .1)
 
 number2-requires : tie.Need-number2-requires
+unfolding kind-of
 number2-requires c κs = rw (c .match .keys1) at (c .before .before .pre .whole)
 
 first-place : (c : tie.After-put-term-arg)
-    → Place first-kind (c .before .before .before .args .bytes .now) (c .before .before .before .args .at)
+    → Place first-term (c .before .before .before .args .bytes .now) (c .before .before .before .args .at)
     (c .before .before .before .args .counts .first)
+unfolding kind-of
 first-place c =
     let p = c .before .before .before .pre in
     record { whole = rw (c .before .match .keys2) at (p .whole); room = omega (arith, rw (c .before .match .keys2) at (p .room)) }
 
 second-place : (c : tie.After-put-term-arg2)
-    → Place first-kind (c .before .before .before .args .bytes .now) (c .before .before .before .args .at)
+    → Place first-term (c .before .before .before .args .bytes .now) (c .before .before .before .args .at)
     (c .before .before .before .args .counts .second)
+unfolding kind-of
 second-place c =
     let p = c .before .before .before .pre in
     record { whole = rw (c .before .match .keys3) at (p .whole); room = omega (arith, rw (c .before .match .keys3) at (p .room)) }
 
 skeleton-place : (c : tie.After-put-key-arg)
-    → Place skeleton-kind (c .before .before .before .args .bytes .now) (c .before .before .before .args .at)
+    → Place key (c .before .before .before .args .bytes .now) (c .before .before .before .args .at)
     (c .before .before .before .args .counts .skeleton)
+unfolding kind-of
 skeleton-place c =
     let p = c .before .before .before .pre in
     record { whole = rw (c .before .match .keys4) at (p .whole); room = omega (arith, rw (c .before .match .keys4) at (p .room)) }
 
 points-place : (c : tie.After-put-point-arg)
-    → Place point-kind (c .before .before .before .args .bytes .now) (c .before .before .before .args .at)
+    → Place point (c .before .before .before .args .bytes .now) (c .before .before .before .args .at)
     (c .before .before .before .args .counts .points)
+unfolding kind-of
 points-place c =
     let p = c .before .before .before .pre in
     record { whole = rw (is-point (c .before)) at (p .whole); room = omega (arith, p .threes, rw (is-point (c .before)) at (p .room)) }
@@ -58,7 +63,7 @@ put-point-requires : tie.Need-put-point-requires
 put-point-requires c κs = points-place c
 
 returns : tie.Need-returns
-unfolding added flat numbers
+unfolding kind-of added flat numbers
 returns c case g fresh =
     let e = c .before .match .keys1 in
     rw e
@@ -71,7 +76,7 @@ returns c case g fresh =
     })
 
 returns-2 : tie.Need-returns-2
-unfolding added
+unfolding kind-of added
 returns-2 c case g fresh =
     let e : c .before .before .before .before .args .counts .first ≡ length (flat (case first-kind)) = rw (g .record-is) in
     rw (c .before .before .match .keys2)
@@ -84,7 +89,7 @@ returns-2 c case g fresh =
     })
 
 returns-3 : tie.Need-returns-3
-unfolding added
+unfolding kind-of added
 returns-3 c case g fresh =
     let e : c .before .before .before .before .args .counts .second ≡ length (flat (case second-kind)) = rw (g .record-is) in
     rw (c .before .before .match .keys3)
@@ -97,7 +102,7 @@ returns-3 c case g fresh =
     })
 
 returns-4 : tie.Need-returns-4
-unfolding added
+unfolding kind-of added
 returns-4 c case g fresh =
     let e : c .before .before .before .before .args .counts .skeleton ≡ length (flat (case skeleton-kind)) = rw (g .record-is) in
     rw (c .before .before .match .keys4)
@@ -110,7 +115,7 @@ returns-4 c case g fresh =
     })
 
 returns-5 : tie.Need-returns-5
-unfolding added
+unfolding kind-of added
 returns-5 c case g fresh =
     let e : c .before .before .before .before .args .counts .points ≡ length (flat (case point-kind)) = rw (g .record-is) in
     rw (is-point (c .before .before))

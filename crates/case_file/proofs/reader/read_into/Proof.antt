@@ -1,8 +1,8 @@
--- `read_into` refuses what stands after the end record. Assumes nothing.
+-- `read_into` refuses what stands after the end record.
 use borrow.Author.Needs.{needs}
-use Rattle.case_file.proofs.Alone.{nothing-after, refused-before, bytes-after}
-use Rattle.case_file.proofs.read_into.Statement.{statement}
-use Rattle.case_file.proofs.read_into.Tie as tie
+use Rattle.case_file.specs.reader.Alone.{nothing-after, refused-before, bytes-after}
+use Rattle.case_file.proofs.reader.read_into.Statement.{statement}
+use Rattle.case_file.proofs.reader.read_into.Tie as tie
 
 read-one-into-requires : tie.Need-read-one-into-requires
 read-one-into-requires c κs = search needs

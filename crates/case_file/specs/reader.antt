@@ -1,16 +1,13 @@
--- Laws of the reader that belong to no single function.
-pub mod Tests
-pub mod Bytes
-pub mod Arrays
+-- The laws of reading, of any format and of today's.
 pub mod Added
 pub mod Steps
 pub mod Standing
-pub mod Progress
 pub mod Alone
-pub mod Packing
 pub mod ReadBack
 pub mod RoundTrip
 pub mod Accepted
 pub mod Settled
 pub mod Within
+pub mod Progress
 pub mod Determined
+pub mod Examples
