@@ -8,6 +8,7 @@ pub mod RoundTrip
 pub mod Accepted
 pub mod Settled
 pub mod Within
+pub mod Today
 pub mod Progress
 pub mod Determined
 pub mod Examples

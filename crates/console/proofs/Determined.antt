@@ -4,7 +4,7 @@ use mathlib.Core.Path.{_≡_}
 use mathlib.Core.List.{List}
 use Rattle.case_file.specs.declared.Counts.{Counts}
 use Rattle.case_file.specs.Reading.{read}
-use Rattle.case_file.proofs.Determined.{read-into-determined}
+use Rattle.case_file.specs.reader.Determined.{read-into-determined}
 use Rattle.console.specs.Lists.{Lists}
 
 pub read-case-determined : (bytes : List ℕ) (r r′ : Counts) (f f′ s s′ k k′ p p′ : List ℕ)
