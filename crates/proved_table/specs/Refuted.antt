@@ -2,9 +2,9 @@
 use mathlib.Core.Path.{refl}
 use mathlib.Core.Logic.{Dec·not, Dec·and}
 use native.Mathlib.Decide.{ℕ-discrete, decLe, decLt}
-use Rattle.algebra.specs.Four.{compare-by, compare}
+use Rattle.algebra.specs.Ring.{pow}
 use Rattle.algebra.specs.Mono.{mono}
-use Rattle.algebra.specs.Divides.{pow}
+use Rattle.algebra.specs.Laws.Four.{compare-by, compare}
 use Rattle.field.specs.Moduli.{listed}
 use Rattle.field.specs.ModuliLaws.{listed-decided}
 use Rattle.field.specs.Fp.{el, add, mul, neg, chase, inv}
