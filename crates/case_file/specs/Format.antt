@@ -88,7 +88,7 @@ little [] = 0
 little (b ∷ bs) = b + base * little bs
 
 -- the numbers of the given widths with which a list of bytes begins
-unfoldable pub numbers : List ℕ → List ℕ → List ℕ
+abbrev pub numbers : List ℕ → List ℕ → List ℕ
 numbers [] bs = []
 numbers (w ∷ ws) bs = little (take w bs) ∷ numbers ws (drop w bs)
 

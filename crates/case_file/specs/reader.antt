@@ -9,6 +9,7 @@ pub mod Accepted
 pub mod Settled
 pub mod Within
 pub mod Today
+pub mod Adding
 pub mod Progress
 pub mod Determined
 pub mod Examples

@@ -1,6 +1,6 @@
--- The laws of one record, and the model of what `src/record.rt` asks and promises.
+-- The model of what `src/record.rt` asks and promises, and the laws of one record.
+pub mod Room
 pub mod Tests
 pub mod Packing
-pub mod Today
-pub mod Room
 pub mod Arrays
+pub mod Today

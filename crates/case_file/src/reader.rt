@@ -2,7 +2,7 @@
 ghost use mathlib.Core.Path.{_≡_};
 ghost use Rattle.case_file.specs.Reading.{refused, read-one, read as read-of};
 ghost use Rattle.case_file.specs.Handed.{contents, Gives};
-ghost use Rattle.case_file.specs.record.Room.{Ready, Adds};
+ghost use Rattle.case_file.specs.reader.Adding.{Ready, Adds};
 use crate::Contents;
 use crate::Counts;
 use crate::KEYS;
@@ -63,20 +63,23 @@ fn with_record(
             next
         }
         record::FIRST => {
-            next.first = record::put_term(bytes, at, first, counts.first);
+            next.first = record::put_term(record::number4(bytes, at), first, counts.first);
             next
         }
         record::SECOND => {
-            next.second = record::put_term(bytes, at, second, counts.second);
+            next.second = record::put_term(record::number4(bytes, at), second, counts.second);
             next
         }
         record::SKELETON => {
-            next.skeleton = record::put_key(bytes, at, skeleton, counts.skeleton);
+            next.skeleton = record::put_key(record::number2(bytes, at), skeleton, counts.skeleton);
             next
         }
         // A point: the end record never comes here.
         _ => {
-            next.points = record::put_point(bytes, at, points, counts.points);
+            let y = record::number2(bytes, at);
+            let z = record::number2(bytes, at + 2);
+            let w = record::number2(bytes, at + 4);
+            next.points = record::put_point(y, z, w, points, counts.points);
             next
         }
     }

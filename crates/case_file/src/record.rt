@@ -1,10 +1,10 @@
 // One record of a case file: its kind, its tests, and its numbers into their list.
 ghost use mathlib.Core.Path.{_≡_};
 ghost use Prim.Native.Nat.{_+_, _<_, _≤_};
-ghost use lib.ListN.{length, take, drop};
-ghost use Rattle.case_file.specs.Format.{body as body-of, follows as follows-of, little, first-term, key, point, today};
+ghost use lib.ListN.{length};
+ghost use Rattle.case_file.specs.Format.{body as body-of, follows as follows-of, first-term, key as key-kind, point, today};
 ghost use Rattle.case_file.specs.Reading.{fault-number};
-ghost use Rattle.case_file.specs.record.Room.{Known, held as held-of, Place, Put};
+ghost use Rattle.case_file.specs.record.Room.{Known, held as held-of, two, four, most, Put, PutThree};
 use crate::COORDINATES;
 use crate::Counts;
 use crate::KEYS;
@@ -12,6 +12,7 @@ use crate::Keys;
 use crate::POINTS;
 use crate::PointNumbers;
 use crate::TERMS;
+use crate::Term;
 use crate::Terms;
 use field::Fault;
 use field::Number;
@@ -102,42 +103,42 @@ fn wide(byte: u8) -> u16
 // Numbers of two and of four bytes, the low byte first.
 pub(crate) fn number2(bytes: &[u8], at: usize) -> u16
     requires { ⌜ at + 2 ≤ length (now bytes) ⌝ }
-    ensures { λ r. ⌜ r ≡ little (take 2 (drop at (now (bytes .entry)))) ⌝ }
+    ensures { λ r. ⌜ r ≡ two (now (bytes .entry)) at ⌝ }
 {
     wide(bytes[at]) + BASE * wide(bytes[at + 1])
 }
 
-fn number4(bytes: &[u8], at: usize) -> u32
+pub(crate) fn number4(bytes: &[u8], at: usize) -> u32
     requires { ⌜ at + 4 ≤ length (now bytes) ⌝ }
-    ensures { λ r. ⌜ r ≡ little (take 4 (drop at (now (bytes .entry)))) ⌝ }
+    ensures { λ r. ⌜ r ≡ four (now (bytes .entry)) at ⌝ }
 {
     let base = BASE as u32;
     (number2(bytes, at) as u32) + base * base * (number2(bytes, at + 2) as u32)
 }
 
-// The numbers of the body at the offset go behind the n numbers of the list; how many it has then.
-pub(crate) fn put_term(bytes: &[u8], at: usize, list: &mut Terms, n: usize) -> usize
-    requires { ⌜ Place first-term (now bytes) at n ⌝ }
-    ensures { λ r. ⌜ Put first-term (now (bytes .entry)) at n r (now (list .entry)) (now (list .exit)) ⌝ }
+// Numbers go behind the n numbers of the list; how many it has then.
+pub(crate) fn put_term(term: Term, list: &mut Terms, n: usize) -> usize
+    requires { ⌜ n + 1 ≤ most first-term ⌝ }
+    ensures { λ r. ⌜ Put term n r (now (list .entry)) (now (list .exit)) ⌝ }
 {
-    list[n] = number4(bytes, at);
+    list[n] = term;
     n + 1
 }
 
-pub(crate) fn put_key(bytes: &[u8], at: usize, list: &mut Keys, n: usize) -> usize
-    requires { ⌜ Place key (now bytes) at n ⌝ }
-    ensures { λ r. ⌜ Put key (now (bytes .entry)) at n r (now (list .entry)) (now (list .exit)) ⌝ }
+pub(crate) fn put_key(key: Number, list: &mut Keys, n: usize) -> usize
+    requires { ⌜ n + 1 ≤ most key-kind ⌝ }
+    ensures { λ r. ⌜ Put key n r (now (list .entry)) (now (list .exit)) ⌝ }
 {
-    list[n] = number2(bytes, at);
+    list[n] = key;
     n + 1
 }
 
-pub(crate) fn put_point(bytes: &[u8], at: usize, list: &mut PointNumbers, n: usize) -> usize
-    requires { ⌜ Place point (now bytes) at n ⌝ }
-    ensures { λ r. ⌜ Put point (now (bytes .entry)) at n r (now (list .entry)) (now (list .exit)) ⌝ }
+pub(crate) fn put_point(y: Number, z: Number, w: Number, list: &mut PointNumbers, n: usize) -> usize
+    requires { ⌜ n + 3 ≤ most point ⌝ }
+    ensures { λ r. ⌜ PutThree y z w n r (now (list .entry)) (now (list .exit)) ⌝ }
 {
-    list[n] = number2(bytes, at);
-    list[n + 1] = number2(bytes, at + 2);
-    list[n + 2] = number2(bytes, at + 4);
+    list[n] = y;
+    list[n + 1] = z;
+    list[n + 2] = w;
     n + COORDINATES
 }

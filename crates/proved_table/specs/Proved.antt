@@ -26,7 +26,7 @@ use Rattle.poly.specs.Models.Image.{value-at, image-of-values, image-of}
 use Rattle.divisor.specs.Candidate.{points-of}
 use Rattle.divisor.specs.Models.Sorting.{size-of, lesser, least-from, alike, kept-of}
 use Rattle.divisor.specs.Models.Monic.{leading, scaled-terms}
-use Rattle.case_file.specs.Format.{known, kind-of, follows, numbers, little}
+use Rattle.case_file.specs.Format.{known, kind-of, follows, little}
 use Rattle.case_file.specs.Case.{added, flat}
 use Rattle.case_file.specs.Reading.{fault-number, reading, read-one-in, alone, read-in}
 use Rattle.case_file.specs.Written.{records, packed, bytes}
@@ -86,7 +86,7 @@ quotients-hold = each-tested quotient-test QuotientHolds quotient-tested quotien
 
 -- the files are read so
 pub files-hold : Each Reads files
-unfolding read-in read-one-in reading alone fault-number added flat known kind-of follows numbers little records packed bytes
+unfolding read-in read-one-in reading alone fault-number added flat known kind-of follows little records packed bytes
 files-hold = (refl, (refl, (refl, (refl, (refl, tt)))))
 
 -- P11: as values y⁷ and y agree everywhere modulo 7
@@ -102,5 +102,5 @@ products-hold P = each-tested (multiplies 17 P) (Multiplies 17 P) (multiplied 17
 -- the candidate of the case file of document 01 is P1's record, with P1's terms first in the output
 pub example-answered : (output work : List ℕ) → length (p1 .skeleton) ≤ length output → work-room ≤ length work
     → CandidateOfFile output work example (result p1 output work)
-unfolding read-in read-one-in reading alone fault-number added flat known kind-of follows numbers little
+unfolding read-in read-one-in reading alone fault-number added flat known kind-of follows little
 example-answered output work long room = asked refl _ (table-holds .0 output work long room)

@@ -22,7 +22,7 @@ use Rattle.proved_table.specs.TermDivision.{each-at-most, plus, less, le
 use Rattle.proved_table.specs.Computed.{tried, divided-by, by-answer, with-counts, by-kept, by-least, by-looks, computed}
 use Rattle.proved_table.specs.Decisions.{count-decided, not-below-decided, key-decided, term-decided, number-decided, checks-append}
 use Rattle.proved_table.specs.Decisions.{list-checks, skeleton-checks, points-checks, point-checks, checks, image-checks}
-use Rattle.case_file.specs.Format.{known, kind-of, follows, numbers, little}
+use Rattle.case_file.specs.Format.{known, kind-of, follows, little}
 use Rattle.case_file.specs.Case.{added, flat}
 use Rattle.case_file.specs.Reading.{fault-number, reading, read-one-in, alone, read-in}
 use Rattle.case_file.specs.Written.{records, packed, bytes}
@@ -64,5 +64,5 @@ wrong-images-refuted = each-tested wrong-image-test ImageRefuted image-refuted w
 
 -- of the reader
 pub wrong-files-refuted : Each FileRefuted wrong-files
-unfolding read-in read-one-in reading alone fault-number added flat known kind-of follows numbers little padded records packed bytes clash file-numbers wrong-file-test
+unfolding read-in read-one-in reading alone fault-number added flat known kind-of follows little padded records packed bytes clash file-numbers wrong-file-test
 wrong-files-refuted = each-tested wrong-file-test FileRefuted file-refuted wrong-files refl

@@ -4,7 +4,7 @@ use mathlib.Core.Path.{_≡_, refl}
 use mathlib.Core.List.{List, [], _∷_}
 use lib.ListN.{replicate}
 use Rattle.field.specs.Refusal.{none}
-use Rattle.case_file.specs.Format.{today, known, kind-of, follows, numbers, little}
+use Rattle.case_file.specs.Format.{today, known, kind-of, follows, little}
 use Rattle.case_file.specs.Case.{added, flat}
 use Rattle.case_file.specs.Reading.{refused, fault-number, reading, read-one-in, alone, read-in, read}
 use Rattle.case_file.specs.Written.{written, in-order, records, packed, bytes}
@@ -38,11 +38,11 @@ pub example-read :
       points = padded 96 (0 ∷ 0 ∷ 0 ∷ []);
       «points_count» = 3;
     }
-unfolding read-in read-one-in reading alone fault-number added flat known kind-of follows numbers little
+unfolding read-in read-one-in reading alone fault-number added flat known kind-of follows little
 example-read = refl
 
 pub example-written : written today (case (read example)) ≡ example
-unfolding read-in read-one-in reading alone fault-number added flat known kind-of follows numbers little written in-order records packed bytes
+unfolding read-in read-one-in reading alone fault-number added flat known kind-of follows little written in-order records packed bytes
 example-written = refl
 
 pub refusals :
@@ -53,10 +53,10 @@ pub refusals :
     × (read (1 ∷ 17 ∷ 0 ∷ 1 ∷ []) ≡ refused 22 3)
     × (read (1 ∷ 17 ∷ 0 ∷ 6 ∷ 0 ∷ []) ≡ refused 23 4)
     × (read (1 ∷ 17 ∷ 0 ∷ []) ≡ refused 24 3)
-unfolding read-in read-one-in reading alone fault-number added known kind-of follows numbers little
+unfolding read-in read-one-in reading alone fault-number added known kind-of follows little
 refusals = (refl, refl, refl, refl, refl, refl, refl)
 
 -- 32 keys pass, the next is too many
 pub too-many-keys : read (1 ∷ 17 ∷ 0 ∷ records today 4 (replicate 33 (0 ∷ []))) ≡ refused 25 99
-unfolding read-in read-one-in reading alone fault-number added known kind-of follows numbers little records packed bytes
+unfolding read-in read-one-in reading alone fault-number added known kind-of follows little records packed bytes
 too-many-keys = refl

@@ -14,7 +14,8 @@ use Rattle.case_file.specs.Format.{known, follows, kind-of, count, body,
 use Rattle.case_file.specs.Case.{Case, no-records, added}
 use Rattle.case_file.specs.Reading.{whole, refused, fault-number, reading, read-one-in, read-one}
 use Rattle.case_file.specs.Handed.{Gives, counts}
-use Rattle.case_file.specs.record.Room.{held, Ready, Adds}
+use Rattle.case_file.specs.record.Room.{held}
+use Rattle.case_file.specs.reader.Adding.{Ready, Adds}
 use Rattle.case_file.specs.declared.Counts.{Counts}
 use Rattle.case_file.specs.record.Tests.{Passed, passed, fault-same, not-second}
 use Rattle.case_file.specs.record.Today.{by-kind, range}

@@ -5,10 +5,12 @@ use mathlib.Core.List.{List, [], _∷_, _++_, append-assoc, append-nil}
 use native.Mathlib.Omega.{arith}
 use lib.ListN.{length, drop, set, replicate, length-append}
 use lib.Seq.{set-at, sets}
-use Rattle.case_file.specs.Format.{Kind, numbers}
+use Rattle.case_file.specs.Format.{Kind, numbers, first-kind, second-kind, skeleton-kind, point-kind}
 use Rattle.case_file.specs.Case.{flat}
-use Rattle.case_file.specs.Handed.{padded}
-use Rattle.case_file.specs.record.Room.{most, Place, Put}
+use Rattle.case_file.specs.Reading.{Reading}
+use Rattle.case_file.specs.Handed.{padded, counts, array, Gives}
+use Rattle.case_file.specs.declared.Counts.{Counts}
+use Rattle.case_file.specs.record.Room.{most, Place}
 use Rattle.case_file.specs.record.Packing.{length-numbers}
 
 padded-more : (n : ℕ) (xs : List ℕ) (v : ℕ) → length xs < n → set (padded n xs) (length xs) v ≡ padded n (xs ++ v ∷ [])
@@ -31,12 +33,17 @@ flat-more [] ns = append-nil ns
 flat-more (r ∷ rs) ns = rw (flat-more rs ns) (sym (append-assoc r (flat rs) ns))
 
 -- the list of the records rs of kind k, with one more
-module _ {k : Kind} {bytes : List ℕ} {at n r : ℕ} {before after : List ℕ} (p : Place k bytes at n) (q : Put k bytes at n r before after)
-    (rs : List (List ℕ)) (e : n ≡ length (flat rs)) where
-  pub put-counted : r ≡ length (flat (rs ++ numbers (k .widths) (drop at bytes) ∷ []))
-  put-counted = rw (flat-more, length-append, length-numbers) (q .counted ∙ ap (λ (m : ℕ). m + length (k .widths)) e)
+module _ {k : Kind} {bytes : List ℕ} {at n : ℕ} (p : Place k bytes at n) (rs : List (List ℕ)) (e : n ≡ length (flat rs)) where
+  pub now-counted : n + length (k .widths) ≡ length (flat (rs ++ numbers (k .widths) (drop at bytes) ∷ []))
+  now-counted = rw (flat-more, length-append, length-numbers, e)
 
-  pub put-stored : before ≡ padded (most k) (flat rs) → after ≡ padded (most k) (flat (rs ++ numbers (k .widths) (drop at bytes) ∷ []))
-  put-stored b =
-      rw (flat-more, q .stored, b)
+  pub now-stored : (vs : List ℕ) → numbers (k .widths) (drop at bytes) ≡ vs → {before : List ℕ} → before ≡ padded (most k) (flat rs)
+      → sets before n vs ≡ padded (most k) (flat (rs ++ numbers (k .widths) (drop at bytes) ∷ []))
+  now-stored vs v b =
+      rw (flat-more, ← v, b)
       (padded-sets (most k) n (flat rs) (numbers (k .widths) (drop at bytes)) e (rw length-numbers (p .room)))
+
+-- what is handed back, from its parts
+pub gives : {o : Reading} {r : Counts} {f s k p : List ℕ} → r ≡ counts o → f ≡ array o first-kind → s ≡ array o second-kind
+    → k ≡ array o skeleton-kind → p ≡ array o point-kind → Gives o r f s k p
+gives a b c d e = record { record-is = a; first-is = b; second-is = c; skeleton-is = d; points-is = e }

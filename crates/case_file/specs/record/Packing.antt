@@ -5,10 +5,11 @@ use mathlib.Core.List.{List, [], _∷_, _++_, append-assoc}
 use native.Mathlib.Nat.{pow-succ', sub-zero}
 use native.Mathlib.Numerals.{add-one}
 use native.Mathlib.Omega.{arith}
-use lib.ListN.{length, getD, take, drop, length-append, length-drop}
+use lib.ListN.{length, take, drop, length-append, length-drop}
 use lib.Seq.{take-at, drop-at, take-add, take-nil, take-take, drop-cons, drop-drop}
 use Rattle.case_file.specs.Format.{base, sum, little, numbers}
 use Rattle.case_file.specs.Written.{bytes, packed, Below, Fits}
+use Rattle.case_file.specs.record.Room.{two, four}
 
 length-bytes : (w v : ℕ) → length (bytes w v) ≡ w
 unfolding bytes
@@ -23,7 +24,6 @@ length-packed (w ∷ ws) [] h = absurd h
 length-packed (w ∷ ws) (v ∷ vs) h = rw (length-append, length-bytes, length-packed ws vs (h .1))
 
 pub length-numbers : (ws bs : List ℕ) → length (numbers ws bs) ≡ length ws
-unfolding numbers
 length-numbers [] bs = refl
 length-numbers (w ∷ ws) bs = ap suc (length-numbers ws (drop w bs))
 
@@ -38,7 +38,7 @@ little-bytes (suc w) v h =
     rw (little-bytes w (v / base) (quotient-below (base ^ w) v p)) (omega arith)
 
 pub numbers-packed : (ws vs rest : List ℕ) → Fits ws vs → numbers ws (packed ws vs ++ rest) ≡ vs
-unfolding packed numbers
+unfolding packed
 numbers-packed [] [] rest h = refl
 numbers-packed [] (v ∷ vs) rest h = absurd h
 numbers-packed (w ∷ ws) [] rest h = absurd h
@@ -66,7 +66,7 @@ bytes-little (suc w) (x ∷ bs) h b =
     rw (r, q) (ap (λ (l : List ℕ). x ∷ l) (bytes-little w bs (omega arith) (b .1)))
 
 pub packed-numbers : (ws bs : List ℕ) → sum ws ≤ length bs → Below base bs → packed ws (numbers ws bs) ≡ take (sum ws) bs
-unfolding packed numbers
+unfolding packed
 packed-numbers [] bs h b = refl
 packed-numbers (w ∷ ws) bs h b = rw (
   take-add w (sum ws) bs,
@@ -81,7 +81,6 @@ little-below (suc w) [] b = rw pow-succ' (omega (arith, little-below w [] b))
 little-below (suc w) (x ∷ bs) b = rw pow-succ' (omega (arith, b .0, little-below w bs (b .1)))
 
 pub numbers-fit : (ws bs : List ℕ) → Below base bs → Fits ws (numbers ws bs)
-unfolding numbers
 numbers-fit [] bs b = tt
 numbers-fit (w ∷ ws) bs b = (little-below w bs b, numbers-fit ws (drop w bs) (below-drop base w bs b))
 
@@ -95,18 +94,9 @@ drop-take (suc n) (suc m) (x ∷ l) h =
 
 -- the numbers of a body are in its bytes
 pub numbers-take : (ws : List ℕ) (m : ℕ) (bs : List ℕ) → sum ws ≤ m → numbers ws (take m bs) ≡ numbers ws bs
-unfolding numbers
 numbers-take [] m bs h = refl
 numbers-take (w ∷ ws) m bs h =
     rw (take-take w m bs (omega arith), drop-take w m bs (omega arith), numbers-take ws (m - w) (drop w bs) (omega arith))
-
-module _ (l : List ℕ) (at : ℕ) where
-  pub number-of-two : at + 2 ≤ length l → getD l at 0 + base * getD l (at + 1) 0 ≡ little (take 2 (drop at l))
-  unfolding little
-  number-of-two h =
-      let p : at < length l = omega arith in
-      let q : suc at < length l = omega arith in
-      rw (drop-cons l at 0 p, drop-cons l (suc at) 0 q, add-one, little) (omega arith)
 
 two-halves : (l : List ℕ) → little (take 2 l) + base * base * little (take 2 (drop 2 l)) ≡ little (take 4 l)
 unfolding little
@@ -114,14 +104,19 @@ two-halves [] = omega arith
 two-halves (a ∷ []) = omega arith
 two-halves (a ∷ b ∷ l) = omega arith
 
-module _ (l : List ℕ) (at : ℕ) where
-  pub number-of-four : little (take 2 (drop at l)) + base * base * little (take 2 (drop (at + 2) l)) ≡ little (take 4 (drop at l))
-  number-of-four = rw (← drop-drop 2 at l) (two-halves (drop at l))
+pub of-two : (l : List ℕ) (at : ℕ) → at + 2 ≤ length l → little (take 2 (drop at l)) ≡ two l at
+unfolding little
+of-two l at h =
+    let p : at < length l = omega arith in
+    let q : suc at < length l = omega arith in
+    rw (drop-cons l at 0 p, drop-cons l (suc at) 0 q, add-one, little) (omega arith)
 
-  pub three-numbers : numbers (2 ∷ 2 ∷ 2 ∷ []) (drop at l)
-      ≡ little (take 2 (drop at l)) ∷ little (take 2 (drop (at + 2) l)) ∷ little (take 2 (drop (at + 4) l)) ∷ []
-  unfolding numbers
-  three-numbers =
+module _ (l : List ℕ) (at : ℕ) where
+  pub of-four : at + 4 ≤ length l → little (take 4 (drop at l)) ≡ four l at
+  of-four h = rw (← two-halves (drop at l), drop-drop 2 at l, of-two l at (omega arith), of-two l (at + 2) (omega arith))
+
+  pub of-three : at + 6 ≤ length l → numbers (2 ∷ 2 ∷ 2 ∷ []) (drop at l) ≡ two l at ∷ two l (at + 2) ∷ two l (at + 4) ∷ []
+  of-three h =
       let n : at + 2 + 2 ≡ at + 4 = omega arith in
       let e : drop 2 (drop (at + 2) l) ≡ drop (at + 4) l = drop-drop 2 (at + 2) l ∙ ap (λ (m : ℕ). drop m l) n in
-      rw (drop-drop 2 at l, e)
+      rw (drop-drop 2 at l, e, of-two l at (omega arith), of-two l (at + 2) (omega arith), of-two l (at + 4) (omega arith))

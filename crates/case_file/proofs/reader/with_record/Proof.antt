@@ -1,140 +1,108 @@
--- `with_record` puts the numbers of a record behind those of its list, and leaves the other lists.
+-- `with_record` adds a record to its list: in each arm of the match the kind is known, and the law of that kind says the rest.
 use mathlib.Core.Path.{_≡_}
+use Prim.Native.Nat.{_+_, _≤_}
 use native.Mathlib.Omega.{arith}
+use borrow.Author.Needs.{needs}
 use lib.ListN.{length}
-use Rattle.case_file.specs.Format.{kind-of, first-term, key, point, first-kind, second-kind, skeleton-kind, point-kind, numbers}
-use Rattle.case_file.specs.Case.{added, flat}
-use Rattle.case_file.specs.record.Room.{Place}
-use Rattle.case_file.specs.record.Arrays.{put-counted, put-stored}
+use Rattle.case_file.specs.Format.{point-kind}
+use Rattle.case_file.specs.reader.Adding.{modulus-whole, first-place, second-place, key-place, point-place}
+use Rattle.case_file.specs.reader.Adding.{modulus-added, first-added, second-added, key-added, point-added}
 use Rattle.case_file.proofs.reader.with_record.Statement.{statement}
 use Rattle.case_file.proofs.reader.with_record.Tie as tie
 
 is-point : (c : tie.At-match-rest) → c .before .before .args .kind ≡ point-kind
 is-point c =
     let none = c .match .rest in
-    omega (arith, c .before .before .pre .low, c .before .before .pre .high, none .0 .0 .0 .1, none .0 .0 .1, none .0 .1, none .1)
+    let p = c .before .before .pre in
+    omega (arith, p .low, p .high, none .0 .0 .0 .1, none .0 .0 .1, none .0 .1, none .1)
 
 number2-requires : tie.Need-number2-requires
-unfolding kind-of
-number2-requires c κs = rw (c .match .keys1) at (c .before .before .pre .whole)
+number2-requires c κs = modulus-whole (c .before .before .pre) (c .match .keys1)
 
-first-place : (c : tie.After-put-term-arg)
-    → Place first-term (c .before .before .before .args .bytes .now) (c .before .before .before .args .at)
-    (c .before .before .before .args .counts .first)
-unfolding kind-of
-first-place c =
-    let p = c .before .before .before .pre in
-    record { whole = rw (c .before .match .keys2) at (p .whole); room = omega (arith, rw (c .before .match .keys2) at (p .room)) }
-
-second-place : (c : tie.After-put-term-arg2)
-    → Place first-term (c .before .before .before .args .bytes .now) (c .before .before .before .args .at)
-    (c .before .before .before .args .counts .second)
-unfolding kind-of
-second-place c =
-    let p = c .before .before .before .pre in
-    record { whole = rw (c .before .match .keys3) at (p .whole); room = omega (arith, rw (c .before .match .keys3) at (p .room)) }
-
-skeleton-place : (c : tie.After-put-key-arg)
-    → Place key (c .before .before .before .args .bytes .now) (c .before .before .before .args .at)
-    (c .before .before .before .args .counts .skeleton)
-unfolding kind-of
-skeleton-place c =
-    let p = c .before .before .before .pre in
-    record { whole = rw (c .before .match .keys4) at (p .whole); room = omega (arith, rw (c .before .match .keys4) at (p .room)) }
-
-points-place : (c : tie.After-put-point-arg)
-    → Place point (c .before .before .before .args .bytes .now) (c .before .before .before .args .at)
-    (c .before .before .before .args .counts .points)
-unfolding kind-of
-points-place c =
-    let p = c .before .before .before .pre in
-    record { whole = rw (is-point (c .before)) at (p .whole); room = omega (arith, p .threes, rw (is-point (c .before)) at (p .room)) }
+number4-requires : tie.Need-number4-requires
+number4-requires c κs = first-place (c .before .before .pre) (c .match .keys2) .whole
 
 put-term-requires : tie.Need-put-term-requires
-put-term-requires c κs = first-place c
+put-term-requires c κs = first-place (c .before .before .before .before .pre) (c .before .before .match .keys2) .room
+
+number4-requires-2 : tie.Need-number4-requires-2
+number4-requires-2 c κs = second-place (c .before .before .pre) (c .match .keys3) .whole
 
 put-term-requires-2 : tie.Need-put-term-requires-2
-put-term-requires-2 c κs = second-place c
+put-term-requires-2 c κs = second-place (c .before .before .before .before .pre) (c .before .before .match .keys3) .room
+
+number2-requires-2 : tie.Need-number2-requires-2
+number2-requires-2 c κs = key-place (c .before .before .pre) (c .match .keys4) .whole
 
 put-key-requires : tie.Need-put-key-requires
-put-key-requires c κs = skeleton-place c
+put-key-requires c κs = key-place (c .before .before .before .before .pre) (c .before .before .match .keys4) .room
+
+-- the three numbers of a point are in its body
+in-body : (c : tie.At-match-rest) → c .before .before .args .at + 6 ≤ length (c .before .before .args .bytes .now)
+in-body c = point-place (c .before .before .pre) (is-point c) .whole
+
+number2-requires-3 : tie.Need-number2-requires-3
+number2-requires-3 c κs = omega (arith, in-body c)
+
+add-number2 : tie.Need-add-number2
+add-number2 c = let h = in-body (c .before) in search needs
+
+number2-requires-4 : tie.Need-number2-requires-4
+number2-requires-4 c κs = omega (arith, in-body (c .before))
+
+add-number2-2 : tie.Need-add-number2-2
+add-number2-2 c = let h = in-body (c .before .before) in search needs
+
+number2-requires-5 : tie.Need-number2-requires-5
+number2-requires-5 c κs = omega (arith, in-body (c .before .before))
 
 put-point-requires : tie.Need-put-point-requires
-put-point-requires c κs = points-place c
+put-point-requires c κs =
+    let d = c .before .before .before .before in
+    point-place (d .before .before .pre) (is-point d) .room
 
 returns : tie.Need-returns
-unfolding kind-of added flat numbers
-returns c case g fresh =
-    let e = c .before .match .keys1 in
-    rw e
-    (record {
-      record-is = rw (g .record-is, rw e at (fresh e), c .number2 .ensures);
-      first-is = g .first-is;
-      second-is = g .second-is;
-      skeleton-is = g .skeleton-is;
-      points-is = g .points-is;
-    })
+returns c = modulus-added (c .before .before .before .pre) (c .before .match .keys1) (c .number2 .ensures)
 
+-- in what follows d is the arm of the kind
 returns-2 : tie.Need-returns-2
-unfolding kind-of added
-returns-2 c case g fresh =
-    let e : c .before .before .before .before .args .counts .first ≡ length (flat (case first-kind)) = rw (g .record-is) in
-    rw (c .before .before .match .keys2)
-    (record {
-      record-is = rw (put-counted (first-place (c .before)) (c .put-term .ensures) (case first-kind) e, g .record-is);
-      first-is = put-stored (first-place (c .before)) (c .put-term .ensures) (case first-kind) e (g .first-is);
-      second-is = g .second-is;
-      skeleton-is = g .skeleton-is;
-      points-is = g .points-is;
-    })
+returns-2 c =
+    let d = c .before .before .before in
+    first-added (d .before .before .pre) (d .match .keys2) (c .before .before .number4 .ensures) (c .put-term .ensures)
 
 returns-3 : tie.Need-returns-3
-unfolding kind-of added
-returns-3 c case g fresh =
-    let e : c .before .before .before .before .args .counts .second ≡ length (flat (case second-kind)) = rw (g .record-is) in
-    rw (c .before .before .match .keys3)
-    (record {
-      record-is = rw (put-counted (second-place (c .before)) (c .put-term2 .ensures) (case second-kind) e, g .record-is);
-      first-is = g .first-is;
-      second-is = put-stored (second-place (c .before)) (c .put-term2 .ensures) (case second-kind) e (g .second-is);
-      skeleton-is = g .skeleton-is;
-      points-is = g .points-is;
-    })
+returns-3 c =
+    let d = c .before .before .before in
+    second-added (d .before .before .pre) (d .match .keys3) (c .before .before .number42 .ensures) (c .put-term2 .ensures)
 
 returns-4 : tie.Need-returns-4
-unfolding kind-of added
-returns-4 c case g fresh =
-    let e : c .before .before .before .before .args .counts .skeleton ≡ length (flat (case skeleton-kind)) = rw (g .record-is) in
-    rw (c .before .before .match .keys4)
-    (record {
-      record-is = rw (put-counted (skeleton-place (c .before)) (c .put-key .ensures) (case skeleton-kind) e, g .record-is);
-      first-is = g .first-is;
-      second-is = g .second-is;
-      skeleton-is = put-stored (skeleton-place (c .before)) (c .put-key .ensures) (case skeleton-kind) e (g .skeleton-is);
-      points-is = g .points-is;
-    })
+returns-4 c =
+    let d = c .before .before .before in
+    key-added (d .before .before .pre) (d .match .keys4) (c .before .before .number22 .ensures) (c .put-key .ensures)
 
 returns-5 : tie.Need-returns-5
-unfolding kind-of added
-returns-5 c case g fresh =
-    let e : c .before .before .before .before .args .counts .points ≡ length (flat (case point-kind)) = rw (g .record-is) in
-    rw (is-point (c .before .before))
-    (record {
-      record-is = rw (put-counted (points-place (c .before)) (c .put-point .ensures) (case point-kind) e, g .record-is);
-      first-is = g .first-is;
-      second-is = g .second-is;
-      skeleton-is = g .skeleton-is;
-      points-is = put-stored (points-place (c .before)) (c .put-point .ensures) (case point-kind) e (g .points-is);
-    })
+returns-5 c =
+    let w = c .before .before in
+    let d = w .before .before .before in
+    point-added (d .before .before .pre) (is-point d) (w .before .before .number23 .ensures) (w .before .number24 .ensures) (w .number25 .ensures)
+    (c .put-point .ensures)
 
 pub with-record-spec : {M : Type 1} → statement M
 with-record-spec =
     tie.close
     (tie.spec
     number2-requires
+    number4-requires
     put-term-requires
+    number4-requires-2
     put-term-requires-2
+    number2-requires-2
     put-key-requires
+    number2-requires-3
+    add-number2
+    number2-requires-4
+    add-number2-2
+    number2-requires-5
     put-point-requires
     returns
     returns-2
