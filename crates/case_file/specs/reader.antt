@@ -3,8 +3,8 @@ pub mod Added
 pub mod Steps
 pub mod Standing
 pub mod Alone
-pub mod ReadBack
 pub mod RoundTrip
+pub mod ReadBack
 pub mod Accepted
 pub mod Settled
 pub mod Within

@@ -13,13 +13,7 @@ Determined o = (r r′ : Counts) (f f′ s s′ k k′ p p′ : List ℕ) → Gi
     → (r ≡ r′) × (f ≡ f′) × (s ≡ s′) × (k ≡ k′) × (p ≡ p′)
 
 gives-determined : (o : Reading) → Determined o
-gives-determined o r r′ f f′ s s′ k k′ p p′ g g′ = (
-  g .record-is ∙ sym (g′ .record-is),
-  g .first-is ∙ sym (g′ .first-is),
-  g .second-is ∙ sym (g′ .second-is),
-  g .skeleton-is ∙ sym (g′ .skeleton-is),
-  g .points-is ∙ sym (g′ .points-is),
-)
+gives-determined o r r′ f f′ s s′ k k′ p p′ g g′ = ((cc), (cc), (cc), (cc), (cc))
 
 pub read-one-into-determined : (bs : List ℕ) → Determined (read-one bs)
 read-one-into-determined bs = gives-determined (read-one bs)

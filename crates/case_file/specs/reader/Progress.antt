@@ -15,6 +15,7 @@ use Rattle.case_file.specs.Case.{Case, no-records, added}
 use Rattle.case_file.specs.Reading.{whole, refused, fault-number, reading, read-one-in, read-one}
 use Rattle.case_file.specs.Handed.{Gives, counts}
 use Rattle.case_file.specs.record.Room.{held}
+use Rattle.case_file.specs.record.Arrays.{gives}
 use Rattle.case_file.specs.reader.Adding.{Ready, Adds}
 use Rattle.case_file.specs.declared.Counts.{Counts}
 use Rattle.case_file.specs.record.Tests.{Passed, passed, fault-same, not-second}
@@ -52,14 +53,7 @@ unfolding read-one-in
 begun bs g =
     record {
       case = no-records;
-      given =
-          record {
-            record-is = g .record-is;
-            first-is = g .first-is;
-            second-is = g .second-is;
-            skeleton-is = g .skeleton-is;
-            points-is = g .points-is;
-          };
+      given = gives (g .record-is) (g .first-is) (g .second-is) (g .skeleton-is) (g .points-is);
       standing = standing-start today;
       not-ended = omega arith;
       within = omega arith;

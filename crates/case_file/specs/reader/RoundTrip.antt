@@ -40,9 +40,9 @@ module _ (f : Format) where
       let t = risen n (k .byte) (with-last ks) r in
       omega (arith, t .0, below-last (k .byte) ks (t .1))
 
-  one-record : (k : ℕ) (ns rest : List ℕ) → records f k (ns ∷ []) ++ rest ≡ k ∷ packed (widths f k) ns ++ rest
+  one-record : (k : ℕ) {rs : List (List ℕ)} (ns rest : List ℕ) → rs ≡ ns ∷ [] → records f k rs ++ rest ≡ k ∷ packed (widths f k) ns ++ rest
   unfolding records
-  one-record k ns rest = ap (λ (l : List ℕ). k ∷ l ++ rest) (append-nil (packed (widths f k) ns))
+  one-record k ns rest e = rw e (ap (λ (l : List ℕ). k ∷ l ++ rest) (append-nil (packed (widths f k) ns)))
 
   -- one record
   module _ (k before : ℕ) (o : follows f before k ≡ true) (at : ℕ) (d : Case) (ns rest : List ℕ)
@@ -126,8 +126,7 @@ module _ (f : Format) (w : WellFormed f) (c : Case) (s : Storable f c) where
       let t : length (d k) < limit f k = omega (arith, room-left n k (k ∷ []) d l p, s .one-last) in
       let all : added k (c k) d ≡ c = fun-ext (λ j. partly-more n k [] d l p .same j refl) in
       rw append-nil
-      (ap (λ (rs : List (List ℕ)). reading f 0 at before d (records f k rs ++ rest)) (q .1)
-      ∙ ap (reading f 0 at before d) (one-record f k (q .0) rest)
+      (ap (reading f 0 at before d) (one-record f k (q .0) rest (q .1))
       ∙ read-end f k before (o k l) at d (q .0) rest t (b .0) refl (rw (w .bare-last))
       ∙ rw (← q .1, all))
   comes (m ∷ ks) n at before d rest u v r p o =
@@ -154,8 +153,7 @@ module _ (f : Format) (w : WellFormed f) (c : Case) (s : Storable f c) where
       let b : EachFits (widths f k) (q .0 ∷ []) = rw (q .1) at (s .bodies k) in
       let l : length (no-records k) < limit f k = omega (arith, w .one-first) in
       rw append-assoc
-      (ap (λ (rs : List (List ℕ)). reading f 0 0 0 no-records (records f k rs ++ (after ++ rest))) (q .1)
-      ∙ ap (reading f 0 0 0 no-records) (one-record f k (q .0) (after ++ rest))
+      (ap (reading f 0 0 0 no-records) (one-record f k (q .0) (after ++ rest) (q .1))
       ∙ read-record f k 0 (may-begin f) 0 no-records (q .0) (after ++ rest) l (b .0) (λ e. omega (arith, below-last f k (f .between) (t .1)))
       ∙ rw (← q .1)
       (comes (f .between) k (0 + length (records f k (c k))) k (added k (c k) no-records) rest (t .0) (omega arith) (t .1)

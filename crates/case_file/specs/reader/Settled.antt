@@ -1,33 +1,32 @@
 -- A file's first bytes settle what it says, in any format: the records of a case are few, so that longer input can be cut. By the bytes that
 -- records can still take (`room`).
-use Prim.Native.Nat.{ℕ, zero, suc, _+_, _-_, _*_, _≤_, _<_, max}
+use Prim.Native.Nat.{ℕ, zero, suc, _+_, _-_, _*_, _≤_, _<_}
 use mathlib.Core.Path.{_≡_, refl, sym, ap, _∙_}
-use mathlib.Core.Bool.{Bool, true, false, false≢true}
+use mathlib.Core.Bool.{Bool, true, false}
 use mathlib.Core.List.{List, [], _∷_, _++_, map}
-use native.Mathlib.Nat.{sub-zero, mul-suc, mul-le-mul-left, le-max-left, le-max-right}
+use native.Mathlib.Nat.{sub-zero, mul-suc, mul-le-mul-left}
 use native.Mathlib.Omega.{arith}
-use borrow.Author.Tests.{le-leb, lt-leb, leb-true, leb-false, lt-ltb, eqb-true, eqb-false}
-use lib.Dec.{leb, eqb}
+use borrow.Author.Tests.{le-leb, lt-leb, leb-true, leb-false}
+use lib.Dec.{leb}
 use lib.ListN.{length, take, length-take, length-append}
-use lib.Seq.{take-nil, take-all, length-take-le}
+use lib.Seq.{take-nil}
 use Rattle.field.specs.Numbers.{NO_END}
 use Rattle.case_file.specs.Format.{Kind, Format, order, member, known, widths, limit, sum, body, content, fullest, greatest, enough}
 use Rattle.case_file.specs.Case.{Case, no-records, added}
 use Rattle.case_file.specs.Reading.{Reading, whole, refused, fault-number, reading, read-one-in, alone, read-in}
-use Rattle.case_file.specs.record.Tests.{unknown-kind, Passed, passed}
+use Rattle.case_file.specs.record.Tests.{by-member, at-most-greatest, unknown-kind, Passed, passed}
 use Rattle.case_file.specs.record.Packing.{numbers-take}
 use Rattle.case_file.specs.reader.Steps.{refused-no-case, stops, ends, goes-on, by-record}
 use Rattle.case_file.specs.reader.Added.{added-own, added-other, added-each}
 use Rattle.case_file.specs.reader.Alone.{alone-whole}
 
-at-most-greatest : (g : ℕ → ℕ) (k : ℕ) (ks : List ℕ) → member k ks ≡ true → g k ≤ greatest (map g ks)
-at-most-greatest g k [] m = absurd (false≢true m)
-at-most-greatest g k (j ∷ ks) m = go (eqb k j) refl m (at-most-greatest g k ks)
+-- a length that is not beyond the cut is reached by both or by neither
+leb-take : (x m : ℕ) (bs : List ℕ) → x ≤ m → leb x (length (take m bs)) ≡ leb x (length bs)
+leb-take x m bs h = go (leb x (length bs)) refl
   where
-    go : (b : Bool) → eqb k j ≡ b → elim b [ true ↦ true | false ↦ member k ks ] ≡ true → (member k ks ≡ true → g k ≤ greatest (map g ks))
-        → g k ≤ max (g j) (greatest (map g ks))
-    go true e m ih = rw (eqb-true k j e) (le-max-left (g j) (greatest (map g ks)))
-    go false e m ih = omega (arith, ih m, le-max-right (g j) (greatest (map g ks)))
+    go : (b : Bool) → leb x (length bs) ≡ b → leb x (length (take m bs)) ≡ leb x (length bs)
+    go true e = le-leb x (length (take m bs)) (rw length-take (omega (arith, leb-true x (length bs) e))) ∙ sym e
+    go false e = lt-leb x (length (take m bs)) (rw length-take (omega (arith, leb-false x (length bs) e))) ∙ sym e
 
 -- one factor less
 less-one : (b l n : ℕ) → n < l → b * (l - suc n) + b ≡ b * (l - n)
@@ -64,18 +63,13 @@ module _ (f : Format) where
         omega (arith, mul-le-mul-left (1 + body f j) m, room-less ks)
 
     -- a record takes its bytes from those that are left
-    spent : (ks : List ℕ) → member k ks ≡ true → length (c k) < limit f k → room ks (added k (ns ∷ []) c) + (1 + body f k) ≤ room ks c
+    spent : length (c k) < limit f k → (ks : List ℕ) → member k ks ≡ true → room ks (added k (ns ∷ []) c) + (1 + body f k) ≤ room ks c
     unfolding room
-    spent [] m h = absurd (false≢true m)
-    spent (j ∷ ks) m h = go (eqb k j) refl m (λ q. spent ks q h)
-      where
-        go : (b : Bool) → eqb k j ≡ b → elim b [ true ↦ true | false ↦ member k ks ] ≡ true
-            → (member k ks ≡ true → room ks (added k (ns ∷ []) c) + (1 + body f k) ≤ room ks c)
-            → room (j ∷ ks) (added k (ns ∷ []) c) + (1 + body f k) ≤ room (j ∷ ks) c
-        go true e m ih =
-            let l : length (c k ++ ns ∷ []) ≡ suc (length (c k)) = rw length-append (omega arith) in
-            rw (← eqb-true k j e, added-own, l) (omega (arith, less-one (1 + body f k) (limit f k) (length (c k)) h, room-less ks))
-        go false e m ih = rw (added-other k (ns ∷ []) c j (λ q. eqb-false k j e (sym q))) (omega (arith, ih m))
+    spent h =
+        let l : length (c k ++ ns ∷ []) ≡ suc (length (c k)) = rw length-append (omega arith) in
+        by-member k (λ (ks : List ℕ). room ks (added k (ns ∷ []) c) + (1 + body f k) ≤ room ks c)
+        (λ ks. rw (added-own, l) (omega (arith, less-one (1 + body f k) (limit f k) (length (c k)) h, room-less ks)))
+        (λ j ks ne ih. rw (added-other k (ns ∷ []) c j ne) (omega arith))
 
   room-start : (ks : List ℕ) → room ks no-records ≡ sum (map (λ (k : ℕ). (1 + body f k) * limit f k) ks)
   unfolding room
@@ -88,15 +82,11 @@ module _ (f : Format) where
 
   takes : (before k m : ℕ) (c : Case) (ns : List ℕ) → Passed f before k (length (c k)) m → left (added k (ns ∷ []) c) + (1 + body f k) ≤ left c
   unfolding known
-  takes before k m c ns p = spent k ns c (order f) (p .is-known) (p .room)
+  takes before k m c ns p = spent k ns c (p .room) (order f) (p .is-known)
 
   fault-take : (before k n m : ℕ) (bs : List ℕ) → body f k ≤ m → fault-number f before k n (length (take m bs)) ≡ fault-number f before k n (length bs)
   unfolding fault-number
-  fault-take before k n m bs h = rw (go (leb (body f k) (length bs)) refl)
-    where
-      go : (b : Bool) → leb (body f k) (length bs) ≡ b → leb (body f k) (length (take m bs)) ≡ leb (body f k) (length bs)
-      go true e = le-leb (body f k) (length (take m bs)) (rw length-take (omega (arith, leb-true (body f k) (length bs) e))) ∙ sym e
-      go false e = lt-leb (body f k) (length (take m bs)) (rw length-take (omega (arith, leb-false (body f k) (length bs) e))) ∙ sym e
+  fault-take before k n m bs h = rw (leb-take (body f k) m bs h)
 
   -- reading looks at no byte beyond those that are left and one record
   cut : (s at before : ℕ) (c : Case) (bs : List ℕ) (m : ℕ) → s + left c + (1 + longest) ≤ m → reading f s at before c (take m bs) ≡ reading f s at before c bs
@@ -154,23 +144,13 @@ module _ (f : Format) where
       unfolding read-one-in
       settled-one = cut 0 0 0 no-records bs m (omega (arith, room-start (order f)))
 
-      longer : m ≤ length bs → read-in f (take m bs) ≡ read-in f bs
-      unfolding read-in alone
-      longer l = rw (settled-one, length-take-le m bs l) (go (read-one-in f bs) refl)
-        where
-          go : (o : Reading) → read-one-in f bs ≡ o → alone m o ≡ alone (length bs) o
-          go (refused e i) s = refl
-          go (whole c n) s =
-              let a : n < m = omega (arith, end-early c n s) in
-              let b : n < length bs = omega arith in
-              rw (alone, lt-ltb n m a, lt-ltb n (length bs) b)
-
       -- a case file
       pub settled : read-in f (take m bs) ≡ read-in f bs
-      settled = go (leb m (length bs)) refl
+      unfolding read-in alone
+      settled = rw settled-one (go (read-one-in f bs) refl)
         where
-          go : (b : Bool) → leb m (length bs) ≡ b → read-in f (take m bs) ≡ read-in f bs
-          go true t = longer (leb-true m (length bs) t)
-          go false t =
-              let l : length bs ≤ m = omega (arith, leb-false m (length bs) t) in
-              rw (take-all m bs l)
+          go : (o : Reading) → read-one-in f bs ≡ o → alone (length (take m bs)) o ≡ alone (length bs) o
+          go (refused e i) s = refl
+          go (whole c n) s =
+              let a : suc n ≤ m = omega (arith, end-early c n s) in
+              rw (alone, leb-take (suc n) m bs a)

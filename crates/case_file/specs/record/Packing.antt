@@ -27,15 +27,12 @@ pub length-numbers : (ws bs : List ℕ) → length (numbers ws bs) ≡ length ws
 length-numbers [] bs = refl
 length-numbers (w ∷ ws) bs = ap suc (length-numbers ws (drop w bs))
 
-quotient-below : (m v : ℕ) → v < base * m → v / base < m
-quotient-below m v h = omega arith
-
 little-bytes : (w v : ℕ) → v < base ^ w → little (bytes w v) ≡ v
 unfolding bytes little
 little-bytes zero v h = omega arith
 little-bytes (suc w) v h =
     let p : v < base * base ^ w = rw (pow-succ' base w) at h in
-    rw (little-bytes w (v / base) (quotient-below (base ^ w) v p)) (omega arith)
+    rw (little-bytes w (v / base) (omega arith)) (omega arith)
 
 pub numbers-packed : (ws vs rest : List ℕ) → Fits ws vs → numbers ws (packed ws vs ++ rest) ≡ vs
 unfolding packed

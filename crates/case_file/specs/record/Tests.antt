@@ -1,31 +1,37 @@
 -- The tests of a record in any format: which number the first failed one gives, and what is known when all are passed.
 use Prim.Native.Nat.{ℕ, zero, suc, _≤_, _<_}
-use mathlib.Core.Path.{_≡_, refl, ap}
+use mathlib.Core.Path.{_≡_, refl, sym, ap}
 use mathlib.Core.Bool.{Bool, true, false, _&&_, and-eq-true-iff, true≢false, false≢true}
-use mathlib.Core.List.{List, [], _∷_}
+use mathlib.Core.List.{List, [], _∷_, map}
+use native.Mathlib.Nat.{le-max-left, le-max-right}
 use native.Mathlib.Omega.{arith}
-use borrow.Author.Tests.{le-leb, lt-leb, lt-ltb, le-ltb, eq-eqb, leb-true, ltb-true, eqb-true}
+use borrow.Author.Tests.{le-leb, lt-leb, lt-ltb, le-ltb, eq-eqb, leb-true, ltb-true, eqb-true, eqb-false}
 use lib.Dec.{leb, ltb, eqb}
 use Rattle.field.specs.Numbers.{KIND_UNKNOWN, BODY_CUT, ORDER, TOO_MANY}
-use Rattle.case_file.specs.Format.{Kind, Format, kinds, bytes-of, first-byte, member, known, unknown, find, kind-of, body, limit, follows, rises}
+use Rattle.case_file.specs.Format.{Kind, Format, kinds, bytes-of, first-byte, member, known, unknown, find, kind-of, body, limit, follows, greatest, rises}
 use Rattle.case_file.specs.Reading.{first-failed, fault-number}
 
 -- the first of rising kinds
 pub risen : (n k : ℕ) (ks : List ℕ) → rises n (k ∷ ks) ≡ true → (n < k) × (rises k ks ≡ true)
 risen n k ks r = let t = and-eq-true-iff (ltb n k) (rises k ks) .0 r in (ltb-true n k (t .0), t .1)
 
--- what holds for each of a list
-abbrev pub Each : (ℕ → Type 0) → List ℕ → Type 0
-Each P [] = Unit {0}
-Each P (k ∷ ks) = P k × Each P ks
-
-pub of-member : (P : ℕ → Type 0) (k : ℕ) (ks : List ℕ) → Each P ks → member k ks ≡ true → P k
-of-member P k [] p m = absurd (false≢true m)
-of-member P k (j ∷ ks) p m = go (eqb k j) refl m (of-member P k ks (p .1))
+-- a fact of a list that has k: it holds where k is the head, and goes over from a tail that has k
+pub by-member : (k : ℕ) (P : List ℕ → Type 0) → ((ks : List ℕ) → P (k ∷ ks)) → ((j : ℕ) (ks : List ℕ) → (j ≡ k → ⊥) → P ks → P (j ∷ ks))
+    → (ks : List ℕ) → member k ks ≡ true → P ks
+by-member k P here there [] m = absurd (false≢true m)
+by-member k P here there (j ∷ ks) m = go (eqb k j) refl m (by-member k P here there ks)
   where
-    go : (b : Bool) → eqb k j ≡ b → elim b [ true ↦ true | false ↦ member k ks ] ≡ true → (member k ks ≡ true → P k) → P k
-    go true e m ih = rw (eqb-true k j e) (p .0)
-    go false e m ih = ih m
+    go : (b : Bool) → eqb k j ≡ b → elim b [ true ↦ true | false ↦ member k ks ] ≡ true → (member k ks ≡ true → P ks) → P (j ∷ ks)
+    go true e m ih = rw (← eqb-true k j e) (here ks)
+    go false e m ih = there j ks (λ q. eqb-false k j e (sym q)) (ih m)
+
+pub above : (k : ℕ) (ks : List ℕ) → member k ks ≡ true → (n : ℕ) → rises n ks ≡ true → n < k
+above k = by-member k (λ (ks : List ℕ). (n : ℕ) → rises n ks ≡ true → n < k) (λ ks n r. risen n k ks r .0)
+    (λ j ks ne ih n r. let t = risen n j ks r in omega (arith, t .0, ih j (t .1)))
+
+pub at-most-greatest : (g : ℕ → ℕ) (k : ℕ) (ks : List ℕ) → member k ks ≡ true → g k ≤ greatest (map g ks)
+at-most-greatest g k = by-member k (λ (ks : List ℕ). g k ≤ greatest (map g ks)) (λ ks. le-max-left (g k) (greatest (map g ks)))
+    (λ j ks ne ih. omega (arith, le-max-right (g j) (greatest (map g ks))))
 
 not-found : (b : ℕ) (ks : List Kind) → member b (bytes-of ks) ≡ false → find ks b ≡ unknown b
 not-found b [] h = refl

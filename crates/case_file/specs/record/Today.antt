@@ -1,26 +1,17 @@
 -- Today's format: it is well formed, its numbers, and its known kinds, by computing.
 use Prim.Native.Nat.{ℕ, zero, suc, _≤_}
 use mathlib.Core.Path.{_≡_, refl}
-use mathlib.Core.Bool.{Bool, true, false, _&&_, and-eq-true-iff}
-use mathlib.Core.List.{[], _∷_, map}
+use mathlib.Core.Bool.{Bool, true, false}
+use mathlib.Core.List.{[], _∷_}
 use native.Mathlib.Omega.{arith}
-use borrow.Author.Tests.{leb-true}
-use lib.Dec.{leb}
+use lib.ListN.{getD}
 use Rattle.case_file.specs.Format.{WellFormed, today, order, known, kind-of, body, limit, fullest, enough}
 use Rattle.case_file.specs.Format.{modulus-kind, first-kind, second-kind, skeleton-kind, point-kind, end-kind}
-use Rattle.case_file.specs.record.Tests.{of-member}
+use Rattle.case_file.specs.record.Tests.{above, at-most-greatest}
 
 pub well-formed : WellFormed today
 unfolding kind-of
 well-formed = record { rising = refl; one-first = refl; one-last = refl; bare-last = refl }
-
-pub bodies-are : map (body today) (order today) ≡ 2 ∷ 4 ∷ 4 ∷ 2 ∷ 6 ∷ 0 ∷ []
-unfolding kind-of
-bodies-are = refl
-
-pub limits-are : map (limit today) (order today) ≡ 1 ∷ 256 ∷ 256 ∷ 32 ∷ 32 ∷ 1 ∷ []
-unfolding kind-of
-limits-are = refl
 
 pub fullest-is : fullest today ≡ 2884
 unfolding kind-of
@@ -44,16 +35,22 @@ by-kind P (suc (suc (suc (suc (suc (suc zero)))))) low high p₁ p₂ p₃ p₄ 
 by-kind P (suc (suc (suc (suc (suc (suc (suc k))))))) low high p₁ p₂ p₃ p₄ p₅ p₆ = absurd (omega arith)
 
 module _ (k : ℕ) where
-  pub in-range : modulus-kind ≤ k → k ≤ end-kind → known today k ≡ true
-  unfolding known
-  in-range low high = by-kind (λ (k : ℕ). known today k ≡ true) k low high refl refl refl refl refl refl
+  module _ (low : modulus-kind ≤ k) (high : k ≤ end-kind) where
+    pub in-range : known today k ≡ true
+    unfolding known
+    in-range = by-kind (λ (k : ℕ). known today k ≡ true) k low high refl refl refl refl refl refl
+
+    pub body-at : getD (0 ∷ 2 ∷ 4 ∷ 4 ∷ 2 ∷ 6 ∷ 0 ∷ []) k 0 ≡ body today k
+    unfolding kind-of
+    body-at = by-kind (λ (k : ℕ). getD (0 ∷ 2 ∷ 4 ∷ 4 ∷ 2 ∷ 6 ∷ 0 ∷ []) k 0 ≡ body today k) k low high refl refl refl refl refl refl
+
+    pub limit-at : getD (0 ∷ 1 ∷ 256 ∷ 256 ∷ 32 ∷ 32 ∷ 1 ∷ []) k 0 ≡ limit today k
+    unfolding kind-of
+    limit-at = by-kind (λ (k : ℕ). getD (0 ∷ 1 ∷ 256 ∷ 256 ∷ 32 ∷ 32 ∷ 1 ∷ []) k 0 ≡ limit today k) k low high refl refl refl refl refl refl
 
   pub range : known today k ≡ true → (modulus-kind ≤ k) × (k ≤ end-kind)
   unfolding known
-  range h =
-      let e = of-member (λ (k : ℕ). leb modulus-kind k && leb k end-kind ≡ true) k (order today) (refl, (refl, (refl, (refl, (refl, (refl, tt)))))) h in
-      let t = and-eq-true-iff (leb modulus-kind k) (leb k end-kind) .0 e in
-      (leb-true _ _ (t .0), leb-true _ _ (t .1))
+  range h = (above k (order today) h 0 refl, at-most-greatest (λ (j : ℕ). j) k (order today) h)
 
   pub out-of-range : ((modulus-kind ≤ k) × (k ≤ end-kind) → ⊥) → known today k ≡ false
   out-of-range h = go (known today k) refl

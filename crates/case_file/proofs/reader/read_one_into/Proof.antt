@@ -5,6 +5,7 @@ use native.Mathlib.Omega.{arith}
 use borrow.Author.Needs.{needs}
 use lib.ListN.{length}
 use Rattle.case_file.specs.Case.{added}
+use Rattle.case_file.specs.record.Arrays.{gives}
 use Rattle.case_file.specs.reader.Progress.{Progress, begun, out, stopped, ended, fits-in, ready, carried}
 use Rattle.case_file.proofs.reader.read_one_into.Statement.{statement}
 use Rattle.case_file.proofs.reader.read_one_into.Tie as tie
@@ -38,70 +39,60 @@ fault-of-requires c κs = search needs
 nothing-requires-2 : tie.Need-nothing-requires-2 Inv-loop μ-loop
 nothing-requires-2 c κs = search needs
 
--- in what follows d is the place after the tests of a record, t the branch behind it
+-- in what follows d is the place where a record was tested, l the loop's entry before it, t the branch behind it
 returns : tie.Need-returns Inv-loop μ-loop
 returns c =
     let t = c .before .before .before .before .before in
     let d = t .before in
-    rw (stopped (d .before .before .before .loop .inv) (d .before .before .loop-test .taken) (d .fault-of .ensures) (t .if1 .taken)) (c .nothing2 .ensures)
+    let l = d .before .before in
+    rw (stopped (l .before .loop .inv) (l .loop-test .taken) (d .fault-of .ensures) (t .if1 .taken)) (c .nothing2 .ensures)
 
 returns-2 : tie.Need-returns-2 Inv-loop μ-loop
 unfolding added
 returns-2 c =
-    let t = c .before in
-    let d = t .before in
-    let g = d .before .before .before .loop .inv .given in
-    rw (ended (d .before .before .before .loop .inv) (d .before .before .loop-test .taken) (d .fault-of .ensures) (t .if1 .left) (c .if2 .taken), c .if2 .taken)
-    (record {
-      record-is = rw (g .record-is);
-      first-is = g .first-is;
-      second-is = g .second-is;
-      skeleton-is = g .skeleton-is;
-      points-is = g .points-is;
-    })
+    let d = c .before .before in
+    let l = d .before .before in
+    let g = l .before .loop .inv .given in
+    rw (ended (l .before .loop .inv) (l .loop-test .taken) (d .fault-of .ensures) (c .before .if1 .left) (c .if2 .taken), c .if2 .taken)
+    (gives (rw (g .record-is)) (g .first-is) (g .second-is) (g .skeleton-is) (g .points-is))
 
 with-record-requires : tie.Need-with-record-requires Inv-loop μ-loop
 with-record-requires c κs =
     let t = c .before .before .before .before in
     let d = t .before .before in
-    ready (d .before .before .before .loop .inv) (d .before .before .loop-test .taken) (d .fault-of .ensures) (t .before .if1 .left) (t .if2 .left)
+    let l = d .before .before in
+    ready (l .before .loop .inv) (l .loop-test .taken) (d .fault-of .ensures) (t .before .if1 .left) (t .if2 .left)
 
 body-requires : tie.Need-body-requires Inv-loop μ-loop
 body-requires c κs =
     let t = c .before .before .before .before .before in
     let d = t .before .before in
-    let r = ready (d .before .before .before .loop .inv) (d .before .before .loop-test .taken) (d .fault-of .ensures) (t .before .if1 .left) (t .if2 .left) in
+    let l = d .before .before in
+    let r = ready (l .before .loop .inv) (l .loop-test .taken) (d .fault-of .ensures) (t .before .if1 .left) (t .if2 .left) in
     record { low = r .low; high = omega arith }
 
 add-at : tie.Need-add-at Inv-loop μ-loop
 add-at c =
-    let t = c .before .before .before .before .before .before in
-    let d = t .before .before in
-    let start = d .before .before .before .before .before .before .before .before .before .before in
-    omega (
-      arith,
-      fits-in (d .before .before .before .loop .inv) (d .before .before .loop-test .taken) (d .fault-of .ensures) (t .before .if1 .left),
-      c .body .ensures,
-      start .good .0,
-    )
+    let t = c .before .before .before .before .before .before .before in
+    let d = t .before in
+    let l = d .before .before in
+    let start = l .before .before .before .before .before .before .before .before in
+    omega (arith, fits-in (l .before .loop .inv) (l .loop-test .taken) (d .fault-of .ensures) (t .if1 .left), c .body .ensures, start .good .0)
 
 loop-less : tie.Need-loop-less Inv-loop μ-loop
 loop-less c =
-    let t = c .before .before .before .before .before .before in
-    let d = t .before .before in
-    omega (
-      arith,
-      fits-in (d .before .before .before .loop .inv) (d .before .before .loop-test .taken) (d .fault-of .ensures) (t .before .if1 .left),
-      c .body .ensures,
-    )
+    let t = c .before .before .before .before .before .before .before in
+    let d = t .before in
+    let l = d .before .before in
+    omega (arith, fits-in (l .before .loop .inv) (l .loop-test .taken) (d .fault-of .ensures) (t .if1 .left), c .body .ensures)
 
 loop-again : tie.Need-loop-again Inv-loop μ-loop
 loop-again c =
     let t = c .before .before .before .before .before .before in
     let d = t .before .before in
+    let l = d .before .before in
     rw (c .body .ensures)
-    (carried (d .before .before .before .loop .inv) (d .before .before .loop-test .taken) (d .fault-of .ensures) (t .before .if1 .left)
-    (t .if2 .left) (c .before .with-record .ensures))
+    (carried (l .before .loop .inv) (l .loop-test .taken) (d .fault-of .ensures) (t .before .if1 .left) (t .if2 .left) (c .before .with-record .ensures))
 
 nothing-requires-3 : tie.Need-nothing-requires-3 Inv-loop μ-loop
 nothing-requires-3 c κs = search needs

@@ -1,15 +1,13 @@
 -- `fault_of` makes the tests of a record one after another: each answer is that of the first test that fails, by what the tests before it left.
-use mathlib.Core.Path.{_≡_, refl, sym, _∙_}
+use mathlib.Core.Path.{_≡_, sym, _∙_}
 use mathlib.Core.Bool.{true}
-use mathlib.Core.List.{[], _∷_}
-use Prim.Native.Nat.{ℕ, _≤_}
+use Prim.Native.Nat.{_≤_}
 use native.Mathlib.Omega.{arith}
 use borrow.Author.Tests.{not-true, not-false}
 use borrow.Author.Needs.{needs}
-use lib.ListN.{getD}
-use Rattle.case_file.specs.Format.{today, known, kind-of, follows, body, limit}
+use Rattle.case_file.specs.Format.{today, known, follows, body}
 use Rattle.case_file.specs.record.Tests.{fails-known, fails-order, fails-whole, fails-limit, passes}
-use Rattle.case_file.specs.record.Today.{by-kind, in-range, out-of-range}
+use Rattle.case_file.specs.record.Today.{in-range, limit-at, out-of-range}
 use Rattle.case_file.proofs.record.fault_of.Statement.{statement}
 use Rattle.case_file.proofs.record.fault_of.Tie as tie
 
@@ -23,13 +21,6 @@ in-order c = sym (c .before .follows .ensures) ∙ not-false _ (c .if3 .left)
 is-whole : (c : tie.Else4)
     → body today (c .before .before .before .before .before .before .args .kind) ≤ c .before .before .before .before .before .before .args .left
 is-whole c = rw (c .before .body .ensures) at (c .if4 .left)
-
--- the array of limits, by kind
-limit-is : (c : tie.Else2) → getD (0 ∷ 1 ∷ 256 ∷ 256 ∷ 32 ∷ 32 ∷ 1 ∷ []) (c .before .before .args .kind) 0 ≡ limit today (c .before .before .args .kind)
-unfolding kind-of
-limit-is c =
-    by-kind (λ (k : ℕ). getD (0 ∷ 1 ∷ 256 ∷ 256 ∷ 32 ∷ 32 ∷ 1 ∷ []) k 0 ≡ limit today k) (c .before .before .args .kind) (c .before .if1 .left)
-    (c .if2 .left) refl refl refl refl refl refl
 
 returns : tie.Need-returns
 returns c = fails-known today _ _ _ _ (out-of-range _ (λ h. omega (arith, h .0, c .if1 .taken)))
@@ -66,13 +57,15 @@ returns-5 : tie.Need-returns-5
 returns-5 c =
     let t = c .before .before .before .before in
     let d = t .before .before in
-    fails-limit today _ _ _ _ (is-known d) (in-order t) (is-whole (c .before .before)) (rw (c .before .held .ensures, limit-is d) at (c .if5 .taken))
+    fails-limit today _ _ _ _ (is-known d) (in-order t) (is-whole (c .before .before))
+    (rw (c .before .held .ensures, limit-at _ (d .before .if1 .left) (d .if2 .left)) at (c .if5 .taken))
 
 returns-6 : tie.Need-returns-6
 returns-6 c =
     let t = c .before .before .before .before in
     let d = t .before .before in
-    passes today _ _ _ _ (is-known d) (in-order t) (is-whole (c .before .before)) (rw (c .before .held .ensures, limit-is d) at (c .if5 .left))
+    passes today _ _ _ _ (is-known d) (in-order t) (is-whole (c .before .before))
+    (rw (c .before .held .ensures, limit-at _ (d .before .if1 .left) (d .if2 .left)) at (c .if5 .left))
 
 pub fault-of-spec : {M : Type 1} → statement M
 fault-of-spec =
