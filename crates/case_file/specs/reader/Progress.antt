@@ -10,7 +10,7 @@ use lib.ListN.{length, getD, drop, length-drop, drop-of-length-le}
 use lib.Seq.{drop-cons, drop-drop}
 use Rattle.field.specs.Numbers.{NO_END}
 use Rattle.case_file.specs.Format.{modulus-kind, first-kind, second-kind, skeleton-kind, point-kind, end-kind}
-use Rattle.case_file.specs.Format.{known, follows, kind-of, count, body, content, today}
+use Rattle.case_file.specs.Format.{known, follows, kind-of, body, content, today}
 use Rattle.case_file.specs.Case.{Case, no-records, added}
 use Rattle.case_file.specs.Reading.{whole, refused, fault-number, reading, read-one-in, read-one}
 use Rattle.case_file.specs.Handed.{Gives, counts}

@@ -1,13 +1,12 @@
 -- Reading what is written gives the case, whatever stands after it: reading comes through the records of one kind after another, and the
 -- case read so far has all records but those of the kinds still to come (`Partly`).
 use Prim.Native.Nat.{ℕ, suc, _+_, _≤_, _<_}
-use mathlib.Core.Path.{_≡_, refl, sym, ap, ap₂, _∙_, fun-ext}
-use mathlib.Core.Bool.{Bool, true, false}
+use mathlib.Core.Path.{_≡_, refl, sym, ap, _∙_, fun-ext}
+use mathlib.Core.Bool.{true, false}
 use mathlib.Core.List.{List, [], _∷_, _++_, append-assoc, append-nil}
-use native.Mathlib.Nat.{add-zero, zero-add}
+use native.Mathlib.Nat.{add-zero}
 use native.Mathlib.Omega.{arith}
 use borrow.Author.Tests.{ne-eqb}
-use lib.Dec.{eqb}
 use lib.ListN.{length, length-append}
 use lib.Seq.{drop-at}
 use Rattle.case_file.specs.Format.{Kind, Format, WellFormed, first-byte, last-byte, bytes-of, order, member, known, rises, widths, limit, body, follows}

@@ -6,7 +6,7 @@ use lib.ListN.{length}
 use Rattle.field.specs.Numbers.{AFTER_END, NO_END}
 use Rattle.case_file.specs.Format.{Format, first-kind, second-kind, skeleton-kind, point-kind, count, body, limit, content, today}
 use Rattle.case_file.specs.Case.{Case, no-records, added, flat}
-use Rattle.case_file.specs.Reading.{Reading, refused, reading, alone, read-one-in, read-in, read-one, read}
+use Rattle.case_file.specs.Reading.{Reading, refused, reading, read-one-in, read-in, read-one, read}
 use Rattle.case_file.specs.Handed.{list, Gives}
 use Rattle.case_file.specs.declared.Counts.{Counts}
 use Rattle.case_file.specs.record.Tests.{passed}
