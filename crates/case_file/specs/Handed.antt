@@ -3,7 +3,7 @@ use mathlib.Core.Path.{_≡_}
 use Prim.Native.Nat.{ℕ, _*_, _-_}
 use mathlib.Core.List.{List, _++_}
 use lib.ListN.{length, replicate, getD}
-use Rattle.case_file.specs.Format.{modulus-kind, first-kind, second-kind, skeleton-kind, point-kind, count, limit}
+use Rattle.case_file.specs.Format.{modulus-kind, first-kind, second-kind, skeleton-kind, point-kind, count, limit, today}
 use Rattle.case_file.specs.Case.{Case, no-records, flat}
 use Rattle.case_file.specs.Reading.{Reading, whole, refused}
 use Rattle.case_file.specs.declared.Counts.{Counts}
@@ -35,7 +35,7 @@ padded n xs = xs ++ replicate (n - length xs) 0
 
 -- the array of kind k, which has room for the most records of that kind
 abbrev pub array : Reading → ℕ → List ℕ
-array o k = padded (limit k * count k) (list o k)
+array o k = padded (limit today k * count today k) (list o k)
 
 abbrev pub counts : Reading → Counts
 counts o =

@@ -1,20 +1,23 @@
 // One record of a case file: its kind, its tests, and its numbers into their list.
 ghost use mathlib.Core.Path.{_≡_};
 ghost use Prim.Native.Nat.{_+_, _<_, _≤_};
-ghost use lib.ListN.{length, take, drop};
-ghost use Rattle.case_file.specs.Format.{body as body-of, follows as follows-of, little, first-kind, skeleton-kind, point-kind};
+ghost use lib.ListN.{length};
+ghost use Rattle.case_file.specs.Format.{body as body-of, follows as follows-of, first-term, key as key-kind, point, today};
 ghost use Rattle.case_file.specs.Reading.{fault-number};
-ghost use Rattle.case_file.specs.Room.{Known, held as held-of, Place, Put};
-use crate::COORDINATES;
+ghost use Rattle.case_file.specs.record.Room.{Known, held as held-of, two, four, most, Put, PutThree};
 use crate::Counts;
-use crate::KEYS;
 use crate::Keys;
-use crate::POINTS;
 use crate::PointNumbers;
-use crate::TERMS;
 use crate::Terms;
+use field::COORDINATES;
 use field::Fault;
+use field::KeyBits;
+use field::MOST_KEYS;
+use field::MOST_POINTS;
+use field::MOST_TERMS;
 use field::RefusalNumber;
+use field::Residue;
+use field::Term;
 
 // The kinds.
 pub(crate) const MODULUS: u8 = 1;
@@ -32,23 +35,21 @@ pub(crate) const END: u8 = 6;
 // By kind, the length of a body and the most records.
 const BODIES: [usize; 7] = [0, 2, 4, 4, 2, 6, 0];
 
-const LIMITS: [usize; 7] = [0, 1, TERMS, TERMS, KEYS, POINTS, 1];
+const LIMITS: [usize; 7] = [0, 1, MOST_TERMS, MOST_TERMS, MOST_KEYS, MOST_POINTS, 1];
 
-// How many values one byte has, and two.
+// How many values a byte has.
 const BASE: u16 = 256;
-
-const BASE_SQUARED: u32 = 65536;
 
 pub(crate) fn body(kind: u8) -> usize
     requires { ⌜ Known kind ⌝ }
-    ensures { λ r. ⌜ r ≡ body-of kind ⌝ }
+    ensures { λ r. ⌜ r ≡ body-of today kind ⌝ }
 {
     BODIES[kind as usize]
 }
 
 // Whether a record of the kind may stand after one of kind `before`, which is 0 at the start.
 fn follows(before: u8, kind: u8) -> bool
-    ensures { λ r. ⌜ r ≡ follows-of before kind ⌝ }
+    ensures { λ r. ⌜ r ≡ follows-of today before kind ⌝ }
 {
     if before == 0 {
         return kind == MODULUS;
@@ -75,7 +76,7 @@ fn held(kind: u8, counts: Counts) -> usize
 
 // The number of the first test that a record does not pass, or 0. `left` bytes follow its kind byte.
 pub(crate) fn fault_of(before: u8, kind: u8, counts: Counts, left: usize) -> RefusalNumber
-    ensures { λ r. ⌜ r ≡ fault-number before kind (held-of counts kind) left ⌝ }
+    ensures { λ r. ⌜ r ≡ fault-number today before kind (held-of counts kind) left ⌝ }
 {
     if kind < MODULUS {
         return Fault::KIND_UNKNOWN;
@@ -104,41 +105,48 @@ fn wide(byte: u8) -> u16
 // Numbers of two and of four bytes, the low byte first.
 pub(crate) fn number2(bytes: &[u8], at: usize) -> u16
     requires { ⌜ at + 2 ≤ length (now bytes) ⌝ }
-    ensures { λ r. ⌜ r ≡ little (take 2 (drop at (now (bytes .entry)))) ⌝ }
+    ensures { λ r. ⌜ r ≡ two (now (bytes .entry)) at ⌝ }
 {
     wide(bytes[at]) + BASE * wide(bytes[at + 1])
 }
 
-fn number4(bytes: &[u8], at: usize) -> u32
+pub(crate) fn number4(bytes: &[u8], at: usize) -> u32
     requires { ⌜ at + 4 ≤ length (now bytes) ⌝ }
-    ensures { λ r. ⌜ r ≡ little (take 4 (drop at (now (bytes .entry)))) ⌝ }
+    ensures { λ r. ⌜ r ≡ four (now (bytes .entry)) at ⌝ }
 {
-    (number2(bytes, at) as u32) + BASE_SQUARED * (number2(bytes, at + 2) as u32)
+    let base = BASE as u32;
+    (number2(bytes, at) as u32) + base * base * (number2(bytes, at + 2) as u32)
 }
 
-// The numbers of the body at the offset go behind the n numbers of the list; how many it has then.
-pub(crate) fn put_term(bytes: &[u8], at: usize, list: &mut Terms, n: usize) -> usize
-    requires { ⌜ Place first-kind (now bytes) at n ⌝ }
-    ensures { λ r. ⌜ Put first-kind (now (bytes .entry)) at n r (now (list .entry)) (now (list .exit)) ⌝ }
+// Numbers go behind the n numbers of the list; how many it has then.
+pub(crate) fn put_term(term: Term, list: &mut Terms, n: usize) -> usize
+    requires { ⌜ n + 1 ≤ most first-term ⌝ }
+    ensures { λ r. ⌜ Put term n r (now (list .entry)) (now (list .exit)) ⌝ }
 {
-    list[n] = number4(bytes, at);
+    list[n] = term;
     n + 1
 }
 
-pub(crate) fn put_key(bytes: &[u8], at: usize, list: &mut Keys, n: usize) -> usize
-    requires { ⌜ Place skeleton-kind (now bytes) at n ⌝ }
-    ensures { λ r. ⌜ Put skeleton-kind (now (bytes .entry)) at n r (now (list .entry)) (now (list .exit)) ⌝ }
+pub(crate) fn put_key(key: KeyBits, list: &mut Keys, n: usize) -> usize
+    requires { ⌜ n + 1 ≤ most key-kind ⌝ }
+    ensures { λ r. ⌜ Put key n r (now (list .entry)) (now (list .exit)) ⌝ }
 {
-    list[n] = number2(bytes, at);
+    list[n] = key;
     n + 1
 }
 
-pub(crate) fn put_point(bytes: &[u8], at: usize, list: &mut PointNumbers, n: usize) -> usize
-    requires { ⌜ Place point-kind (now bytes) at n ⌝ }
-    ensures { λ r. ⌜ Put point-kind (now (bytes .entry)) at n r (now (list .entry)) (now (list .exit)) ⌝ }
+pub(crate) fn put_point(
+    y: Residue,
+    z: Residue,
+    w: Residue,
+    list: &mut PointNumbers,
+    n: usize,
+) -> usize
+    requires { ⌜ n + 3 ≤ most point ⌝ }
+    ensures { λ r. ⌜ PutThree y z w n r (now (list .entry)) (now (list .exit)) ⌝ }
 {
-    list[n] = number2(bytes, at);
-    list[n + 1] = number2(bytes, at + 2);
-    list[n + 2] = number2(bytes, at + 4);
+    list[n] = y;
+    list[n + 1] = z;
+    list[n + 2] = w;
     n + COORDINATES
 }

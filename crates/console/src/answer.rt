@@ -27,10 +27,10 @@ fn refused(fault: Fault) -> CandidateRecord
 pub fn candidate_of(bytes: &[u8], out: &mut [Term], work: &mut [Residue]) -> CandidateRecord
     ensures { λ r. ⌜ CandidateAnswered (now (out .entry)) (now (work .entry)) (now (bytes .entry)) (candidate-result r (now (out .exit)) (now (work .exit))) ⌝ }
 {
-    let mut first = [0; case_file::TERMS];
-    let mut second = [0; case_file::TERMS];
-    let mut skeleton = [0; case_file::KEYS];
-    let mut points = [0; case_file::POINT_NUMBERS];
+    let mut first = [0; field::MOST_TERMS];
+    let mut second = [0; field::MOST_TERMS];
+    let mut skeleton = [0; field::MOST_KEYS];
+    let mut points = [0; field::MOST_POINT_NUMBERS];
     let counts = case_file::read_into(bytes, &mut first, &mut second, &mut skeleton, &mut points);
     let fault = counts.fault;
     if fault.number != 0 {
@@ -53,7 +53,7 @@ pub fn candidate_of(bytes: &[u8], out: &mut [Term], work: &mut [Residue]) -> Can
 
 // Prints what is found: the first line, and a line for each term.
 pub fn print_candidate_of(bytes: &[u8]) {
-    let mut out = [0; case_file::KEYS];
+    let mut out = [0; field::MOST_KEYS];
     let mut work = [0; WORK_ROOM];
     let found = candidate_of(bytes, &mut out, &mut work);
     let terms = found.terms;

@@ -19,10 +19,10 @@ fn print_images(p: Residue, first: &[Term], second: &[Term], points: &[Residue])
 }
 
 fn print_images_of(bytes: &[u8]) {
-    let mut first = [0; case_file::TERMS];
-    let mut second = [0; case_file::TERMS];
-    let mut skeleton = [0; case_file::KEYS];
-    let mut points = [0; case_file::POINT_NUMBERS];
+    let mut first = [0; field::MOST_TERMS];
+    let mut second = [0; field::MOST_TERMS];
+    let mut skeleton = [0; field::MOST_KEYS];
+    let mut points = [0; field::MOST_POINT_NUMBERS];
     let counts = case_file::read_into(bytes, &mut first, &mut second, &mut skeleton, &mut points);
     let fault = counts.fault;
     if fault.number != 0 {

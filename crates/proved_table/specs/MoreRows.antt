@@ -9,8 +9,9 @@ use Rattle.poly.specs.ImageCall.{image-call, refusal}
 use Rattle.divisor.specs.Rule.{report}
 use Rattle.case_file.specs.declared.Contents.{Contents}
 use Rattle.case_file.specs.Handed.{padded}
+use Rattle.case_file.specs.Format.{today}
 use Rattle.case_file.specs.Written.{records}
-use Rattle.case_file.specs.Examples.{example}
+use Rattle.case_file.specs.reader.Examples.{example}
 use Rattle.proved_table.specs.Row.{Row, QuotientRow, ImageRow, FileRow}
 use Rattle.proved_table.specs.Table.{key-xy, term-xy, at, row, E, F, K, A₂, B₂, A₁₁, image}
 
@@ -123,7 +124,7 @@ file-byte-more = record { bytes = 1 ∷ 17 ∷ 0 ∷ 6 ∷ 0 ∷ []; found = rea
 
 -- 32 keys, and the kind byte of one more whose body is cut: 21 at that byte
 abbrev pub file-cut-key : FileRow
-file-cut-key = record { bytes = 1 ∷ 17 ∷ 0 ∷ records 4 (replicate 32 (0 ∷ [])) ++ (4 ∷ []); found = reader-refuses 21 99 }
+file-cut-key = record { bytes = 1 ∷ 17 ∷ 0 ∷ records today 4 (replicate 32 (0 ∷ [])) ++ (4 ∷ []); found = reader-refuses 21 99 }
 
 -- nothing: 24 at the length of the file
 abbrev pub file-empty : FileRow

@@ -13,10 +13,10 @@ use poly::rooms::WORK_ROOM;
 fn quotient_of(bytes: &[u8], out: &mut [Term], work: &mut [Residue]) -> QuotientRecord
     ensures { λ r. ⌜ QuotientAnswered (now (out .entry)) (now (work .entry)) (now (bytes .entry)) (quotient-result r (now (out .exit)) (now (work .exit))) ⌝ }
 {
-    let mut first = [0; case_file::TERMS];
-    let mut second = [0; case_file::TERMS];
-    let mut skeleton = [0; case_file::KEYS];
-    let mut points = [0; case_file::POINT_NUMBERS];
+    let mut first = [0; field::MOST_TERMS];
+    let mut second = [0; field::MOST_TERMS];
+    let mut skeleton = [0; field::MOST_KEYS];
+    let mut points = [0; field::MOST_POINT_NUMBERS];
     let counts = case_file::read_into(bytes, &mut first, &mut second, &mut skeleton, &mut points);
     let fault = counts.fault;
     if fault.number != 0 {

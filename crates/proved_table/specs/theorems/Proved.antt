@@ -26,11 +26,11 @@ use Rattle.poly.specs.image.Model.{value-at, image-of-values, image-of}
 use Rattle.divisor.specs.Candidate.{points-of}
 use Rattle.divisor.specs.sorting.Model.{size-of, lesser, least-from, alike, kept-of}
 use Rattle.divisor.specs.monic.Model.{leading, scaled-terms}
-use Rattle.case_file.specs.Format.{follows, numbers, little}
+use Rattle.case_file.specs.Format.{known, kind-of, follows, little}
 use Rattle.case_file.specs.Case.{added, flat}
-use Rattle.case_file.specs.Reading.{fault-number, reading, read-one, alone, read}
+use Rattle.case_file.specs.Reading.{fault-number, reading, read-one-in, alone, read-in}
 use Rattle.case_file.specs.Written.{records, packed, bytes}
-use Rattle.case_file.specs.Examples.{example}
+use Rattle.case_file.specs.reader.Examples.{example}
 use Rattle.console.specs.OfFile.{asked}
 use Rattle.console.specs.CandidateOfFile.{CandidateOfFile}
 use Rattle.proved_table.specs.Row.{result, Holds, Determined, QuotientHolds, Reads, Shows, Multiplies, Each}
@@ -86,7 +86,7 @@ quotients-hold = each-tested quotient-test QuotientHolds quotient-tested quotien
 
 -- the files are read so
 pub files-hold : Each Reads files
-unfolding read read-one reading alone fault-number added flat follows numbers little records packed bytes
+unfolding read-in read-one-in reading alone fault-number added flat known kind-of follows little records packed bytes
 files-hold = (refl, (refl, (refl, (refl, (refl, tt)))))
 
 -- P11: as values y⁷ and y agree everywhere modulo 7
@@ -102,5 +102,5 @@ products-hold P = each-tested (multiplies 17 P) (Multiplies 17 P) (multiplied 17
 -- the candidate of the example file is P1's record, with P1's terms first in the output
 pub example-answered : (output work : List ℕ) → length (p1 .skeleton) ≤ length output → work-room ≤ length work
     → CandidateOfFile output work example (result p1 output work)
-unfolding read read-one reading alone fault-number added flat follows numbers little
+unfolding read-in read-one-in reading alone fault-number added flat known kind-of follows little
 example-answered output work long room = asked refl _ (table-holds .0 output work long room)

@@ -22,9 +22,9 @@ use Rattle.proved_table.specs.test.TermDivision.{each-at-most, plus, les
 use Rattle.proved_table.specs.test.Computed.{tried, divided-by, by-answer, with-counts, by-kept, by-least, by-looks, computed}
 use Rattle.proved_table.specs.test.Decisions.{count-decided, not-below-decided, key-decided, term-decided, number-decided, checks-append}
 use Rattle.proved_table.specs.test.Decisions.{list-checks, skeleton-checks, points-checks, point-checks, checks, image-checks}
-use Rattle.case_file.specs.Format.{follows, numbers, little}
+use Rattle.case_file.specs.Format.{known, kind-of, follows, little}
 use Rattle.case_file.specs.Case.{added, flat}
-use Rattle.case_file.specs.Reading.{fault-number, reading, read-one, alone, read}
+use Rattle.case_file.specs.Reading.{fault-number, reading, read-one-in, alone, read-in}
 use Rattle.case_file.specs.Written.{records, packed, bytes}
 use Rattle.case_file.specs.Handed.{padded}
 use Rattle.proved_table.specs.Row.{Each}
@@ -64,5 +64,5 @@ wrong-images-refuted = each-tested wrong-image-test ImageRefuted image-refuted w
 
 -- of the reader
 pub wrong-files-refuted : Each FileRefuted wrong-files
-unfolding read read-one reading alone fault-number added flat follows numbers little padded records packed bytes clash file-numbers wrong-file-test
+unfolding read-in read-one-in reading alone fault-number added flat known kind-of follows little padded records packed bytes clash file-numbers wrong-file-test
 wrong-files-refuted = each-tested wrong-file-test FileRefuted file-refuted wrong-files refl

@@ -1,11 +1,6 @@
--- `body` gives the length of a body, by cases of the kind. Assumes nothing.
-use Prim.Native.Nat.{ℕ}
-use mathlib.Core.Path.{_≡_, refl}
-use mathlib.Core.List.{[], _∷_}
+-- `body` gives the length of a body: its array has, by kind, the lengths of today's format.
 use borrow.Author.Needs.{needs}
-use lib.ListN.{getD}
-use Rattle.case_file.specs.Format.{body}
-use Rattle.case_file.proofs.Tests.{by-kind}
+use Rattle.case_file.specs.record.Today.{body-at}
 use Rattle.case_file.proofs.record.body.Statement.{statement}
 use Rattle.case_file.proofs.record.body.Tie as tie
 
@@ -16,8 +11,7 @@ array-read-result : tie.Need-array-read-result
 array-read-result c = search needs
 
 returns : tie.Need-returns
-returns c =
-    by-kind (λ (k : ℕ). getD (0 ∷ 2 ∷ 4 ∷ 4 ∷ 2 ∷ 6 ∷ 0 ∷ []) k 0 ≡ body k) (c .args .kind) (c .pre .low) (c .pre .high) refl refl refl refl refl refl
+returns c = body-at _ (c .pre .low) (c .pre .high)
 
 pub body-spec : {M : Type 1} → statement M
 body-spec = tie.close (tie.spec mul-result array-read-result returns)

@@ -1,41 +1,38 @@
--- `fault_of` makes the tests of a record one after another. Assumes nothing.
-use mathlib.Core.Path.{_≡_, sym, _∙_}
-use mathlib.Core.Bool.{true}
-use Prim.Native.Nat.{_≤_}
+-- `fault_of` makes the tests of a record one after another: each answer is that of the first test that fails, by what the tests before it left.
+use mathlib.Core.Path.{sym, _∙_}
+use native.Mathlib.Omega.{arith}
 use borrow.Author.Tests.{not-true, not-false}
 use borrow.Author.Needs.{needs}
-use Rattle.case_file.specs.Format.{follows, body}
-use Rattle.case_file.proofs.Tests.{fails-low, fails-high, fails-order, fails-whole, fails-limit, passes}
+use Rattle.case_file.specs.Format.{today}
+use Rattle.case_file.specs.record.Tests.{fails-known, fails-order, fails-whole, fails-limit, passes}
+use Rattle.case_file.specs.record.Today.{in-range, limit-at, out-of-range}
 use Rattle.case_file.proofs.record.fault_of.Statement.{statement}
 use Rattle.case_file.proofs.record.fault_of.Tie as tie
 
-in-order : (c : tie.Else3)
-    → follows (c .before .before .before .before .args .before) (c .before .before .before .before .args .kind) ≡ true
-in-order c = sym (c .before .follows .ensures) ∙ not-false _ (c .if3 .left)
-
-is-whole : (c : tie.Else4)
-    → body (c .before .before .before .before .before .before .args .kind) ≤ c .before .before .before .before .before .before .args .left
-is-whole c = rw (c .before .body .ensures) at (c .if4 .left)
-
 returns : tie.Need-returns
-returns c = fails-low _ _ _ _ (c .if1 .taken)
+returns c = fails-known today _ _ _ _ (out-of-range _ (λ h. omega (arith, h .0, c .if1 .taken)))
 
 returns-2 : tie.Need-returns-2
-returns-2 c = fails-high _ _ _ _ (c .if2 .taken)
+returns-2 c = fails-known today _ _ _ _ (out-of-range _ (λ h. omega (arith, h .1, c .if2 .taken)))
 
 follows-requires : tie.Need-follows-requires
 follows-requires c κs = search needs
 
+-- in what follows k is the place where the kind is known, o the one where the order is right, w the one where the body is whole
 returns-3 : tie.Need-returns-3
-returns-3 c = fails-order _ _ _ _ (c .before .before .before .if1 .left) (c .before .before .if2 .left)
-    (sym (c .before .follows .ensures) ∙ not-true _ (c .if3 .taken))
+returns-3 c =
+    let k = c .before .before in
+    fails-order today _ _ _ _ (in-range _ (k .before .if1 .left) (k .if2 .left)) (sym (c .before .follows .ensures) ∙ not-true _ (c .if3 .taken))
 
 body-requires : tie.Need-body-requires
 body-requires c κs = search needs
 
 returns-4 : tie.Need-returns-4
-returns-4 c = fails-whole _ _ _ _ (c .before .before .before .before .before .if1 .left) (c .before .before .before .before .if2 .left)
-    (in-order (c .before .before)) (rw (c .before .body .ensures) at (c .if4 .taken))
+returns-4 c =
+    let o = c .before .before in
+    let k = o .before .before in
+    fails-whole today _ _ _ _ (in-range _ (k .before .if1 .left) (k .if2 .left)) (sym (o .before .follows .ensures) ∙ not-false _ (o .if3 .left))
+    (rw (c .before .body .ensures) at (c .if4 .taken))
 
 mul-if5 : tie.Need-mul-if5
 mul-if5 c = search needs
@@ -47,14 +44,22 @@ held-requires : tie.Need-held-requires
 held-requires c κs = search needs
 
 returns-5 : tie.Need-returns-5
-returns-5 c = fails-limit _ _ _ _ (c .before .before .before .before .before .before .before .if1 .left)
-    (c .before .before .before .before .before .before .if2 .left) (in-order (c .before .before .before .before)) (is-whole (c .before .before))
-    (rw (c .before .held .ensures) at (c .if5 .taken))
+returns-5 c =
+    let w = c .before .before in
+    let o = w .before .before in
+    let k = o .before .before in
+    fails-limit today _ _ _ _ (in-range _ (k .before .if1 .left) (k .if2 .left)) (sym (o .before .follows .ensures) ∙ not-false _ (o .if3 .left))
+    (rw (w .before .body .ensures) at (w .if4 .left))
+    (rw (c .before .held .ensures, limit-at _ (k .before .if1 .left) (k .if2 .left)) at (c .if5 .taken))
 
 returns-6 : tie.Need-returns-6
-returns-6 c = passes _ _ _ _ (c .before .before .before .before .before .before .before .if1 .left)
-    (c .before .before .before .before .before .before .if2 .left) (in-order (c .before .before .before .before)) (is-whole (c .before .before))
-    (rw (c .before .held .ensures) at (c .if5 .left))
+returns-6 c =
+    let w = c .before .before in
+    let o = w .before .before in
+    let k = o .before .before in
+    passes today _ _ _ _ (in-range _ (k .before .if1 .left) (k .if2 .left)) (sym (o .before .follows .ensures) ∙ not-false _ (o .if3 .left))
+    (rw (w .before .body .ensures) at (w .if4 .left))
+    (rw (c .before .held .ensures, limit-at _ (k .before .if1 .left) (k .if2 .left)) at (c .if5 .left))
 
 pub fault-of-spec : {M : Type 1} → statement M
 fault-of-spec =

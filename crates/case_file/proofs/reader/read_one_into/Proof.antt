@@ -1,0 +1,126 @@
+-- The loop of `read_one_into`: the arrays hold the case read so far, and reading on gives what reading from the start gives (`Progress`).
+-- The measure is what is left of the file.
+use Prim.Native.Nat.{_-_}
+use native.Mathlib.Omega.{arith}
+use borrow.Author.Needs.{needs}
+use lib.ListN.{length}
+use Rattle.case_file.specs.Case.{added}
+use Rattle.case_file.specs.record.Arrays.{gives}
+use Rattle.case_file.specs.reader.Progress.{Progress, begun, out, stopped, ended, fits-in, ready, carried}
+use Rattle.case_file.proofs.reader.read_one_into.Statement.{statement}
+use Rattle.case_file.proofs.reader.read_one_into.Tie as tie
+
+abbrev Inv-loop : tie.InvT-loop
+Inv-loop bytes first₀ second₀ skeleton₀ points₀ counts₀ before₀ at₀ first second skeleton points counts before at =
+    Progress bytes counts first second skeleton points before at
+
+abbrev μ-loop : tie.MeasureT-loop
+μ-loop bytes first₀ second₀ skeleton₀ points₀ counts₀ before₀ at₀ first second skeleton points counts before at =
+    length bytes - at
+
+nothing-requires : tie.Need-nothing-requires Inv-loop μ-loop
+nothing-requires c κs = search needs
+
+loop-holds : tie.Need-loop-holds Inv-loop μ-loop
+loop-holds c = begun (c .before .before .before .before .before .before .args .bytes .now) (c .nothing .ensures)
+
+shared-slice-read-kind : tie.Need-shared-slice-read-kind Inv-loop μ-loop
+shared-slice-read-kind c = search needs
+
+add-start : tie.Need-add-start Inv-loop μ-loop
+add-start c = search needs
+
+sub-fault-of : tie.Need-sub-fault-of Inv-loop μ-loop
+sub-fault-of c = search needs
+
+fault-of-requires : tie.Need-fault-of-requires Inv-loop μ-loop
+fault-of-requires c κs = search needs
+
+nothing-requires-2 : tie.Need-nothing-requires-2 Inv-loop μ-loop
+nothing-requires-2 c κs = search needs
+
+-- in what follows d is the place where a record was tested, l the loop's entry before it, t the branch behind it
+returns : tie.Need-returns Inv-loop μ-loop
+returns c =
+    let t = c .before .before .before .before .before in
+    let d = t .before in
+    let l = d .before .before in
+    rw (stopped (l .before .loop .inv) (l .loop-test .taken) (d .fault-of .ensures) (t .if1 .taken)) (c .nothing2 .ensures)
+
+returns-2 : tie.Need-returns-2 Inv-loop μ-loop
+unfolding added
+returns-2 c =
+    let d = c .before .before in
+    let l = d .before .before in
+    let g = l .before .loop .inv .given in
+    rw (ended (l .before .loop .inv) (l .loop-test .taken) (d .fault-of .ensures) (c .before .if1 .left) (c .if2 .taken), c .if2 .taken)
+    (gives (rw (g .record-is)) (g .first-is) (g .second-is) (g .skeleton-is) (g .points-is))
+
+with-record-requires : tie.Need-with-record-requires Inv-loop μ-loop
+with-record-requires c κs =
+    let t = c .before .before .before .before in
+    let d = t .before .before in
+    let l = d .before .before in
+    ready (l .before .loop .inv) (l .loop-test .taken) (d .fault-of .ensures) (t .before .if1 .left) (t .if2 .left)
+
+body-requires : tie.Need-body-requires Inv-loop μ-loop
+body-requires c κs =
+    let t = c .before .before .before .before .before in
+    let d = t .before .before in
+    let l = d .before .before in
+    let r = ready (l .before .loop .inv) (l .loop-test .taken) (d .fault-of .ensures) (t .before .if1 .left) (t .if2 .left) in
+    record { low = r .low; high = omega arith }
+
+add-at : tie.Need-add-at Inv-loop μ-loop
+add-at c =
+    let t = c .before .before .before .before .before .before .before in
+    let d = t .before in
+    let l = d .before .before in
+    let start = l .before .before .before .before .before .before .before .before in
+    omega (arith, fits-in (l .before .loop .inv) (l .loop-test .taken) (d .fault-of .ensures) (t .if1 .left), c .body .ensures, start .good .0)
+
+loop-less : tie.Need-loop-less Inv-loop μ-loop
+loop-less c =
+    let t = c .before .before .before .before .before .before .before in
+    let d = t .before in
+    let l = d .before .before in
+    omega (arith, fits-in (l .before .loop .inv) (l .loop-test .taken) (d .fault-of .ensures) (t .if1 .left), c .body .ensures)
+
+loop-again : tie.Need-loop-again Inv-loop μ-loop
+loop-again c =
+    let t = c .before .before .before .before .before .before in
+    let d = t .before .before in
+    let l = d .before .before in
+    rw (c .body .ensures)
+    (carried (l .before .loop .inv) (l .loop-test .taken) (d .fault-of .ensures) (t .before .if1 .left) (t .if2 .left) (c .before .with-record .ensures))
+
+nothing-requires-3 : tie.Need-nothing-requires-3 Inv-loop μ-loop
+nothing-requires-3 c κs = search needs
+
+returns-3 : tie.Need-returns-3 Inv-loop μ-loop
+returns-3 c =
+    let l = c .before .before .before .before .before in
+    rw (out (l .before .loop .inv) (l .loop-test .left)) (c .nothing3 .ensures)
+
+pub read-one-into-spec : {M : Type 1} → statement M
+read-one-into-spec =
+    tie.close
+    (tie.spec
+    Inv-loop
+    μ-loop
+    nothing-requires
+    loop-holds
+    shared-slice-read-kind
+    add-start
+    sub-fault-of
+    fault-of-requires
+    nothing-requires-2
+    returns
+    returns-2
+    with-record-requires
+    body-requires
+    add-at
+    loop-less
+    loop-again
+    nothing-requires-3
+    returns-3)
