@@ -31,6 +31,7 @@ Adds bytes k at r r′ first second skeleton points first′ second′ skeleton�
     → (k ≡ modulus-kind → c k ≡ [])
     → Gives (whole (added k (content today k (drop at bytes) ∷ []) c) 0) r′ first′ second′ skeleton′ points′
 
+-- the record with these numbers beside fault and next
 abbrev counts-of : Counts → (modulus first second skeleton points : ℕ) → Counts
 counts-of r m f s k p = record { fault = r .fault; next = r .next; modulus = m; first = f; second = s; skeleton = k; points = p }
 

@@ -106,7 +106,8 @@ module _ (f : Format) where
       (λ u q.
       goes-on f at before c k (take m bs) (t ∙ u) q
       ∙ ap (λ (ns : List ℕ). reading f (body f k) (at + 1) k (added k (ns ∷ []) c) (take m bs)) n
-      ∙ cut (body f k) (at + 1) k (added k (content f k bs ∷ []) c) bs m (omega (arith, takes before k (length bs) c (content f k bs) (passed f before k _ _ u))))
+      ∙ cut (body f k) (at + 1) k (added k (content f k bs ∷ []) c) bs m
+      (omega (arith, takes before k (length bs) c (content f k bs) (passed f before k _ _ u))))
 
   ends-by : (c′ : Case) (n s at before : ℕ) (c : Case) (bs : List ℕ) → reading f s at before c bs ≡ whole c′ n → n ≤ at + s + left c
   unfolding reading

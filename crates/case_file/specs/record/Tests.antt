@@ -8,7 +8,8 @@ use native.Mathlib.Omega.{arith}
 use borrow.Author.Tests.{le-leb, lt-leb, lt-ltb, le-ltb, eq-eqb, leb-true, ltb-true, eqb-true, eqb-false}
 use lib.Dec.{leb, ltb, eqb}
 use Rattle.field.specs.Numbers.{KIND_UNKNOWN, BODY_CUT, ORDER, TOO_MANY}
-use Rattle.case_file.specs.Format.{Kind, Format, kinds, bytes-of, first-byte, member, known, unknown, find, kind-of, body, limit, follows, greatest, rises}
+use Rattle.case_file.specs.Format.{Kind, Format, kinds, bytes-of, first-byte, member, known, unknown, find, kind-of}
+use Rattle.case_file.specs.Format.{body, limit, follows, greatest, rises}
 use Rattle.case_file.specs.Reading.{first-failed, fault-number}
 
 -- the first of rising kinds

@@ -1,4 +1,4 @@
--- `read_into` refuses what stands after the end record.
+-- `read_into` refuses what stands after the end record: its three ways out are those of `alone`.
 use borrow.Author.Needs.{needs}
 use Rattle.case_file.specs.reader.Alone.{nothing-after, refused-before, bytes-after}
 use Rattle.case_file.proofs.reader.read_into.Statement.{statement}

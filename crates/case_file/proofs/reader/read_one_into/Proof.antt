@@ -22,7 +22,9 @@ nothing-requires : tie.Need-nothing-requires Inv-loop μ-loop
 nothing-requires c κs = search needs
 
 loop-holds : tie.Need-loop-holds Inv-loop μ-loop
-loop-holds c = begun (c .before .before .before .before .before .before .args .bytes .now) (c .nothing .ensures)
+loop-holds c =
+    let start = c .before .before .before .before .before .before in
+    begun (start .args .bytes .now) (c .nothing .ensures)
 
 shared-slice-read-kind : tie.Need-shared-slice-read-kind Inv-loop μ-loop
 shared-slice-read-kind c = search needs

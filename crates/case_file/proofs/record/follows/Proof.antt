@@ -1,4 +1,4 @@
--- `follows` decides whether a kind may stand after another.
+-- `follows` decides whether a kind may stand after another: each way out is a clause of the definition.
 use Rattle.case_file.specs.Format.{today, follows}
 use Rattle.case_file.specs.record.Tests.{follows-later}
 use Rattle.case_file.proofs.record.follows.Statement.{statement}
