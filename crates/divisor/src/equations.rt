@@ -5,7 +5,6 @@ ghost use Prim.Native.Nat.{_+_, _-_, _/_};
 ghost use lib.ListN.{length};
 ghost use Rattle.divisor.specs.equations.Model.{EquationReady, IsEquation, PointReady, Equations-to};
 ghost use Rattle.divisor.specs.points.Model.{next-column, ColumnReady, EquationsReady, Equations-before};
-use crate::sorting::Size;
 use crate::sorting::Sizes;
 use crate::table::COLUMNS;
 use crate::table::Row;
@@ -15,6 +14,7 @@ use field::KeyBits;
 use field::Residue;
 use poly::Eight;
 use poly::POWERS;
+use poly::Size;
 use poly::key::Key;
 
 // The equation of x^i at a point, where the powers of y, z and w are given: a number for each key, u in the multiplier's column.

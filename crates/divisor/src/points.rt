@@ -1,17 +1,13 @@
 // The images of the points in the work room: eight numbers for each, the first point's first.
 ghost use Rattle.divisor.specs.points.Model.{LookReady, Looks, StoreReady, Stored};
-ghost use Rattle.divisor.specs.sorting.Model.{size-of};
-ghost use mathlib.Core.Path.{_≡_};
-ghost use Prim.Native.Nat.{_/_, _<_};
+ghost use Prim.Native.Nat.{_/_};
 ghost use lib.ListN.{length};
-use crate::sorting::Size;
 use crate::sorting::Sizes;
 use field::COORDINATES;
 use field::MOST_POINTS;
 use field::Residue;
 use field::Term;
 use poly::Eight;
-use poly::ImageRecord;
 use poly::POWERS;
 
 // Eight numbers into the work room, from a place on.
@@ -24,18 +20,6 @@ fn store(coefficients: Eight, at: usize, work: &mut [Residue])
         work[at + j] = coefficients[j];
         j += 1;
     }
-}
-
-// 0 for a bad point, else one more than the image's degree.
-fn size(seen: ImageRecord) -> Size
-    requires { ⌜ seen .degree < 8 ⌝ }
-    ensures { λ r. ⌜ r ≡ size-of seen ⌝ }
-{
-    let fault = seen.fault;
-    if fault.number != 0 {
-        return 0;
-    }
-    seen.degree as Size + 1
 }
 
 // The image at each point into the work room, and the sizes.
@@ -55,7 +39,7 @@ pub(crate) fn look(
     while i < points.len() / COORDINATES {
         let at = COORDINATES * i;
         let seen = poly::image::image_at(p, first, second, &points[at..at + COORDINATES]);
-        sizes[i] = size(seen);
+        sizes[i] = seen.size;
         let coefficients = seen.coefficients;
         store(coefficients, POWERS * i, work);
         i += 1;

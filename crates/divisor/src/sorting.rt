@@ -5,9 +5,7 @@ ghost use Rattle.divisor.specs.Candidate.{most-points};
 ghost use Rattle.divisor.specs.points.PartsModel.{Within};
 ghost use Rattle.divisor.specs.sorting.Model.{lesser as lesser-of, least, alike as alike-of};
 use field::MOST_POINTS;
-
-// 0 for a bad point, else one more than the degree of its image.
-pub(crate) type Size = u16;
+use poly::Size;
 
 // A size for each point that can be lent.
 pub(crate) type Sizes = [Size; MOST_POINTS];

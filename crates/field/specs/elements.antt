@@ -5,3 +5,4 @@ pub mod Inverse
 pub mod Link
 pub mod Chase
 pub mod Products
+pub mod Plain

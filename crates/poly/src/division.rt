@@ -76,17 +76,17 @@ fn spread(terms: &[Term], cells: &mut [Residue])
 }
 
 // The cells less a term of the quotient, `q` at the key `shift`, times the divisor.
-fn subtract(p: Residue, q: Residue, shift: usize, divisor: &[Term], cells: &mut [Residue])
-    requires { ⌜ CanSubtract p q shift (now divisor) (now cells) ⌝ }
-    ensures { λ _. ⌜ now (cells .exit) ≡ less-product p shift q (now (divisor .entry)) (now (cells .entry)) ⌝ }
+fn subtract(q: Element, shift: usize, divisor: &[Term], cells: &mut [Residue])
+    requires { ⌜ CanSubtract (q .modulus) (q .value) shift (now divisor) (now cells) ⌝ }
+    ensures { λ _. ⌜ now (cells .exit) ≡ less-product (q .modulus) shift (q .value) (now (divisor .entry)) (now (cells .entry)) ⌝ }
 {
-    let opposite = p - q;
     let mut i: usize = 0;
     while i < divisor.len() {
         let t = divisor[i];
         let key = Key::of(t);
         let at = key.bits as usize + shift;
-        cells[at] = field::plus_times(p, cells[at], opposite, crate::key::coefficient_of(t));
+        let c = Element::of(q.modulus, crate::key::coefficient_of(t));
+        cells[at] = Element::of(q.modulus, cells[at]).minus_product(q, c).value;
         i += 1;
     }
 }
@@ -94,17 +94,22 @@ fn subtract(p: Residue, q: Residue, shift: usize, divisor: &[Term], cells: &mut 
 // The steps of a division, where the cells from `top` on are 0. Each leading term that can be divided gives a term of the quotient, stored at
 // its key; the search for the next one is left at the first that cannot.
 fn steps(
-    p: Residue,
     divisor: &[Term],
     lead: KeyBits,
-    inverse: Residue,
+    inverse: Element,
     bound: Key,
     top: usize,
     work: &mut [Residue],
 ) -> bool
-    requires { ⌜ CanStep (record { modulus = p; terms = now divisor; lead = lead; inverse = inverse; bound = bound .bits }) top (now work) ⌝ }
-    ensures { λ r. ⌜ Stepped (record { modulus = p; terms = now (divisor .entry); lead = lead; inverse = inverse; bound = bound .bits })
-        (now (work .entry)) (now (work .exit)) r ⌝ }
+    requires { ⌜ CanStep (record { modulus = inverse .modulus; terms = now divisor; lead = lead; inverse = inverse .value; bound = bound .bits })
+        top (now work) ⌝ }
+    ensures { λ r. ⌜ Stepped (record {
+      modulus = inverse .modulus;
+      terms = now (divisor .entry);
+      lead = lead;
+      inverse = inverse .value;
+      bound = bound .bits;
+    }) (now (work .entry)) (now (work .exit)) r ⌝ }
 {
     let low = lead as usize;
     let mut k = top;
@@ -123,9 +128,9 @@ fn steps(
                 break;
             }
         }
-        let q = field::times(p, work[k], inverse);
-        work[CELLS + (k - low)] = q;
-        subtract(p, q, k - low, divisor, work);
+        let q = Element::of(inverse.modulus, work[k]).product(inverse);
+        work[CELLS + (k - low)] = q.value;
+        subtract(q, k - low, divisor, work);
     }
     whole
 }
@@ -144,16 +149,13 @@ pub(crate) fn divide(p: Residue, dividend: &[Term], divisor: &[Term], work: &mut
         bits: above.bits - below.bits,
     };
     let first = divisor[0];
-    let coefficient = Element {
-        modulus: p,
-        value: crate::key::coefficient_of(first),
-    };
+    let coefficient = Element::of(p, crate::key::coefficient_of(first));
     let inverse = coefficient.inverse();
     let lead = Key::of(first);
     let highest = Key::of(dividend[0]);
     let top = highest.bits as usize + 1;
     spread(dividend, work);
-    steps(p, divisor, lead.bits, inverse.value, bound, top, work)
+    steps(divisor, lead.bits, inverse, bound, top, work)
 }
 
 // Trial division: whether the divisor divides the dividend, as polynomials. The work room is left cleared.

@@ -23,14 +23,14 @@ pub(crate) fn size(f: Eight) -> usize
 }
 
 // Each number times c.
-fn scaled(p: Residue, c: Residue, f: Eight) -> Eight
-    requires { ⌜ 0 < p ⌝ }
-    ensures { λ r. ⌜ r ≡ scaled-of p c f ⌝ }
+fn scaled(c: Element, f: Eight) -> Eight
+    requires { ⌜ 0 < c .modulus ⌝ }
+    ensures { λ r. ⌜ r ≡ scaled-of (c .modulus) (c .value) f ⌝ }
 {
     let mut r: Eight = [Element::ZERO; POWERS];
     let mut i: usize = 0;
     while i < POWERS {
-        r[i] = field::times(p, c, f[i]);
+        r[i] = c.product(Element::of(c.modulus, f[i])).value;
         i += 1;
     }
     r
@@ -41,23 +41,20 @@ fn monic(p: Residue, n: usize, f: Eight) -> Eight
     requires { ⌜ Divisible p n f ⌝ }
     ensures { λ r. ⌜ r ≡ monic-of p n f ⌝ }
 {
-    let lead = Element {
-        modulus: p,
-        value: f[n],
-    };
+    let lead = Element::of(p, f[n]);
     let v = lead.inverse();
-    scaled(p, v.value, f)
+    scaled(v, f)
 }
 
 // f becomes f - c x^k g.
-fn subtract(p: Residue, c: Residue, k: usize, f: &mut Eight, g: Eight)
-    requires { ⌜ Step p c k (now f) ⌝ }
-    ensures { λ _. ⌜ now (f .exit) ≡ subtract-of p c k (now (f .entry)) g ⌝ }
+fn subtract(c: Element, k: usize, f: &mut Eight, g: Eight)
+    requires { ⌜ Step (c .modulus) (c .value) k (now f) ⌝ }
+    ensures { λ _. ⌜ now (f .exit) ≡ subtract-of (c .modulus) (c .value) k (now (f .entry)) g ⌝ }
 {
-    let n = p - c;
     let mut i = k;
     while i < POWERS {
-        f[i] = field::plus_times(p, f[i], n, g[i - k]);
+        let a = Element::of(c.modulus, f[i]);
+        f[i] = a.minus_product(c, Element::of(c.modulus, g[i - k])).value;
         i += 1;
     }
 }
@@ -71,8 +68,8 @@ fn remainder(p: Residue, m: usize, g: Eight, f: Eight) -> Eight
     let mut k = POWERS - m;
     while k > 0 {
         k -= 1;
-        let c = r[k + m];
-        subtract(p, c, k, &mut r, g);
+        let c = Element::of(p, r[k + m]);
+        subtract(c, k, &mut r, g);
     }
     r
 }

@@ -1,13 +1,11 @@
 // The image of two polynomials at a point: the monic greatest common divisor of their values, as polynomials in x.
 ghost use mathlib.Core.Path.{_≡_};
 ghost use Rattle.field.specs.Refusal.{Tested};
-ghost use Rattle.poly.specs.ImageCall.{image-call, refusal, image-table, Fine, AnswersPoint, ImageAnswer};
-ghost use Rattle.poly.specs.euclid.Model.{gcd};
-ghost use Rattle.poly.specs.euclid.Steps.{Pair};
-ghost use Rattle.poly.specs.image.Model.{image-record};
-use crate::Eight;
+ghost use Rattle.poly.specs.ImageCall.{image-call, refused-image, image-table, Fine, AnswersPoint, ImageAnswer};
 use crate::ImageRecord;
 use crate::POWERS;
+use crate::PointImage;
+use crate::Size;
 use crate::euclid;
 use crate::key::Key;
 use crate::list;
@@ -20,7 +18,7 @@ use field::Term;
 
 // On refusal the coefficients and the degree are 0.
 fn refused(fault: Fault) -> ImageRecord
-    ensures { λ r. ⌜ r ≡ refusal fault ⌝ }
+    ensures { λ r. ⌜ r ≡ refused-image fault ⌝ }
 {
     ImageRecord {
         fault,
@@ -29,23 +27,9 @@ fn refused(fault: Fault) -> ImageRecord
     }
 }
 
-// The image where the values are a, which is not 0, and b.
-fn image_of_values(p: Residue, a: Eight, b: Eight) -> ImageRecord
-    requires { ⌜ Pair p a b ⌝ }
-    ensures { λ r. ⌜ r ≡ image-record (gcd p a b) ⌝ }
-{
-    let u = euclid::gcd(p, a, b);
-    let d = euclid::size(u) - 1;
-    ImageRecord {
-        fault: Fault::none(),
-        coefficients: u,
-        degree: d,
-    }
-}
-
 // The image at a point, of inputs that are in order: for the service below, and for the layer above. The point is bad if A's value has 0 at
 // A's highest power of x; then B's value is not worked.
-pub fn image_at(p: Residue, first: &[Term], second: &[Term], point: &[Residue]) -> ImageRecord
+pub fn image_at(p: Residue, first: &[Term], second: &[Term], point: &[Residue]) -> PointImage
     requires { ⌜ Fine p (now first) (now second) (now point) ⌝ }
     ensures { λ r. ⌜ AnswersPoint p (now (first .entry)) (now (second .entry)) (now (point .entry)) r ⌝ }
 {
@@ -55,10 +39,17 @@ pub fn image_at(p: Residue, first: &[Term], second: &[Term], point: &[Residue]) 
     let a = value::value(p, ys, zs, ws, first);
     let x = Key::of(first[0]).x() as usize;
     if a[x] == 0 {
-        return refused(Fault::at(Fault::NO_GOOD_POINT, 0));
+        return PointImage {
+            size: 0,
+            coefficients: [Element::ZERO; POWERS],
+        };
     }
     let b = value::value(p, ys, zs, ws, second);
-    image_of_values(p, a, b)
+    let u = euclid::gcd(p, a, b);
+    PointImage {
+        size: euclid::size(u) as Size,
+        coefficients: u,
+    }
 }
 
 // The refusals of the image's inputs.
@@ -80,5 +71,14 @@ pub fn image(p: Residue, first: &[Term], second: &[Term], point: &[Residue]) -> 
     if fault.number != 0 {
         return refused(fault);
     }
-    image_at(p, first, second, point)
+    let seen = image_at(p, first, second, point);
+    if seen.size == 0 {
+        return refused(Fault::at(Fault::NO_GOOD_POINT, 0));
+    }
+    let coefficients = seen.coefficients;
+    ImageRecord {
+        fault: Fault::none(),
+        coefficients,
+        degree: seen.size as usize - 1,
+    }
 }

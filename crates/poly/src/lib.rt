@@ -18,6 +18,15 @@ pub const POWERS: usize = 8;
 // Eight numbers below the modulus: the coefficients of x^0 to x^7, or the powers 0 to 7 of a number.
 pub type Eight = [Residue; POWERS];
 
+// 0 for a bad point, else one more than the degree of its image.
+pub type Size = u16;
+
+// The image at a point, for the layer above; at a bad point all is 0.
+pub struct PointImage {
+    pub size: Size,
+    pub coefficients: Eight,
+}
+
 // What the image service answers: U's coefficients and its degree; on refusal all are 0.
 pub struct ImageRecord {
     pub fault: Fault,

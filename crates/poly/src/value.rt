@@ -18,7 +18,7 @@ pub fn powers(p: Residue, y: Residue) -> Eight
     let mut r: Eight = [Element::ONE; POWERS];
     let mut i: usize = 1;
     while i < POWERS {
-        r[i] = field::times(p, r[i - 1], y);
+        r[i] = Element::of(p, r[i - 1]).product(Element::of(p, y)).value;
         i += 1;
     }
     r
@@ -35,9 +35,11 @@ pub(crate) fn value(p: Residue, ys: Eight, zs: Eight, ws: Eight, terms: &[Term])
         let t = terms[i];
         let k = Key::of(t);
         let x = k.x() as usize;
-        let a = field::times(p, crate::key::coefficient_of(t), ys[k.y() as usize]);
-        let b = field::times(p, a, zs[k.z() as usize]);
-        r[x] = field::plus_times(p, r[x], b, ws[k.w() as usize]);
+        let c = Element::of(p, crate::key::coefficient_of(t));
+        let a = c.product(Element::of(p, ys[k.y() as usize]));
+        let b = a.product(Element::of(p, zs[k.z() as usize]));
+        let w = Element::of(p, ws[k.w() as usize]);
+        r[x] = Element::of(p, r[x]).plus_product(b, w).value;
         i += 1;
     }
     r

@@ -5,7 +5,7 @@ use Prim.Native.Nat.{ℕ}
 use lib.ListN.{length, replicate}
 use Rattle.field.specs.Numbers.{DOES_NOT_DIVIDE, NO_GOOD_POINT}
 use Rattle.field.specs.Refusal.{fault, none}
-use Rattle.poly.specs.ImageCall.{image-call, refusal}
+use Rattle.poly.specs.ImageCall.{image-call, refused-image}
 use Rattle.divisor.specs.Rule.{report}
 use Rattle.case_file.specs.declared.Contents.{Contents}
 use Rattle.case_file.specs.Handed.{padded}
@@ -65,7 +65,7 @@ quotients = f-over-e ∷ e-over-f ∷ k-over-e ∷ a₂-over-factor ∷ equal-as
 
 -- the polynomials of P2 at y = 0, where the first has no x² any more: 12
 abbrev pub image-bad : ImageRow
-image-bad = record { call = image-call 17 A₂ B₂ (at (0 ∷ [])); found = refusal (fault NO_GOOD_POINT 0) }
+image-bad = record { call = image-call 17 A₂ B₂ (at (0 ∷ [])); found = refused-image (fault NO_GOOD_POINT 0) }
 
 -- and at y = 1: 3 x + 1 made monic, x + 6
 abbrev pub image-two : ImageRow

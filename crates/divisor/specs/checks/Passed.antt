@@ -9,7 +9,7 @@ use lib.ListN.{length, getD}
 use Rattle.field.specs.Moduli.{Listed}
 use Rattle.field.specs.Refusal.{Passes}
 use Rattle.field.specs.faults.Laws.{never-placed}
-use Rattle.poly.specs.declared.ImageRecord.{ImageRecord}
+use Rattle.poly.specs.declared.PointImage.{PointImage}
 use Rattle.poly.specs.Keys.{keys}
 use Rattle.poly.specs.Lists.{Count, WrongKey, above, WrongNumber, of-lists}
 use Rattle.poly.specs.Room.{of-rooms, work-room}
@@ -41,7 +41,7 @@ points-are-right p points h =
 abbrev pub point-count : Call → ℕ
 point-count c = length (c .points) / 3
 
-abbrev pub looks-of : Call → List ImageRecord
+abbrev pub looks-of : Call → List PointImage
 looks-of c = looks-from (c .modulus) (c .first-list) (c .second-list) (c .points) 0 (point-count c)
 
 module _ (c : Call) (pass : Passes (table c)) where

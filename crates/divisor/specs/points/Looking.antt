@@ -1,4 +1,4 @@
--- Looking at a point of inputs that pass: its coordinates are in order, its record is the rule's, and the image has eight numbers. Assumes nothing.
+-- Looking at a point of inputs that pass: its coordinates are in order, what it gives is the rule's, and the image has eight numbers. Assumes nothing.
 use mathlib.Core.Path.{sym, subst}
 use mathlib.Core.List.{List}
 use Prim.Native.Nat.{ℕ, _+_, _*_, _/_, _<_}
@@ -8,28 +8,20 @@ use Rattle.field.specs.modulus.Laws.{listed-prime}
 use Rattle.field.specs.Prime.{Prime}
 use Rattle.field.specs.modulus.Prime.{prime-positive}
 use Rattle.field.specs.Modulo.{Modulo}
-use Rattle.poly.specs.declared.ImageRecord.{ImageRecord}
+use Rattle.poly.specs.declared.PointImage.{PointImage}
 use Rattle.poly.specs.Terms.{Polynomial, terms-of}
 use Rattle.poly.specs.PointValue.{Point}
-use Rattle.poly.specs.Coefficients.{Eight, series}
+use Rattle.poly.specs.Coefficients.{Eight}
 use Rattle.poly.specs.ImageCall.{point-of, PointAnswer, bad, good, Fine}
 use Rattle.poly.specs.list.Right.{RightLists, lists-are-right}
-use Rattle.poly.specs.value.Laws.{WithinX}
-use Rattle.poly.specs.list.Laws.{falling-small}
-use Rattle.poly.specs.image.Laws.{image-within}
 use Rattle.poly.specs.image.ModelLaws.{image-of-answers}
 use Rattle.poly.specs.value.ModelLaws.{zeros-eight}
 use Rattle.divisor.specs.Candidate.{point-at}
 use Rattle.divisor.specs.points.Model.{look-at, LookReady}
 use Rattle.divisor.specs.points.Parts.{part-length, part-at}
 
--- where no power of x is above 7, an answer's degree is below 8; and it has eight numbers below p
-answer-small : (p : ℕ) (P : Prime p) (A B : Polynomial (Modulo p P)) (at : Point (Modulo p P .ring)) (r : ImageRecord) → WithinX (Modulo p P) 7 A
-    → PointAnswer p P A B at r → r .degree < 8
-answer-small p P A B at r w (bad x) = omega arith
-answer-small p P A B at r w (good d cs e i) = omega (arith, image-within (Modulo p P) A B at d (series p cs) 7 w i)
-
-answer-eight : (p : ℕ) (P : Prime p) (A B : Polynomial (Modulo p P)) (at : Point (Modulo p P .ring)) (r : ImageRecord) → PointAnswer p P A B at r
+-- what a point gives has eight numbers below p
+answer-eight : (p : ℕ) (P : Prime p) (A B : Polynomial (Modulo p P)) (at : Point (Modulo p P .ring)) (r : PointImage) → PointAnswer p P A B at r
     → Eight p (r .coefficients)
 answer-eight p P A B at r (bad x) = zeros-eight p (prime-positive P)
 answer-eight p P A B at r (good d cs e i) = e
@@ -47,11 +39,6 @@ module _ {p : ℕ} {A B points work : List ℕ} (h : LookReady p A B points work
 
   pub look-answers : (P : Prime p) (i : ℕ) → PointAnswer p P (terms-of p P A) (terms-of p P B) (point-of p P (point-at points i)) (look-at p A B points i)
   look-answers P i = image-of-answers P (point-at points i) A B (right .first) (right .second)
-
-  pub look-small : (i : ℕ) → look-at p A B points i .degree < 8
-  look-small i =
-      let P = listed-prime (right .is-listed) in
-      answer-small p P _ _ _ _ (falling-small p P A (right .first .falls)) (look-answers P i)
 
   pub look-eight : (i : ℕ) → Eight p (look-at p A B points i .coefficients)
   look-eight i = answer-eight p (listed-prime (right .is-listed)) _ _ _ _ (look-answers (listed-prime (right .is-listed)) i)

@@ -10,7 +10,7 @@ use Rattle.field.specs.Moduli.{Listed}
 use Rattle.field.specs.Prime.{Prime}
 use Rattle.field.specs.Modulo.{Modulo}
 use Rattle.field.specs.Refusal.{Passes}
-use Rattle.poly.specs.declared.ImageRecord.{ImageRecord}
+use Rattle.poly.specs.declared.PointImage.{PointImage}
 use Rattle.poly.specs.Keys.{exponents, keys}
 use Rattle.poly.specs.Lists.{of-lists}
 use Rattle.poly.specs.Room.{work-room}
@@ -23,15 +23,15 @@ use Rattle.divisor.specs.Candidate.{most-points, most-point-numbers, poi
 use Rattle.divisor.specs.table.Model.{COLUMNS, empty-table}
 use Rattle.divisor.specs.table.Meaning.{added, rows-of, AllReady}
 use Rattle.divisor.specs.equations.Rows.{kept-rows}
-use Rattle.divisor.specs.sorting.Model.{size-of, alike}
+use Rattle.divisor.specs.sorting.Model.{alike}
 use Rattle.divisor.specs.equations.Model.{kept-numbers}
 
 -- the place of point i's image in the work room
 abbrev pub image-at : List ℕ → ℕ → List ℕ
 image-at work i = take 8 (drop (8 * i) work)
 
--- the record of the image at point i
-abbrev pub look-at : ℕ → List ℕ → List ℕ → List ℕ → ℕ → ImageRecord
+-- the image at point i
+abbrev pub look-at : ℕ → List ℕ → List ℕ → List ℕ → ℕ → PointImage
 look-at p A B points i = image-of p A B (point-at points i)
 
 -- what looking at the points asks for: inputs of which nothing is refused, and room
@@ -45,7 +45,7 @@ pub record LookReady (p : ℕ) (A B points work : List ℕ) : Type 0 where
 -- the sizes and the images of the points before n
 pub record Looks (n p : ℕ) (A B points before after sizes : List ℕ) : Type 0 where
   pub count : length sizes ≡ most-points
-  pub sized : (i : ℕ) → i < n → getD sizes i 0 ≡ size-of (look-at p A B points i)
+  pub sized : (i : ℕ) → i < n → getD sizes i 0 ≡ look-at p A B points i .size
   pub same-length : length after ≡ length before
   pub images : (i : ℕ) → i < n → image-at after i ≡ look-at p A B points i .coefficients
   pub beyond : drop work-room after ≡ drop work-room before

@@ -9,7 +9,7 @@ use lib.ListN.{length, getD, take, drop, length-drop}
 use lib.Seq.{drop-cons, drop-drop}
 use Rattle.field.specs.Prime.{Prime}
 use Rattle.field.specs.Modulo.{Modulo}
-use Rattle.poly.specs.declared.ImageRecord.{ImageRecord}
+use Rattle.poly.specs.declared.PointImage.{PointImage}
 use Rattle.poly.specs.Terms.{terms-of}
 use Rattle.poly.specs.PointValue.{Point}
 use Rattle.poly.specs.ImageCall.{point-of}
@@ -43,7 +43,7 @@ module _ (p : ℕ) (P : Prime p) where
   no-point (y ∷ l) h = absurd (omega arith)
 
 -- the records of the points from i on, n of them
-abbrev pub looks-from : ℕ → List ℕ → List ℕ → List ℕ → ℕ → ℕ → List ImageRecord
+abbrev pub looks-from : ℕ → List ℕ → List ℕ → List ℕ → ℕ → ℕ → List PointImage
 looks-from p A B points i zero = []
 looks-from p A B points i (suc n) = look-at p A B points i ∷ looks-from p A B points (suc i) n
 

@@ -7,11 +7,10 @@ use native.Mathlib.Decide.{ℕ-discrete}
 use native.Mathlib.Omega.{arith}
 use lib.ListN.{length, getD, drop, set, replicate, length-set, length-drop, length-replicate}
 use lib.Seq.{getD-set-same, getD-set-other, getD-drop, ext-getD}
-use Rattle.poly.specs.declared.ImageRecord.{ImageRecord}
+use Rattle.poly.specs.declared.PointImage.{PointImage}
 use Rattle.poly.specs.Room.{work-room}
 use Rattle.divisor.specs.Candidate.{most-points}
 use Rattle.divisor.specs.points.Model.{image-at, look-at, Looks, Stored}
-use Rattle.divisor.specs.sorting.Model.{size-of}
 use Rattle.divisor.specs.points.Parts.{part-length, part-at}
 
 module _ {numbers : List ℕ} {at : ℕ} {before : List ℕ} where
@@ -65,12 +64,12 @@ module _ {p : ℕ} {A B points before : List ℕ} where
   }
 
   -- one more point
-  pub looks-next : {n : ℕ} {work after sizes : List ℕ} {seen : ImageRecord} {s : ℕ} → n < most-points → work-room ≤ length before
+  pub looks-next : {n : ℕ} {work after sizes : List ℕ} {seen : PointImage} → n < most-points → work-room ≤ length before
       → Looks n p A B points before work sizes
-      → seen ≡ look-at p A B points n → length (seen .coefficients) ≡ 8 → s ≡ size-of seen → Stored 8 (seen .coefficients) (8 * n) work after
-      → Looks (n + 1) p A B points before after (set sizes n s)
-  looks-next {n} {work} {after} {sizes} {seen} {s} small room h e eight es st = record {
-    count = length-set sizes n s ∙ h .count;
+      → seen ≡ look-at p A B points n → length (seen .coefficients) ≡ 8 → Stored 8 (seen .coefficients) (8 * n) work after
+      → Looks (n + 1) p A B points before after (set sizes n (seen .size))
+  looks-next {n} {work} {after} {sizes} {seen} small room h e eight st = record {
+    count = length-set sizes n (seen .size) ∙ h .count;
     sized = λ i l. go i l (ℕ-discrete i n);
     same-length = st .same-length ∙ h .same-length;
     images = λ i l. image i l (ℕ-discrete i n);
@@ -83,11 +82,12 @@ module _ {p : ℕ} {A B points before : List ℕ} where
       far : length (drop work-room after) ≡ length (drop work-room work)
       far = length-drop work-room after ∙ ap (λ (m : ℕ). m - work-room) (st .same-length) ∙ sym (length-drop work-room work)
 
-      go : (i : ℕ) → i < n + 1 → Dec (i ≡ n) → getD (set sizes n s) i 0 ≡ size-of (look-at p A B points i)
+      go : (i : ℕ) → i < n + 1 → Dec (i ≡ n) → getD (set sizes n (seen .size)) i 0 ≡ look-at p A B points i .size
       go i l (yes q) =
-          ap (λ (k : ℕ). getD (set sizes n s) k 0) q ∙ getD-set-same sizes n s 0 (let c = h .count in omega arith) ∙ es ∙ ap size-of e
-          ∙ ap (λ (k : ℕ). size-of (look-at p A B points k)) (sym q)
-      go i l (no q) = getD-set-other sizes n i s 0 q ∙ h .sized i (omega arith)
+          ap (λ (k : ℕ). getD (set sizes n (seen .size)) k 0) q ∙ getD-set-same sizes n (seen .size) 0 (let c = h .count in omega arith)
+          ∙ ap (λ (r : PointImage). r .size) e
+          ∙ ap (λ (k : ℕ). look-at p A B points k .size) (sym q)
+      go i l (no q) = getD-set-other sizes n i (seen .size) 0 q ∙ h .sized i (omega arith)
 
       long : 8 * most-points ≤ length work
       long = let c = h .same-length in omega arith
@@ -95,5 +95,5 @@ module _ {p : ℕ} {A B points before : List ℕ} where
       image : (i : ℕ) → i < n + 1 → Dec (i ≡ n) → image-at after i ≡ look-at p A B points i .coefficients
       image i l (yes q) =
           ap (image-at after) q ∙ image-is (seen .coefficients) after n eight (let c = st .same-length in let d = long in omega arith) (st .stored)
-          ∙ ap (λ (r : ImageRecord). r .coefficients) e ∙ ap (λ (k : ℕ). look-at p A B points k .coefficients) (sym q)
+          ∙ ap (λ (r : PointImage). r .coefficients) e ∙ ap (λ (k : ℕ). look-at p A B points k .coefficients) (sym q)
       image i l (no q) = image-same work after i n (st .same-length) (let d = long in omega arith) (omega arith) (st .others) ∙ h .images i (omega arith)

@@ -11,14 +11,14 @@ use lib.ListN.{length}
 use borrow.Author.Tests.{eq-eqb, ne-eqb, lt-ltb, le-ltb}
 use Rattle.field.specs.Prime.{Prime}
 use Rattle.field.specs.Modulo.{Modulo}
-use Rattle.poly.specs.declared.ImageRecord.{ImageRecord}
+use Rattle.poly.specs.declared.PointImage.{PointImage}
 use Rattle.poly.specs.Terms.{Polynomial}
 use Rattle.poly.specs.PointValue.{Point}
 use Rattle.poly.specs.Coefficients.{series}
 use Rattle.poly.specs.PointImage.{Image}
 use Rattle.poly.specs.ImageCall.{PointAnswer, bad, good}
 use Rattle.divisor.specs.Rule.{Kept, Sorted, AllBad, done, bad as bad-point, unlucky, keep}
-use Rattle.divisor.specs.sorting.Model.{size-of, sizes-of, lesser, least-from, alike, kept-of}
+use Rattle.divisor.specs.sorting.Model.{sizes-of, lesser, least-from, alike, kept-of}
 
 -- what the lesser of two sizes is
 pub data Lesser (a b : ℕ) : ℕ → Type 0 where
@@ -110,15 +110,14 @@ least-is a (s ∷ sizes) = go (lesser a s) (lesser-is a s) (least-from (lesser a
 
 module _ {p : ℕ} (P : Prime p) (A B : Polynomial (Modulo p P)) where
   -- each point with the record of its image
-  pub data Looked : List (Point (Modulo p P .ring)) → List ImageRecord → Type 0 where
+  pub data Looked : List (Point (Modulo p P .ring)) → List PointImage → Type 0 where
     none : Looked [] []
-    one : {at : Point (Modulo p P .ring)} {points : List (Point (Modulo p P .ring))} {r : ImageRecord} {looks : List ImageRecord}
+    one : {at : Point (Modulo p P .ring)} {points : List (Point (Modulo p P .ring))} {r : PointImage} {looks : List PointImage}
         → PointAnswer p P A B at r → Looked points looks → Looked (at ∷ points) (r ∷ looks)
 
   -- all sizes 0: all points bad
-  pub all-bad : (points : List (Point (Modulo p P .ring))) (looks : List ImageRecord) → Looked points looks → AllZero (sizes-of looks)
+  pub all-bad : (points : List (Point (Modulo p P .ring))) (looks : List PointImage) → Looked points looks → AllZero (sizes-of looks)
       → AllBad (Modulo p P) A B points
-  unfolding size-of
   all-bad points looks none h = tt
   all-bad points looks (one (bad x) rest) h = (x, all-bad _ _ rest (h .1))
   all-bad points looks (one (good degree cs e i) rest) h = absurd (let z : suc degree ≡ 0 = h .0 in omega arith)
@@ -127,33 +126,33 @@ module _ {p : ℕ} (P : Prime p) (A B : Polynomial (Modulo p P)) where
   Kepts = List (Kept (Modulo p P))
 
   -- a point with its image, if it is kept
-  abbrev kept-here : Point (Modulo p P .ring) → ImageRecord → Kept (Modulo p P)
+  abbrev kept-here : Point (Modulo p P .ring) → PointImage → Kept (Modulo p P)
   kept-here at r = record { point = at; image = series p (r .coefficients) }
 
   -- one more point, by the tests of its size
-  module _ (d : ℕ) (at : Point (Modulo p P .ring)) (points : List (Point (Modulo p P .ring))) (r : ImageRecord) (looks : List ImageRecord) where
+  module _ (d : ℕ) (at : Point (Modulo p P .ring)) (points : List (Point (Modulo p P .ring))) (r : PointImage) (looks : List PointImage) where
     abbrev SortedBy : Bool → Bool → Type 0
     SortedBy zero-size same-size =
         (u : ℕ) × Sorted (Modulo p P) A B d (at ∷ points)
         (elim zero-size as (λ _. ℕ) [ true ↦ suc (alike 0 (sizes-of looks)) | false ↦ alike 0 (sizes-of looks) ]) u
         (elim same-size as (λ _. Kepts) [ true ↦ kept-here at r ∷ kept-of P (suc d) points looks | false ↦ kept-of P (suc d) points looks ])
 
-    sorted-by : (s : ℕ) → size-of r ≡ s → SortedBy (eqb s 0) (eqb s (suc d))
+    sorted-by : (s : ℕ) → r .size ≡ s → SortedBy (eqb s 0) (eqb s (suc d))
         → (u : ℕ) × Sorted (Modulo p P) A B d (at ∷ points) (alike 0 (sizes-of (r ∷ looks))) u (kept-of P (suc d) (at ∷ points) (r ∷ looks))
     unfolding alike kept-of
     sorted-by s e h = subst (λ (n : ℕ). SortedBy (eqb n 0) (eqb n (suc d))) (sym e) h
 
   -- the least size is that of the kept points
-  pub sorted : (d : ℕ) (points : List (Point (Modulo p P .ring))) (looks : List ImageRecord) → Looked points looks → AtLeast (suc d) (sizes-of looks)
+  pub sorted : (d : ℕ) (points : List (Point (Modulo p P .ring))) (looks : List PointImage) → Looked points looks → AtLeast (suc d) (sizes-of looks)
       → (u : ℕ) × Sorted (Modulo p P) A B d points (alike 0 (sizes-of looks)) u (kept-of P (suc d) points looks)
   sorted d [] [] none h = (unfold alike kept-of in (0, done))
   sorted d (at ∷ points) (r ∷ looks) (one (bad x) rest) h =
       let s = sorted d points looks rest (h .1) in
-      sorted-by d at points r looks 0 (unfold size-of in refl)
+      sorted-by d at points r looks 0 refl
       (rw (ne-eqb 0 (suc d) (λ z. omega arith)) (s .0, bad-point x (s .1)))
   sorted d (at ∷ points) (r ∷ looks) (one (good degree cs e i) rest) h =
-      sorted-by d at points r looks (suc degree) (unfold size-of in refl)
-      (rw (ne-eqb (suc degree) 0 (λ z. omega arith)) (go (ℕ-discrete degree d) (sorted d points looks rest (h .1)) (unfold size-of in h .0)))
+      sorted-by d at points r looks (suc degree) refl
+      (rw (ne-eqb (suc degree) 0 (λ z. omega arith)) (go (ℕ-discrete degree d) (sorted d points looks rest (h .1)) (h .0)))
     where
       go : Dec (degree ≡ d) → (u : ℕ) × Sorted (Modulo p P) A B d points (alike 0 (sizes-of looks)) u (kept-of P (suc d) points looks)
           → (suc degree ≡ 0) ⊎ (suc d ≤ suc degree) → SortedBy d at points r looks false (eqb (suc degree) (suc d))
@@ -163,11 +162,11 @@ module _ {p : ℕ} (P : Prime p) (A B : Polynomial (Modulo p P)) where
           (suc (s .0), unlucky degree (series p cs) i (elim l [ inl z ↦ absurd (omega arith) | inr k ↦ omega arith ]) (s .1))
 
   -- as many are kept as have the size
-  pub kept-count : (m : ℕ) (points : List (Point (Modulo p P .ring))) (looks : List ImageRecord) → Looked points looks
+  pub kept-count : (m : ℕ) (points : List (Point (Modulo p P .ring))) (looks : List PointImage) → Looked points looks
       → length (kept-of P m points looks) ≡ alike m (sizes-of looks)
   unfolding alike kept-of
   kept-count m points looks none = refl
-  kept-count m (at ∷ points) (r ∷ looks) (one a rest) = go (eqb (size-of r) m) (kept-count m points looks rest)
+  kept-count m (at ∷ points) (r ∷ looks) (one a rest) = go (eqb (r .size) m) (kept-count m points looks rest)
     where
       go : (b : Bool) → length (kept-of P m points looks) ≡ alike m (sizes-of looks)
           → length {A = Kept (Modulo p P)} (elim b as (λ _. Kepts) [ true ↦ kept-here at r ∷ kept-of P m points looks | false ↦ kept-of P m points looks ])

@@ -5,16 +5,13 @@ use Prim.Native.Nat.{ℕ, suc}
 use lib.Dec.{eqb, ltb}
 use Rattle.field.specs.Prime.{Prime}
 use Rattle.field.specs.Modulo.{Modulo}
-use Rattle.poly.specs.declared.ImageRecord.{ImageRecord}
+use Rattle.poly.specs.declared.PointImage.{PointImage}
 use Rattle.poly.specs.PointValue.{Point}
 use Rattle.poly.specs.Coefficients.{series}
 use Rattle.divisor.specs.Rule.{Kept}
 
-unfoldable pub size-of : ImageRecord → ℕ
-size-of r = elim (eqb (r .fault .number) 0) [ true ↦ suc (r .degree) | false ↦ 0 ]
-
-abbrev pub sizes-of : List ImageRecord → List ℕ
-sizes-of looks = map size-of looks
+abbrev pub sizes-of : List PointImage → List ℕ
+sizes-of looks = map (λ (r : PointImage). r .size) looks
 
 -- the less of two sizes, of which 0 is none
 unfoldable pub lesser : ℕ → ℕ → ℕ
@@ -34,11 +31,11 @@ alike m [] = 0
 alike m (s ∷ sizes) = elim (eqb s m) [ true ↦ suc (alike m sizes) | false ↦ alike m sizes ]
 
 -- the points whose size is m, in the order lent, with their images
-unfoldable pub kept-of : {p : ℕ} (P : Prime p) → ℕ → List (Point (Modulo p P .ring)) → List ImageRecord → List (Kept (Modulo p P))
+unfoldable pub kept-of : {p : ℕ} (P : Prime p) → ℕ → List (Point (Modulo p P .ring)) → List PointImage → List (Kept (Modulo p P))
 kept-of P m [] looks = []
 kept-of P m (at ∷ points) [] = []
 kept-of {p} P m (at ∷ points) (r ∷ looks) =
-    elim (eqb (size-of r) m) [
+    elim (eqb (r .size) m) [
       | true ↦ record { point = at; image = series p (r .coefficients) } ∷ kept-of P m points looks
       | false ↦ kept-of P m points looks
     ]

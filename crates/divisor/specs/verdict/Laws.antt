@@ -12,6 +12,7 @@ use Rattle.field.specs.Prime.{Prime}
 use Rattle.field.specs.Numbers.{DOES_NOT_DIVIDE}
 use Rattle.poly.specs.Room.{work-room, written, cleared}
 use Rattle.poly.specs.TrialDivision.{CanDivide, TrialDivision}
+use Rattle.poly.specs.division.Trial.{trial-says}
 use Rattle.poly.specs.list.Right.{RightList}
 use Rattle.poly.specs.rooms.Laws.{zeroed-length, zeroed-beyond, zeroed-same}
 use Rattle.divisor.specs.declared.monic.Divisor.{Divisor}
@@ -46,11 +47,11 @@ not-both b n y = true≢false (sym y ∙ not-true b n)
 module _ {p : ℕ} {A B G work after : List ℕ} {first : Bool} (divided : TrialDivision p A G work after first) where
   pub first-fails : not first ≡ true → BothDivided p A B G work after false
   first-fails n =
-      record { says = λ P. (λ e. absurd (true≢false (sym e)), λ both. absurd (not-both first n (divided .says P .1 (both .0)))); room = divided .room }
+      record { says = λ P. (λ e. absurd (true≢false (sym e)), λ both. absurd (not-both first n (trial-says P divided .1 (both .0)))); room = divided .room }
 
   pub then-second : {end : List ℕ} {second : Bool} → not first ≡ false → TrialDivision p B G after end second → BothDivided p A B G work end second
   then-second n later = record {
-    says = λ P. (λ e. (divided .says P .0 (not-false first n), later .says P .0 e), λ both. later .says P .1 (both .1));
+    says = λ P. (λ e. (trial-says P divided .0 (not-false first n), trial-says P later .0 e), λ both. trial-says P later .1 (both .1));
     room = later .room ∙ ap cleared (divided .room) ∙ cleared-again work;
   }
 

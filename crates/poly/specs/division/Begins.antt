@@ -1,11 +1,11 @@
--- A division begins with the dividend spread over the remainder's cells, and ends with the answer of the rule; the room is cleared around it. Assumes nothing.
-use mathlib.Core.Path.{_≡_, refl, sym, _∙_, ap, ap₂}
-use mathlib.Core.Logic.{_↔_}
+-- A division begins with the dividend spread over the remainder's cells, and ends with the answer of the rule; the room is cleared around it.
+use mathlib.Core.Path.{_≡_, refl, sym, _∙_, ap, ap₂, subst}
 use mathlib.Core.Bool.{Bool, true, false}
 use mathlib.Core.List.{List}
 use Prim.Native.Nat.{ℕ, _+_, _-_, _≤_, _<_}
 use native.Mathlib.Omega.{arith}
 use lib.ListN.{getD, drop}
+use Rattle.algebra.specs.Division.{Division}
 use Rattle.field.specs.Prime.{Prime}
 use Rattle.field.specs.Fp.{el, inv}
 use Rattle.field.specs.modulus.Laws.{listed-prime, listed-positive}
@@ -14,17 +14,16 @@ use Rattle.field.specs.elements.Link.{inverse-val}
 use Rattle.field.specs.Contract.{Invertible, Inverse}
 use Rattle.field.specs.declared.elements.Element.{Element}
 use Rattle.poly.specs.Keys.{keys}
-use Rattle.poly.specs.Terms.{key-of, coefficient-of, poly}
-use Rattle.poly.specs.PointImage.{Divides}
+use Rattle.poly.specs.Terms.{key-of, coefficient-of, terms-of, poly}
 use Rattle.poly.specs.Room.{work-room, zeroed, cleared}
 use Rattle.poly.specs.TrialDivision.{CanDivide}
 use Rattle.poly.specs.list.Falling.{falling-coefficient, falling-keys, falling-first, falling-positive}
 use Rattle.poly.specs.rooms.Laws.{zeroed-length, zeroed-at, zeroed-beyond, zeroed-same}
 use Rattle.poly.specs.division.Spread.{spread-length, spread-above}
 use Rattle.poly.specs.division.WorkRoom.{take-spread, drop-spread, same-quotient-cells, same-beyond, remainder-empty}
-use Rattle.poly.specs.division.Ends.{Empty, dividing, divided-says}
+use Rattle.poly.specs.division.Ends.{Empty, dividing, divided-division}
 use Rattle.poly.specs.division.SpreadModel.{spread}
-use Rattle.poly.specs.division.Model.{most-key, at-most, Setting, Outcome, divide-from, setting, divided}
+use Rattle.poly.specs.division.Model.{most-key, at-most, Setting, Outcome, divide-from, setting, divided, found}
 use Rattle.poly.specs.division.WorkRoomModel.{remainder-cells, quotient-cells, beyond, CanStep, Stepped, CanBegin, Divided}
 
 divided-wide : (p : ℕ) (f g l c : List ℕ) → at-most (most-key g) (most-key f) ≡ false → divided p f g l c ≡ record { whole = false; quotient = c }
@@ -108,9 +107,10 @@ module _ (p : ℕ) (f g work : List ℕ) (can : CanDivide p f g work) where
       pub begun-empty : Empty (remainder-cells begun)
       begun-empty = rw clears (remainder-empty (zeroed n work) (cleared-begins .lists .room) (cleared-begins .empty))
 
-      -- the answer is that of the rule
-      pub cleared-says : (P : Prime p) → (whole ≡ true) ↔ Divides (Modulo p P) (poly p P g) (poly p P f)
-      cleared-says P =
-          let e : divided p f g (remainder-cells begun) (quotient-cells begun) .whole ≡ whole = ap (λ (o : Outcome). o .whole) (sym (ran .outcome)) in
-          let s = divided-says p P f g (dividing can) (remainder-cells begun) (quotient-cells begun) begun-empty in
-          (λ t. s .0 (e ∙ t), λ d. sym e ∙ s .1 d)
+      -- the answer and the terms are those of the rule
+      pub cleared-division : (P : Prime p)
+          → Division (Modulo p P .ring) (poly p P f) (poly p P g) (terms-of p P (found p f g (remainder-cells begun))) whole
+      cleared-division P =
+          subst (Division (Modulo p P .ring) (poly p P f) (poly p P g) (terms-of p P (found p f g (remainder-cells begun))))
+          (ap (λ (o : Outcome). o .whole) (sym (ran .outcome)))
+          (divided-division p P f g (dividing can) (remainder-cells begun) (quotient-cells begun) begun-empty)

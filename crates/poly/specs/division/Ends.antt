@@ -1,7 +1,5 @@
 -- The rule of division ends on any two lists that fall, within as many steps as there are keys, and the division on cells gives its answer and its terms.
--- So it is decided whether one list divides another. Assumes nothing.
 use mathlib.Core.Path.{_≡_, refl, sym, _∙_, ap}
-use mathlib.Core.Logic.{_↔_}
 use mathlib.Core.Bool.{Bool, true, false, true≢false}
 use mathlib.Core.List.{List, [], _∷_}
 use Prim.Native.Nat.{ℕ, _-_, _≤_, _<_}
@@ -9,12 +7,10 @@ use native.Mathlib.Omega.{arith}
 use lib.ListN.{length, getD, replicate, length-map, length-replicate}
 use native.Mathlib.Decide.{decLt}
 use Rattle.algebra.specs.SeriesRing.{S4}
-use Rattle.algebra.specs.Polynomials.{domain}
 use Rattle.algebra.specs.Four.{Exponents, _⊞_, _≼_}
 use Rattle.algebra.specs.Monomial.{Term}
 use Rattle.algebra.specs.Division.{stop, Division}
 use Rattle.algebra.specs.Laws.Ring.{zero-add}
-use Rattle.algebra.specs.Laws.Division.{division-says}
 use Rattle.field.specs.Fp.{Fp, el, inv, mul}
 use Rattle.field.specs.elements.Fp.{el-val, el-nonzero, Fp-mul-comm}
 use Rattle.field.specs.elements.Inverse.{mul-inv}
@@ -24,13 +20,12 @@ use Rattle.field.specs.modulus.Laws.{listed-below}
 use Rattle.field.specs.Modulo.{Modulo}
 use Rattle.poly.specs.Keys.{exponents, keys}
 use Rattle.poly.specs.Terms.{key-of, coefficient-of, term-of, terms-of, poly, coefficient-limit}
-use Rattle.poly.specs.PointImage.{Divides}
 use Rattle.poly.specs.TrialDivision.{CanDivide}
 use Rattle.poly.specs.loops.Places.{replicate-all}
 use Rattle.poly.specs.key.Difference.{at-most-says, at-most-of, exponents-difference}
 use Rattle.poly.specs.Lists.{Falling}
 use Rattle.poly.specs.list.Falling.{falling-keys}
-use Rattle.poly.specs.key.Terms.{poly-finite, poly-lead}
+use Rattle.poly.specs.key.Terms.{poly-lead}
 use Rattle.poly.specs.division.GreatestExponents.{most-exponents, sizes}
 use Rattle.poly.specs.division.Dense.{Reduced, zeros-reduced, dense, dense-zero}
 use Rattle.poly.specs.division.Spread.{spread-length, spread-reduced, spread-dense}
@@ -146,13 +141,6 @@ module _ (p : ℕ) (P : Prime p) where
   divided-division [] (u ∷ us) h l c empty = absurd (omega (arith, h .some-dividend))
   divided-division (t ∷ ts) [] h l c empty = absurd (omega (arith, h .some-divisor))
   divided-division (t ∷ ts) (u ∷ us) h l c empty = lists-division p P t ts u us (h .dividend-falls) (h .divisor-falls) (h .word) l c empty
-
-  -- it says yes exactly if g divides f, as polynomials
-  pub divided-says : (f g : List ℕ) → Dividing p f g → (l c : List ℕ) → Empty l
-      → (divided p f g l c .whole ≡ true) ↔ Divides (Modulo p P) (poly p P g) (poly p P f)
-  divided-says f g h l c empty =
-      division-says (Modulo p P .ring) (domain (Modulo p P)) (λ a. tt) (poly p P f) (poly p P g) (terms-of p P (found p f g l)) (divided p f g l c .whole)
-      (poly-finite p P g) (divided-division f g h l c empty)
 
   -- a division that ends, with its terms and its answer
   pub record Ended (f g : List ℕ) : Type 0 where

@@ -1,5 +1,4 @@
 -- The model of the image gives the image: its values are the values, and Euclid's algorithm gives their monic greatest common divisor.
--- Assumes nothing.
 use mathlib.Core.Path.{_≡_, refl, sym, ap, _∙_, subst}
 use mathlib.Core.List.{List, [], _∷_}
 use Prim.Native.Nat.{ℕ, suc, _-_, _<_}
@@ -12,34 +11,32 @@ use Rattle.field.specs.modulus.Prime.{prime-positive}
 use Rattle.field.specs.Fp.{Fp, el}
 use Rattle.field.specs.elements.Fp.{el-nonzero}
 use Rattle.field.specs.Modulo.{Modulo}
-use Rattle.field.specs.Numbers.{NO_GOOD_POINT}
-use Rattle.field.specs.Refusal.{fault}
 use Rattle.poly.specs.Keys.{keys}
 use Rattle.poly.specs.Terms.{key-of, terms-of}
 use Rattle.poly.specs.PointValue.{value, x-degree}
 use Rattle.poly.specs.PointImage.{Image}
 use Rattle.poly.specs.LeadingPart.{x-of}
 use Rattle.poly.specs.Coefficients.{Eight, series}
-use Rattle.poly.specs.ImageCall.{point-of, refusal, PointAnswer, bad, good}
+use Rattle.poly.specs.ImageCall.{point-of, PointAnswer, bad, good}
 use Rattle.poly.specs.value.PowersModel.{powers}
 use Rattle.poly.specs.value.Model.{Ready, value-of}
 use Rattle.poly.specs.euclid.Model.{size, gcd}
-use Rattle.poly.specs.image.Model.{value-at, image-record, image-of-values, image-of}
+use Rattle.poly.specs.image.Model.{value-at, no-image, sized, image-of-values, image-of}
 use Rattle.poly.specs.value.PowersLaws.{powers-eight}
 use Rattle.poly.specs.euclid.Numbers.{eight-clear, size-clear}
 use Rattle.poly.specs.euclid.Meaning.{clear-ends}
-use Rattle.poly.specs.euclid.Gcd.{IsGcd, gcd-is-gcd}
+use Rattle.poly.specs.euclid.Gcd.{IsGcd, gcd-nonzero, gcd-is-gcd}
 use Rattle.poly.specs.value.ModelLaws.{value-of-eight}
 use Rattle.poly.specs.value.Meaning.{value-of-series}
 use Rattle.poly.specs.list.Falling.{falling-key, falling-coefficient}
 use Rattle.poly.specs.list.Right.{RightList}
 
 -- what the code's test of a's number at x settles
-pub values-bad : (p x : ℕ) (a b : List ℕ) → getD a x 0 ≡ 0 → image-of-values p x a b ≡ refusal (fault NO_GOOD_POINT 0)
+pub values-bad : (p x : ℕ) (a b : List ℕ) → getD a x 0 ≡ 0 → image-of-values p x a b ≡ no-image
 unfolding image-of-values
 values-bad p x a b e = rw (eq-eqb (getD a x 0) 0 e, image-of-values)
 
-pub values-good : (p x : ℕ) (a b : List ℕ) → ¬ (getD a x 0 ≡ 0) → image-of-values p x a b ≡ image-record (gcd p a b)
+pub values-good : (p x : ℕ) (a b : List ℕ) → ¬ (getD a x 0 ≡ 0) → image-of-values p x a b ≡ sized (gcd p a b)
 unfolding image-of-values
 values-good p x a b n = rw (ne-eqb (getD a x 0) 0 n, image-of-values)
 
@@ -124,6 +121,14 @@ module _ {p : ℕ} (P : Prime p) (point : List ℕ) where
             greatest = greatest .greatest;
           }
 
+      one-more : suc (size u - 1) ≡ size u
+      one-more = let some = gcd-nonzero P a b (value-at-eight A) filled (value-at-eight B) in omega arith
+
+      model-good : PointAnswer p P (terms-of p P A) (terms-of p P B) (point-of p P point) (sized u)
+      model-good =
+          subst (λ (s : ℕ). PointAnswer p P (terms-of p P A) (terms-of p P B) (point-of p P point) (record { size = s; coefficients = u })) one-more
+          (good (size u - 1) u (greatest .eight) model-is-image)
+
     -- the model answers as the rule says
     pub image-of-answers : PointAnswer p P (terms-of p P A) (terms-of p P B) (point-of p P point) (image-of p A B point)
     unfolding image-of
@@ -131,4 +136,4 @@ module _ {p : ℕ} (P : Prime p) (point : List ℕ) where
       where
         go : Dec (getD a x 0 ≡ 0) → PointAnswer p P (terms-of p P A) (terms-of p P B) (point-of p P point) (image-of-values p x a b)
         go (yes e) = rw (values-bad p x a b e) (bad (sym leading ∙ ap (el p) e))
-        go (no n) = rw (values-good p x a b n) (good (size u - 1) u (greatest n .eight) (model-is-image n))
+        go (no n) = rw (values-good p x a b n) (model-good n)

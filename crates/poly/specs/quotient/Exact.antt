@@ -1,4 +1,4 @@
--- What the quotient service answers to inputs that pass, from what the division, the gathering and the clearing say. Assumes nothing.
+-- What the quotient service answers to inputs that pass, from what the division, the gathering and the clearing say.
 use mathlib.Core.Path.{_≡_, sym, _∙_, ap, ap₂}
 use mathlib.Core.Bool.{Bool, true, false, true≢false}
 use mathlib.Core.List.{List}
@@ -10,13 +10,15 @@ use Rattle.field.specs.Numbers.{DOES_NOT_DIVIDE}
 use Rattle.field.specs.Refusal.{fault, none, Passes}
 use Rattle.field.specs.declared.faults.Fault.{Fault}
 use Rattle.poly.specs.Keys.{keys}
+use Rattle.poly.specs.Terms.{terms-of}
 use Rattle.poly.specs.Room.{work-room, zeroed, written, cleared}
 use Rattle.poly.specs.QuotientCall.{QuotientCall, quotient-table, Quotient, no-quotient, quotient}
 use Rattle.poly.specs.TrialDivision.{CanDivide}
 use Rattle.poly.specs.rooms.Laws.{zeroed-at}
 use Rattle.poly.specs.division.WorkRoom.{quotient-empty}
 use Rattle.poly.specs.division.Ends.{Empty, dividing}
-use Rattle.poly.specs.division.Begins.{cleared-begins, cleared-room, begun-empty, cleared-says}
+use Rattle.poly.specs.division.Begins.{cleared-begins, cleared-room, begun-empty, cleared-division}
+use Rattle.poly.specs.division.Trial.{rule-says}
 use Rattle.poly.specs.quotient.Found.{gathered-found, quotient-found}
 use Rattle.poly.specs.quotient.Laws.{passed-lists}
 use Rattle.poly.specs.division.SpreadModel.{gathered}
@@ -52,7 +54,10 @@ module _ (c : QuotientCall) (h : Passes (quotient-table c)) where
         (no-quotient h (can .is-listed)
         (λ d.
         true≢false
-        (sym (cleared-says p f g (c .work) can work-room (omega arith) (omega arith) begun after whole clears ran (listed-prime (can .is-listed)) .1 d) ∙ w)))
+        (sym
+        (rule-says (listed-prime (can .is-listed)) f g (terms-of p (listed-prime (can .is-listed)) (found p f g (remainder-cells begun))) whole
+        (cleared-division p f g (c .work) can work-room (omega arith) (omega arith) begun after whole clears ran (listed-prime (can .is-listed)))
+        .1 d) ∙ w)))
 
     begun-remainder : Empty (remainder-cells begun)
     begun-remainder = begun-empty p f g (c .work) can work-room (omega arith) (omega arith) begun after whole clears ran

@@ -8,7 +8,7 @@ use Rattle.field.specs.Prime.{Prime}
 use Rattle.field.specs.Fp.{Fp}
 use Rattle.field.specs.Modulo.{Modulo}
 use Rattle.field.specs.Numbers.{NO_GOOD_POINT, NO_SOLUTION, SEVERAL_SOLUTIONS, DOES_NOT_DIVIDE}
-use Rattle.poly.specs.declared.ImageRecord.{ImageRecord}
+use Rattle.poly.specs.declared.PointImage.{PointImage}
 use Rattle.poly.specs.Keys.{exponents}
 use Rattle.poly.specs.Terms.{terms-of}
 use Rattle.divisor.specs.Rule.{Kept}
@@ -69,11 +69,11 @@ module _ (p : ℕ) (P : Prime p) (A B skeleton points : List ℕ) where
       with-counts d sizes (by-answer (solve (Modulo p P) (length skeleton + length ks) (all-rows (Modulo p P) (map exponents skeleton) k ks)))
 
   -- by the least size of an image, which is 0 where all points are bad
-  unfoldable pub by-least : List ImageRecord → ℕ → Computed
+  unfoldable pub by-least : List PointImage → ℕ → Computed
   by-least looks zero = answered NO_GOOD_POINT 0 (length points / 3) 0 0 []
   by-least looks (suc d) = by-kept d (sizes-of looks) (kept-of P (suc d) (points-of p P points) looks)
 
-  unfoldable pub by-looks : List ImageRecord → Computed
+  unfoldable pub by-looks : List PointImage → Computed
   by-looks looks = by-least looks (least (sizes-of looks))
 
   unfoldable pub computed : Computed

@@ -14,7 +14,7 @@ use Rattle.field.specs.Fp.{Fp, el}
 use Rattle.field.specs.elements.Fp.{el-val, val-lt}
 use Rattle.field.specs.Modulo.{Modulo}
 use Rattle.field.specs.Refusal.{Passes}
-use Rattle.poly.specs.declared.ImageRecord.{ImageRecord}
+use Rattle.poly.specs.declared.PointImage.{PointImage}
 use Rattle.poly.specs.Keys.{keys}
 use Rattle.poly.specs.Terms.{term-of, terms-of, poly}
 use Rattle.poly.specs.Room.{written, cleared}
@@ -74,7 +74,7 @@ module _ (c : Call) (pass : Passes (table c)) (listed : Listed (c .modulus)) whe
   Sound (answered number degree bad unlucky kept terms) =
       Candidate c (record { found = report number degree bad unlucky kept (length terms); output = written terms (c .output); work = cleared (c .work) })
 
-  abbrev looks : List ImageRecord
+  abbrev looks : List PointImage
   looks = looks-of c
 
   module _ (d : ℕ) (at-least : AtLeast (suc d) (sizes-of looks)) (k : Kept (Numbers c listed)) (ks : List (Kept (Numbers c listed)))

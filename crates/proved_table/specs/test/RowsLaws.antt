@@ -23,6 +23,7 @@ use Rattle.poly.specs.Lists.{of-lists}
 use Rattle.poly.specs.QuotientCall.{QuotientCall, quotient-table, quotient-result, Quotient, no-quotient, quotient}
 use Rattle.poly.specs.ImageCall.{image-table}
 use Rattle.poly.specs.Room.{of-rooms, work-room, written, cleared}
+use Rattle.poly.specs.image.Model.{image-of}
 use Rattle.poly.specs.image.Call.{image-fine, image-passes as image-in-order, image-answered, model-answers}
 use Rattle.poly.specs.list.Right.{lists-are-right}
 use Rattle.poly.specs.list.Falling.{falling-right}
@@ -181,8 +182,8 @@ image-tested r h =
     let c = r .call in
     let passed = eqb-true _ 0 (both .0) in
     let lists = image-fine _ _ _ _ (image-in-order (c .modulus) (c .first-list) (c .second-list) (c .point) _ tested passed) .lists in
-    image-answered (c .modulus) (c .first-list) (c .second-list) (c .point) _ tested passed (r .found)
-    (model-answers (c .modulus) (c .first-list) (c .second-list) (c .point) lists (image-known (r .found) _ (same-is _ _ (both .1))))
+    image-answered (c .modulus) (c .first-list) (c .second-list) (c .point) _ tested passed (image-of (c .modulus) (c .first-list) (c .second-list) (c .point))
+    (model-answers (c .modulus) (c .first-list) (c .second-list) (c .point) lists refl) (image-known (r .found) _ (same-is _ _ (both .1)))
   where
     record-of : List ℕ → ImageRecord
     record-of l = record { fault = record { number = getD l 0 0; place = getD l 1 0 }; degree = getD l 2 0; coefficients = drop 3 l }

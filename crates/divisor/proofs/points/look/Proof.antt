@@ -1,17 +1,17 @@
--- `divisor::points::look` meets its contract. The invariant: the sizes and the images of the points passed stand. Assumes nothing.
+-- `divisor::points::look` meets its contract. The invariant: the sizes and the images of the points passed stand.
 use borrow.Author.Needs.{needs}
 use mathlib.Core.Path.{_≡_, sym, _∙_, ap, subst}
 use Prim.Native.Nat.{ℕ, _-_, _/_, _≤_, _<_}
 use native.Mathlib.Omega.{arith}
 use lib.ListN.{length}
-use Rattle.poly.specs.declared.ImageRecord.{ImageRecord}
+use Rattle.poly.specs.declared.PointImage.{PointImage}
 use Rattle.poly.specs.ImageCall.{Fine}
 use Rattle.poly.specs.image.Model.{image-of}
 use Rattle.poly.specs.image.Call.{point-model}
 use Rattle.divisor.specs.points.Model.{look-at, Looks}
 use Rattle.divisor.specs.points.Parts.{part-is}
 use Rattle.divisor.specs.points.Stores.{looks-start, looks-next}
-use Rattle.divisor.specs.points.Looking.{point-fine, look-small, look-eight}
+use Rattle.divisor.specs.points.Looking.{point-fine, look-eight}
 use Rattle.divisor.proofs.points.look.Statement.{statement}
 use Rattle.divisor.proofs.points.look.Tie as tie
 
@@ -42,27 +42,29 @@ part-image-at-start c = search needs
 part-image-at-end : tie.Need-part-image-at-end Inv-loop μ-loop
 part-image-at-end c = search needs
 
+-- where the loop begins, and the function
+abbrev turn : tie.After-image-at Inv-loop μ-loop → tie.At-loop Inv-loop μ-loop
+turn c = c .before .before .before
+
+abbrev start : tie.At-loop Inv-loop μ-loop → tie.Start Inv-loop μ-loop
+start l = l .before .before .before .before .before
+
 image-at-requires : tie.Need-image-at-requires Inv-loop μ-loop
 image-at-requires c κs =
-    let s = c .before .before .before .before .before .before .before in
+    let l = c .before .before in
+    let s = start l in
     let a = s .args in
-    let i = c .before .before .loop .i in
-    subst (Fine (a .p) (a .first .now) (a .second .now)) (sym (part-is 3 i (a .points .now)))
-    (point-fine (s .pre) i (c .before .loop-test .taken))
+    subst (Fine (a .p) (a .first .now) (a .second .now)) (sym (part-is 3 (l .loop .i) (a .points .now)))
+    (point-fine (s .pre) (l .loop .i) (c .before .loop-test .taken))
 
--- what is seen at a point is its record
-seen-is : (c : tie.After-image-at Inv-loop μ-loop) → let a = c .before .before .before .before .before .before .before .before .args in
-    c .image-at .result ≡ look-at (a .p) (a .first .now) (a .second .now) (a .points .now) (c .before .before .before .loop .i)
+-- what is seen at a point is what it gives
+seen-is : (c : tie.After-image-at Inv-loop μ-loop) → let a = start (turn c) .args in
+    c .image-at .result ≡ look-at (a .p) (a .first .now) (a .second .now) (a .points .now) (turn c .loop .i)
 seen-is c =
-    let a = c .before .before .before .before .before .before .before .before .args in
-    point-model (a .p) (a .first .now) (a .second .now) _ (c .before .before .before .before .before .before .before .before .pre .lists) _
-    (c .image-at .ensures)
-    ∙ ap (image-of (a .p) (a .first .now) (a .second .now)) (part-is 3 (c .before .before .before .loop .i) (a .points .now))
-
-size-requires : tie.Need-size-requires Inv-loop μ-loop
-size-requires c κs =
-    subst (λ (r : ImageRecord). r .degree < 8) (sym (seen-is c))
-    (look-small (c .before .before .before .before .before .before .before .before .pre) (c .before .before .before .loop .i))
+    let s = start (turn c) in
+    let a = s .args in
+    point-model (a .p) (a .first .now) (a .second .now) _ (s .pre .lists) _ (c .image-at .ensures)
+    ∙ ap (image-of (a .p) (a .first .now) (a .second .now)) (part-is 3 (turn c .loop .i) (a .points .now))
 
 mul-sizes : tie.Need-mul-sizes Inv-loop μ-loop
 mul-sizes c = search needs
@@ -75,9 +77,9 @@ mul-store c = search needs
 
 store-requires : tie.Need-store-requires Inv-loop μ-loop
 store-requires c κs =
-    let s = c .before .before .before .before .before .before .before .before .before .before .before in
-    let l = c .before .before .before .before .before .before .loop in
-    record { within = omega (arith, s .pre .few); room = omega (arith, l .inv .1 .same-length, s .pre .room) }
+    let l = turn (c .before .before) in
+    let s = start l in
+    record { within = omega (arith, s .pre .few); room = omega (arith, l .loop .inv .1 .same-length, s .pre .room) }
 
 add-i : tie.Need-add-i Inv-loop μ-loop
 add-i c = search needs
@@ -87,13 +89,14 @@ loop-less c = search needs
 
 loop-again : tie.Need-loop-again Inv-loop μ-loop
 loop-again c =
-    let s = c .before .before .before .before .before .before .before .before .before .before .before .before .before .before in
-    let l = c .before .before .before .before .before .before .before .before .before .loop in
-    let e = seen-is (c .before .before .before .before .before .before) in (
+    let stored = c .before .before in
+    let seen = stored .before .before .before in
+    let l = turn seen in
+    let s = start l in
+    let e = seen-is seen in (
       omega arith,
-      looks-next (omega (arith, s .pre .few)) (s .pre .room) (l .inv .1) e
-          (ap (λ (r : ImageRecord). length (r .coefficients)) e ∙ look-eight (s .pre) (l .i) .eight)
-          (c .before .before .before .before .before .size .ensures) (c .before .before .store .ensures),
+      looks-next (omega (arith, s .pre .few)) (s .pre .room) (l .loop .inv .1) e
+          (ap (λ (r : PointImage). length (r .coefficients)) e ∙ look-eight (s .pre) (l .loop .i) .eight) (stored .store .ensures),
     )
 
 same-length : tie.Need-same-length Inv-loop μ-loop
@@ -101,7 +104,7 @@ same-length c = search needs
 
 returns : tie.Need-returns Inv-loop μ-loop
 returns c =
-    let a = c .before .before .before .before .before .before .args in
+    let a = start (c .before) .args in
     let l = c .before .loop in
     let e : l .i ≡ length (a .points .now) / 3 = omega arith in
     subst (λ (n : ℕ). Looks n (a .p) (a .first .now) (a .second .now) (a .points .now) (a .work .now) (l .work) (l .sizes)) e (l .inv .1)
@@ -120,7 +123,6 @@ look-spec =
     part-image-at-start
     part-image-at-end
     image-at-requires
-    size-requires
     mul-sizes
     array-write-sizes
     mul-store

@@ -1,9 +1,10 @@
 -- `poly::division::divide` meets its contract, from what its calls say: the test of the greatest exponents, the setting, the
--- dividend spread, and the steps. Assumes nothing.
+-- dividend spread, and the steps.
 use mathlib.Core.Path.{_≡_, refl, sym, _∙_, ap, ap₂}
 use mathlib.Core.Bool.{true}
 use Prim.Native.Nat.{ℕ, _+_, _-_}
 use native.Mathlib.Omega.{arith}
+use Rattle.field.specs.declared.elements.Element.{Element}
 use borrow.Author.Tests.{not-true, not-false}
 use Rattle.poly.specs.Keys.{keys}
 use Rattle.poly.specs.list.Falling.{falling-keys}
@@ -20,10 +21,10 @@ tests : (c : tie.After-at-most) → let a = c .before .before .before .before .b
 tests c = c .at-most .ensures ∙ ap₂ at-most (c .before .most2 .ensures) (c .before .before .most .ensures)
 
 -- what the steps are given is the setting of the two lists
-module _ (c : tie.After-of) where
+module _ (c : tie.After-of2) where
   -- both greatest exponents are known
   abbrev mosts : tie.After-most2
-  mosts = c .before .before .before .before .before .before .before .before
+  mosts = c .before .before .before .before .before .before .before .before .before
 
   abbrev start : tie.Start
   start = mosts .before .before .before .before .before
@@ -31,9 +32,9 @@ module _ (c : tie.After-of) where
   abbrev kept : Setting
   kept =
       record {
-        modulus = start .args .p;
+        modulus = c .before .inverse .result .modulus;
         terms = start .args .divisor .now;
-        lead = c .of .result .bits;
+        lead = c .of2 .result .bits;
         inverse = c .before .inverse .result .value;
         bound = mosts .before .most .result .bits - mosts .most2 .result .bits;
       }
@@ -41,17 +42,20 @@ module _ (c : tie.After-of) where
   kept-is : kept ≡ setting (start .args .p) (start .args .dividend .now) (start .args .divisor .now)
   kept-is =
       let a = start .args in
-      let lead = c .of .ensures in
+      let lead = c .of2 .ensures in
+      let e = c .before .before .of .ensures in
+      let modulus = c .before .inverse .ensures .same ∙ ap (λ (v : Element). v .modulus) e in
       let inverse =
-      lead-inverse-is (a .p) (a .dividend .now) (a .divisor .now) (a .work .now) (start .pre .lists) _ refl (c .before .before .coefficient-of .ensures)
+      lead-inverse-is (a .p) (a .dividend .now) (a .divisor .now) (a .work .now) (start .pre .lists) _ (ap (λ (v : Element). v .modulus) e)
+      (ap (λ (v : Element). v .value) e ∙ c .before .before .before .coefficient-of .ensures)
       (c .before .inverse .result) (c .before .inverse .ensures) in
       let bound = ap₂ _-_ (mosts .before .most .ensures) (mosts .most2 .ensures) in
-      λ i. record { modulus = a .p; terms = a .divisor .now; lead = lead i; inverse = inverse i; bound = bound i }
+      λ i. record { modulus = modulus i; terms = a .divisor .now; lead = lead i; inverse = inverse i; bound = bound i }
 
   narrow : at-most (most-key (start .args .divisor .now)) (most-key (start .args .dividend .now)) ≡ true
   narrow =
-      sym (tests (c .before .before .before .before .before .before .before))
-      ∙ not-false _ (c .before .before .before .before .before .before .if1 .left)
+      sym (tests (c .before .before .before .before .before .before .before .before))
+      ∙ not-false _ (c .before .before .before .before .before .before .before .if1 .left)
 
 most-requires : tie.Need-most-requires
 most-requires c κs =
@@ -72,8 +76,8 @@ returns c =
     begun-wide (z .args .p) (z .args .dividend .now) (z .args .divisor .now) (z .args .work .now) (z .pre .lists)
     (sym (tests (c .before)) ∙ not-true _ (c .if1 .taken))
 
-sub-t16 : tie.Need-sub-t16
-sub-t16 c = at-most-key _ _ (sym (c .before .before .before .at-most .ensures) ∙ not-false _ (c .before .before .if1 .left))
+sub-of : tie.Need-sub-of
+sub-of c = at-most-key _ _ (sym (c .before .before .before .at-most .ensures) ∙ not-false _ (c .before .before .if1 .left))
 
 shared-slice-read-first : tie.Need-shared-slice-read-first
 shared-slice-read-first c = search needs
@@ -81,19 +85,23 @@ shared-slice-read-first c = search needs
 coefficient-of-requires : tie.Need-coefficient-of-requires
 coefficient-of-requires c κs = search needs
 
-inverse-requires : tie.Need-inverse-requires
-inverse-requires c κs =
-    let z = c .before .before .before .before .before .before .before .before .before .before .before in
-    lead-invertible (z .args .p) (z .args .dividend .now) (z .args .divisor .now) (z .args .work .now) (z .pre .lists) _ refl (c .coefficient-of .ensures)
-
 of-requires : tie.Need-of-requires
 of-requires c κs = search needs
+
+inverse-requires : tie.Need-inverse-requires
+inverse-requires c κs =
+    let z = c .before .before .before .before .before .before .before .before .before .before .before .before in
+    lead-invertible (z .args .p) (z .args .dividend .now) (z .args .divisor .now) (z .args .work .now) (z .pre .lists) _
+    (ap (λ (v : Element). v .modulus) (c .of .ensures)) (ap (λ (v : Element). v .value) (c .of .ensures) ∙ c .before .coefficient-of .ensures)
+
+of-requires-2 : tie.Need-of-requires-2
+of-requires-2 c κs = search needs
 
 shared-slice-read-of : tie.Need-shared-slice-read-of
 shared-slice-read-of c = omega (arith, start (c .before) .pre .lists .some-dividend)
 
-of-requires-2 : tie.Need-of-requires-2
-of-requires-2 c κs = search needs
+of-requires-3 : tie.Need-of-requires-3
+of-requires-3 c κs = search needs
 
 cast-top : tie.Need-cast-top
 cast-top c = search needs
@@ -112,7 +120,7 @@ steps-requires c κs =
     let o = h .before .before in
     let z = start o in
     begun-can-step (z .args .p) (z .args .dividend .now) (z .args .divisor .now) (z .args .work .now) (z .pre .lists) (kept o) (kept-is o) _
-    (c .before .before .before .spread .ensures) (z .pre .empty) _ (ap (λ (k : ℕ). k + 1) (h .of2 .ensures))
+    (c .before .before .before .spread .ensures) (z .pre .empty) _ (ap (λ (k : ℕ). k + 1) (h .of3 .ensures))
 
 same-length : tie.Need-same-length
 same-length c = search needs
@@ -133,13 +141,14 @@ divide-spec =
     most-requires-2
     at-most-requires
     returns
-    sub-t16
+    sub-of
     shared-slice-read-first
     coefficient-of-requires
-    inverse-requires
     of-requires
-    shared-slice-read-of
+    inverse-requires
     of-requires-2
+    shared-slice-read-of
+    of-requires-3
     cast-top
     add-top
     spread-requires

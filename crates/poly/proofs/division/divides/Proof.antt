@@ -1,11 +1,13 @@
 -- `poly::division::divides` meets its contract, from what its calls say: the remainder's cells cleared, the division, and the
--- whole room cleared. Assumes nothing.
+-- whole room cleared.
 use mathlib.Core.Path.{_≡_}
 use native.Mathlib.Omega.{arith}
 use Rattle.poly.specs.Keys.{keys}
 use Rattle.poly.specs.Room.{work-room, zeroed}
 use Rattle.poly.specs.rooms.Laws.{zeroed-all}
-use Rattle.poly.specs.division.Begins.{cleared-begins, cleared-says, cleared-room}
+use Rattle.poly.specs.division.Begins.{cleared-begins, cleared-division, cleared-room}
+use Rattle.poly.specs.division.Model.{found}
+use Rattle.poly.specs.division.WorkRoomModel.{remainder-cells}
 use borrow.Author.Needs.{needs}
 use Rattle.poly.proofs.division.divides.Statement.{statement}
 use Rattle.poly.proofs.division.divides.Tie as tie
@@ -41,8 +43,9 @@ returns c =
     let z = start l in
     let a = z .args in
     record {
-      says =
-          cleared-says (a .p) (a .dividend .now) (a .divisor .now) (a .work .now) (z .pre) keys (omega arith) (omega arith) _ _ (d .divide .result) (begun l)
+      quotient = found (a .p) (a .dividend .now) (a .divisor .now) (remainder-cells (l .clear .last .1 .0));
+      division =
+          cleared-division (a .p) (a .dividend .now) (a .divisor .now) (a .work .now) (z .pre) keys (omega arith) (omega arith) _ _ (d .divide .result) (begun l)
           (d .divide .ensures);
       room =
           cleared-room (a .p) (a .dividend .now) (a .divisor .now) (a .work .now) (z .pre) keys (omega arith) (omega arith) _ _ (d .divide .result) (begun l)

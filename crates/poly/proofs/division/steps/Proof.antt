@@ -1,6 +1,6 @@
 -- `poly::division::steps` meets its contract. The invariant of the steps: what is left of the division, from the cell k down, ends as the whole does;
--- of the search: the cells passed are 0, and nothing is told apart yet. Both measures are k. Assumes nothing.
-use mathlib.Core.Path.{_≡_, refl, sym, _∙_}
+-- of the search: the cells passed are 0, and nothing is told apart yet. Both measures are k.
+use mathlib.Core.Path.{_≡_, refl, sym, ap, _∙_}
 use mathlib.Core.Bool.{true}
 use mathlib.Core.List.{List}
 use Prim.Native.Nat.{ℕ, _+_, _-_, _*_, _%_, _≤_}
@@ -8,6 +8,9 @@ use native.Mathlib.Nat.{mod-lt}
 use native.Mathlib.Omega.{arith}
 use borrow.Author.Tests.{not-true, not-false}
 use lib.ListN.{getD, set, length-set}
+use Rattle.field.specs.declared.elements.Element.{Element}
+use Rattle.field.specs.Contract.{element}
+use Rattle.field.specs.elements.Plain.{has-modulus, product-is}
 use Rattle.poly.specs.Keys.{keys}
 use Rattle.poly.specs.division.Going.{left-of, Going, going-start, going-passed, going-on, going-done, going-stopped, lead-below, product-below, going-taken}
 use Rattle.poly.specs.division.Model.{KeysBelow, Setting, less-product, fits}
@@ -15,30 +18,31 @@ use borrow.Author.Needs.{needs}
 use Rattle.poly.proofs.division.steps.Statement.{statement}
 use Rattle.poly.proofs.division.steps.Tie as tie
 
-abbrev setting : ℕ → List ℕ → ℕ → ℕ → ℕ → Setting
-setting p divisor lead inverse bound = record { modulus = p; terms = divisor; lead = lead; inverse = inverse; bound = bound }
+abbrev setting : List ℕ → ℕ → Element → ℕ → Setting
+setting divisor lead inverse bound =
+    record { modulus = inverse .modulus; terms = divisor; lead = lead; inverse = inverse .value; bound = bound }
 
 abbrev Inv-loop : tie.InvT-loop
-Inv-loop p divisor lead inverse bound top work low k₀ whole₀ k whole =
-    let d = setting p divisor lead inverse (bound .bits) in
+Inv-loop divisor lead inverse bound top work low k₀ whole₀ k whole =
+    let d = setting divisor lead inverse (bound .bits) in
     (k ≤ k₀) × (left-of d work k₀ ≡ left-of d work k) × (whole ≡ whole₀)
 
 abbrev μ-loop : tie.MeasureT-loop
-μ-loop p divisor lead inverse bound top work low k₀ whole₀ k whole = k
+μ-loop divisor lead inverse bound top work low k₀ whole₀ k whole = k
 
 abbrev Inv-steps : tie.InvT-steps
-Inv-steps p divisor lead inverse bound top work₀ low k₀ whole₀ work k whole =
-    (whole ≡ true) × Going (setting p divisor lead inverse (bound .bits)) work₀ work k
+Inv-steps divisor lead inverse bound top work₀ low k₀ whole₀ work k whole =
+    (whole ≡ true) × Going (setting divisor lead inverse (bound .bits)) work₀ work k
 
 abbrev μ-steps : tie.MeasureT-steps
-μ-steps p divisor lead inverse bound top work₀ low k₀ whole₀ work k whole = k
+μ-steps divisor lead inverse bound top work₀ low k₀ whole₀ work k whole = k
 
 -- the division of this call, the room before it, and how far it is at the search's test
 module _ (l : tie.At-loop Inv-loop μ-loop Inv-steps μ-steps) where
   abbrev d : Setting
   d =
       let a = l .before .before .before .before .args in
-      setting (a .p) (a .divisor .now) (a .lead) (a .inverse) (a .bound .bits)
+      setting (a .divisor .now) (a .lead) (a .inverse) (a .bound .bits)
 
   abbrev before : List ℕ
   before = l .before .before .before .before .args .work .now
@@ -74,11 +78,19 @@ module _ (c : tie.Else2 Inv-loop μ-loop Inv-steps μ-steps) where
       going-taken (d at) (before at) (work at) (at .loop .k) (going at) (c .before .before .before .before .loop-test .left) (c .before .before .if1 .taken)
       (at .before .before .before .before .pre) yes
 
+-- the quotient's coefficient there
+module _ (c : tie.After-product Inv-loop μ-loop Inv-steps μ-steps) where
+  abbrev fit : tie.Else2 Inv-loop μ-loop Inv-steps μ-steps
+  fit = c .before .before .before
+
+  factor-is : c .product .result ≡ element (d (at fit) .modulus) ((getD (work (at fit)) (at fit .loop .k - 1) 0 * d (at fit) .inverse) % d (at fit) .modulus)
+  factor-is = product-is (c .before .of .ensures) refl (c .product .ensures)
+
 steps-holds : tie.Need-steps-holds Inv-loop μ-loop Inv-steps μ-steps
 steps-holds c =
     let s = c .before .before in
     let a = s .args in
-    (refl, going-start (setting (a .p) (a .divisor .now) (a .lead) (a .inverse) (a .bound .bits)) (a .work .now) (a .top) (s .pre))
+    (refl, going-start (setting (a .divisor .now) (a .lead) (a .inverse) (a .bound .bits)) (a .work .now) (a .top) (s .pre))
 
 loop-holds : tie.Need-loop-holds Inv-loop μ-loop Inv-steps μ-steps
 loop-holds c = search needs
@@ -107,17 +119,20 @@ cast-fits c = search needs
 fits-requires : tie.Need-fits-requires Inv-loop μ-loop Inv-steps μ-steps
 fits-requires c κs = search needs
 
-mul-times : tie.Need-mul-times Inv-loop μ-loop Inv-steps μ-steps
-mul-times c = search needs
+mul-of : tie.Need-mul-of Inv-loop μ-loop Inv-steps μ-steps
+mul-of c = search needs
 
-slice-read-times : tie.Need-slice-read-times Inv-loop μ-loop Inv-steps μ-steps
-slice-read-times c = search needs
+slice-read-of : tie.Need-slice-read-of Inv-loop μ-loop Inv-steps μ-steps
+slice-read-of c = search needs
 
-times-requires : tie.Need-times-requires Inv-loop μ-loop Inv-steps μ-steps
-times-requires c κs = search needs
+of-requires : tie.Need-of-requires Inv-loop μ-loop Inv-steps μ-steps
+of-requires c κs = search needs
+
+product-requires : tie.Need-product-requires Inv-loop μ-loop Inv-steps μ-steps
+product-requires c κs = has-modulus (c .of .ensures) (at (c .before .before) .before .before .before .before .pre .positive)
 
 sub-work : tie.Need-sub-work Inv-loop μ-loop Inv-steps μ-steps
-sub-work c = below (c .before .before)
+sub-work c = below (fit c)
 
 add-work : tie.Need-add-work Inv-loop μ-loop Inv-steps μ-steps
 add-work c = search needs
@@ -129,18 +144,20 @@ slice-write-work : tie.Need-slice-write-work Inv-loop μ-loop Inv-steps μ-steps
 slice-write-work c = search needs
 
 sub-subtract : tie.Need-sub-subtract Inv-loop μ-loop Inv-steps μ-steps
-sub-subtract c = below (c .before .before)
+sub-subtract c = below (fit c)
 
 subtract-requires : tie.Need-subtract-requires Inv-loop μ-loop Inv-steps μ-steps
 subtract-requires c κs =
-    let e = c .before .before .before in
-    let l = e .before .before .before .before .before in
+    let q = c .before in
+    let l = at (fit q) in
     let z = l .before .before .before .before in
-    let long = length-set (work l) (keys + (l .loop .k - 1 - d l .lead)) (c .before .times .result) in
+    let long = length-set (work l) (keys + (l .loop .k - 1 - d l .lead)) (q .product .result .value) in
+    let m = ap (λ (v : Element). v .modulus) (factor-is q) in
+    let e = ap (λ (v : Element). v .value) (factor-is q) in
     record {
-      positive = z .pre .positive;
-      reduced = omega (arith, c .before .times .ensures, mod-lt (getD (work l) (l .loop .k - 1) 0 * d l .inverse) (z .pre .positive));
-      within = λ i h. omega (arith, within e i h, z .pre .room, going l .same-length, long);
+      positive = has-modulus (factor-is q) (z .pre .positive);
+      reduced = omega (arith, m, e, mod-lt (getD (work l) (l .loop .k - 1) 0 * d l .inverse) (z .pre .positive));
+      within = λ i h. omega (arith, within (fit q) i h, z .pre .room, going l .same-length, long);
     }
 
 steps-less : tie.Need-steps-less Inv-loop μ-loop Inv-steps μ-steps
@@ -149,9 +166,15 @@ steps-less c = search needs
 steps-again : tie.Need-steps-again Inv-loop μ-loop Inv-steps μ-steps
 steps-again c =
     let u = c .before .before in
-    let m = u .before .before in
-    let e = m .before .before in
-    (at e .loop .inv .2 ∙ at e .before .steps .inv .0, taken e (m .times .result) _ (m .times .ensures) (u .subtract .ensures))
+    let q = u .before .before in
+    let e = fit q in
+    let l = at e in
+    let v = q .product .result .value in
+    let s = l .loop .k - 1 - d l .lead in (
+      l .loop .inv .2 ∙ l .before .steps .inv .0,
+      taken e v _ (ap (λ (x : Element). x .value) (factor-is q))
+          (u .subtract .ensures ∙ ap (λ (x : Element). less-product (x .modulus) s v (d l .terms) (set (work l) (keys + s) v)) (factor-is q)),
+    )
 
 same-length : tie.Need-same-length Inv-loop μ-loop Inv-steps μ-steps
 same-length c = search needs
@@ -188,9 +211,10 @@ steps-spec =
     fits-requires
     loop-less
     loop-again
-    mul-times
-    slice-read-times
-    times-requires
+    mul-of
+    slice-read-of
+    of-requires
+    product-requires
     sub-work
     add-work
     mul-work

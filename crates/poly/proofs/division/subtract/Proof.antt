@@ -1,9 +1,11 @@
 -- `poly::division::subtract` meets its contract. The invariant: taking away what is left of the product from the cells as they
--- are gives what the whole gave. Assumes nothing.
-use mathlib.Core.Path.{_≡_, sym, _∙_}
+-- are gives what the whole gave.
+use mathlib.Core.Path.{_≡_, refl, sym, ap, _∙_}
 use Prim.Native.Nat.{_+_, _-_, _≤_, _<_}
 use native.Mathlib.Omega.{arith}
 use lib.ListN.{length, drop, length-set}
+use Rattle.field.specs.declared.elements.Element.{Element}
+use Rattle.field.specs.elements.Plain.{minus-product-is, can-subtract}
 use Rattle.poly.specs.division.Model.{less-product}
 use Rattle.poly.specs.division.Turns.{less-turn, less-end}
 use borrow.Author.Needs.{needs}
@@ -11,23 +13,25 @@ use Rattle.poly.proofs.division.subtract.Statement.{statement}
 use Rattle.poly.proofs.division.subtract.Tie as tie
 
 abbrev Inv-loop : tie.InvT-loop
-Inv-loop p q shift divisor cells₀ opposite i₀ cells i =
+Inv-loop q shift divisor cells₀ i₀ cells i =
     (i ≤ length divisor) × (length cells ≡ length cells₀)
-    × (less-product p shift q divisor cells₀ ≡ less-product p shift q (drop i divisor) cells)
+    × (less-product (q .modulus) shift (q .value) divisor cells₀ ≡ less-product (q .modulus) shift (q .value) (drop i divisor) cells)
 
 abbrev μ-loop : tie.MeasureT-loop
-μ-loop p q shift divisor cells₀ opposite i₀ cells i = length divisor - i
+μ-loop q shift divisor cells₀ i₀ cells i = length divisor - i
+
+-- where the turn begins, and the function
+abbrev turn : tie.After-struct-known Inv-loop μ-loop → tie.At-loop Inv-loop μ-loop
+turn c = c .before .before .before .before
+
+abbrev start : tie.At-loop Inv-loop μ-loop → tie.Start Inv-loop μ-loop
+start l = l .before .before .before
 
 -- the cell of the term at i is one of the cells
-at-below : (c : tie.After-struct-known Inv-loop μ-loop) → let a = c .before .before .before .before in
-    c .before .of .result .bits + a .before .before .before .args .shift < length (a .loop .cells)
+at-below : (c : tie.After-struct-known Inv-loop μ-loop) → c .before .of .result .bits + start (turn c) .args .shift < length (turn c .loop .cells)
 at-below c =
-    let a = c .before .before .before .before in
-    let z = a .before .before .before in
-    omega (arith, z .pre .within (a .loop .i) (c .before .before .before .loop-test .taken), c .before .of .ensures, a .loop .inv .1)
-
-sub-opposite : tie.Need-sub-opposite Inv-loop μ-loop
-sub-opposite c = omega (arith, c .before .before .pre .reduced)
+    let l = turn c in
+    omega (arith, start l .pre .within (l .loop .i) (c .before .before .before .loop-test .taken), c .before .of .ensures, l .loop .inv .1)
 
 loop-holds : tie.Need-loop-holds Inv-loop μ-loop
 loop-holds c = search needs
@@ -47,23 +51,31 @@ cast-at c = search needs
 add-at : tie.Need-add-at Inv-loop μ-loop
 add-at c = omega (arith, at-below c)
 
-mul-plus-times : tie.Need-mul-plus-times Inv-loop μ-loop
-mul-plus-times c = omega (arith, at-below c)
-
-slice-read-plus-times : tie.Need-slice-read-plus-times Inv-loop μ-loop
-slice-read-plus-times c = at-below (c .before)
-
 coefficient-of-requires : tie.Need-coefficient-of-requires Inv-loop μ-loop
 coefficient-of-requires c κs = search needs
 
-plus-times-requires : tie.Need-plus-times-requires Inv-loop μ-loop
-plus-times-requires c κs = c .before .before .before .before .before .before .before .before .before .pre .positive
+of-requires-2 : tie.Need-of-requires-2 Inv-loop μ-loop
+of-requires-2 c κs = search needs
+
+mul-of : tie.Need-mul-of Inv-loop μ-loop
+mul-of c = omega (arith, at-below (c .before .before))
+
+slice-read-of : tie.Need-slice-read-of Inv-loop μ-loop
+slice-read-of c = at-below (c .before .before .before)
+
+of-requires-3 : tie.Need-of-requires-3 Inv-loop μ-loop
+of-requires-3 c κs = search needs
+
+minus-product-requires : tie.Need-minus-product-requires Inv-loop μ-loop
+minus-product-requires c κs =
+    let s = start (turn (c .before .before .before .before)) in
+    can-subtract (c .of3 .ensures) refl (s .pre .positive) (s .pre .reduced)
 
 mul-cells : tie.Need-mul-cells Inv-loop μ-loop
-mul-cells c = omega (arith, at-below (c .before .before .before))
+mul-cells c = omega (arith, at-below (c .before .before .before .before .before))
 
 slice-write-cells : tie.Need-slice-write-cells Inv-loop μ-loop
-slice-write-cells c = at-below (c .before .before .before)
+slice-write-cells c = at-below (c .before .before .before .before .before)
 
 add-i : tie.Need-add-i Inv-loop μ-loop
 add-i c = search needs
@@ -73,15 +85,16 @@ loop-less c = search needs
 
 loop-again : tie.Need-loop-again Inv-loop μ-loop
 loop-again c =
-    let s = c .before .before .before in
-    let a = s .before .before .before .before in
-    let g = a .before .before .before .args in (
+    let e = c .before .before .before in
+    let s = e .before .before in
+    let l = turn s in
+    let g = start l .args in (
       omega arith,
-      simp length-set (a .loop .inv .1),
-      a .loop .inv .2
-          ∙ less-turn (g .p) (g .shift) (g .q) (g .divisor .now) (a .loop .cells) (a .loop .i) (s .before .before .before .loop-test .taken)
-          (s .before .of .ensures)
-          (c .before .coefficient-of .ensures) (c .plus-times .ensures),
+      simp length-set (l .loop .inv .1),
+      l .loop .inv .2
+          ∙ less-turn (g .q .modulus) (g .shift) (g .q .value) (g .divisor .now) (l .loop .cells) (l .loop .i) (s .before .before .before .loop-test .taken)
+          (s .before .of .ensures) (e .before .coefficient-of .ensures)
+          (ap (λ (v : Element). v .value) (minus-product-is refl (e .of2 .ensures) (c .before .of3 .ensures) (c .minus-product .ensures))),
     )
 
 same-length : tie.Need-same-length Inv-loop μ-loop
@@ -96,17 +109,18 @@ subtract-spec =
     (tie.spec
     Inv-loop
     μ-loop
-    sub-opposite
     loop-holds
     mul-t
     shared-slice-read-t
     of-requires
     cast-at
     add-at
-    mul-plus-times
-    slice-read-plus-times
     coefficient-of-requires
-    plus-times-requires
+    of-requires-2
+    mul-of
+    slice-read-of
+    of-requires-3
+    minus-product-requires
     mul-cells
     slice-write-cells
     add-i

@@ -1,32 +1,46 @@
--- `poly::euclid::monic` meets its contract: the inverse is the model's. Assumes nothing.
-use mathlib.Core.Path.{ap, _∙_}
+-- `poly::euclid::monic` meets its contract: the inverse is the model's.
+use mathlib.Core.Path.{_≡_, ap, ap₂, _∙_, subst}
 use Prim.Native.Nat.{ℕ}
+use native.Mathlib.Omega.{arith}
+use Rattle.field.specs.declared.elements.Element.{Element}
+use Rattle.field.specs.Contract.{element, Inverse}
 use Rattle.field.specs.modulus.Laws.{listed-prime, listed-positive}
 use Rattle.field.specs.elements.Link.{inverse-val}
+use lib.ListN.{getD}
 use Rattle.poly.specs.euclid.Model.{scaled, monic}
 use borrow.Author.Needs.{needs}
 use Rattle.poly.proofs.euclid.monic.Statement.{statement}
 use Rattle.poly.proofs.euclid.monic.Tie as tie
 
-mul-t7 : tie.Need-mul-t7
-mul-t7 c = search needs
+mul-of : tie.Need-mul-of
+mul-of c = search needs
 
-array-read-t10 : tie.Need-array-read-t10
-array-read-t10 c = search needs
+array-read-of : tie.Need-array-read-of
+array-read-of c = search needs
+
+of-requires : tie.Need-of-requires
+of-requires c κs = search needs
 
 inverse-requires : tie.Need-inverse-requires
-inverse-requires c κs = record { is-listed = c .pre .is-listed; below = c .pre .numbers .below (c .args .n); nonzero = c .pre .nonzero }
+inverse-requires c κs =
+    let s = c .before in
+    rw (c .of .ensures) (record { is-listed = s .pre .is-listed; below = s .pre .numbers .below (s .args .n); nonzero = s .pre .nonzero })
+
+-- the inverse of the number at n
+inverts : (c : tie.After-inverse) → let s = c .before .before in Inverse (element (s .args .p) (getD (s .args .t3) (s .args .n) 0)) (c .inverse .result)
+inverts c = subst (λ (a : Element). Inverse a (c .inverse .result)) (c .before .of .ensures) (c .inverse .ensures)
 
 scaled-requires : tie.Need-scaled-requires
-scaled-requires c κs = listed-positive (c .before .pre .is-listed)
+scaled-requires c κs = let e = inverts c .same in omega (arith, e, listed-positive (c .before .before .pre .is-listed))
 
 returns : tie.Need-returns
 unfolding monic
 returns c =
-    let a = c .before .before .args in
+    let v = c .before in
+    let s = v .before .before in
     c .scaled .ensures
-    ∙ ap (λ (v : ℕ). scaled (a .p) v (a .t3))
-    (inverse-val _ (c .before .inverse .result) (listed-prime (c .before .before .pre .is-listed)) (c .before .inverse .ensures))
+    ∙ ap₂ (λ (m x : ℕ). scaled m x (s .args .t3)) (inverts v .same)
+    (inverse-val _ (v .inverse .result) (listed-prime (s .pre .is-listed)) (inverts v))
 
 pub monic-spec : {M : Type 1} → statement M
-monic-spec = tie.close (tie.spec mul-t7 array-read-t10 inverse-requires scaled-requires returns)
+monic-spec = tie.close (tie.spec mul-of array-read-of of-requires inverse-requires scaled-requires returns)

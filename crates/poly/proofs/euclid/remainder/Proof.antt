@@ -1,9 +1,10 @@
--- `poly::euclid::remainder` meets its contract: the loop keeps the model's answer on the powers that are left. Assumes nothing.
+-- `poly::euclid::remainder` meets its contract: the loop keeps the model's answer on the powers that are left.
 use borrow.Author.Needs.{needs}
-use mathlib.Core.Path.{_≡_, refl, sym, _∙_}
+use mathlib.Core.Path.{_≡_, refl, sym, ap, _∙_}
 use Prim.Native.Nat.{_+_, _-_, _≤_, _<_}
 use native.Mathlib.Omega.{arith}
 use lib.ListN.{getD}
+use Rattle.field.specs.declared.elements.Element.{Element}
 use Rattle.poly.specs.Coefficients.{Eight}
 use Rattle.poly.specs.euclid.Model.{subtract, remainder}
 use Rattle.poly.specs.euclid.Numbers.{subtract-eight}
@@ -26,33 +27,39 @@ loop-holds c = (omega arith, c .pre .numbers, refl)
 sub-k-2 : tie.Need-sub-k-2 Inv-loop μ-loop
 sub-k-2 c = search needs
 
-add-c : tie.Need-add-c Inv-loop μ-loop
-add-c c = search needs
+add-of : tie.Need-add-of Inv-loop μ-loop
+add-of c = search needs
 
-mul-c : tie.Need-mul-c Inv-loop μ-loop
-mul-c c = search needs
+mul-of : tie.Need-mul-of Inv-loop μ-loop
+mul-of c = search needs
 
-array-read-c : tie.Need-array-read-c Inv-loop μ-loop
-array-read-c c = search needs
+array-read-of : tie.Need-array-read-of Inv-loop μ-loop
+array-read-of c = search needs
+
+of-requires : tie.Need-of-requires Inv-loop μ-loop
+of-requires c κs = search needs
 
 subtract-requires : tie.Need-subtract-requires Inv-loop μ-loop
 subtract-requires c κs =
-    let l = c .before .before .loop in
-    record { below = l .inv .1 .below (l .k - 1 + c .before .before .before .args .m); power = omega arith; eight = l .inv .1 .eight }
+    let turn = c .before .before .before in
+    let l = turn .loop in
+    rw (c .before .of .ensures)
+    (record { below = l .inv .1 .below (l .k - 1 + turn .before .args .m); power = omega arith; eight = l .inv .1 .eight })
 
 loop-less : tie.Need-loop-less Inv-loop μ-loop
 loop-less c = search needs
 
 loop-again : tie.Need-loop-again Inv-loop μ-loop
 loop-again c =
-    let l = c .before .before .before .loop in
-    let s = c .before .before .before .before in
-    let a = s .args in
+    let turn = c .before .before .before .before in
+    let l = turn .loop in
+    let a = turn .before .args in
     let v = getD (l .r) (l .k - 1 + a .m) 0 in
+    let e = c .subtract .ensures ∙ ap (λ (x : Element). subtract (x .modulus) (x .value) (l .k - 1) (l .r) (a .g)) (c .before .before .of .ensures) in
     let pos : 0 < a .p = omega (arith, l .inv .1 .below 0) in (
       omega arith,
-      rw (c .subtract .ensures) (subtract-eight (a .p) pos v (l .k - 1) (l .r) (a .g) (l .inv .1)),
-      rw (c .subtract .ensures) (l .inv .2 ∙ remainder-next (a .p) (a .m) (a .g) (l .k) (l .r) (omega arith)),
+      rw e (subtract-eight (a .p) pos v (l .k - 1) (l .r) (a .g) (l .inv .1)),
+      rw e (l .inv .2 ∙ remainder-next (a .p) (a .m) (a .g) (l .k) (l .r) (omega arith)),
     )
 
 returns : tie.Need-returns Inv-loop μ-loop
@@ -70,9 +77,10 @@ remainder-spec =
     sub-k
     loop-holds
     sub-k-2
-    add-c
-    mul-c
-    array-read-c
+    add-of
+    mul-of
+    array-read-of
+    of-requires
     subtract-requires
     loop-less
     loop-again

@@ -1,9 +1,11 @@
--- `poly::euclid::scaled` meets its contract: the loop fills the array. Assumes nothing.
+-- `poly::euclid::scaled` meets its contract: the loop fills the array.
 use borrow.Author.Needs.{needs}
-use mathlib.Core.Path.{_≡_, refl}
+use mathlib.Core.Path.{_≡_, refl, ap}
 use Prim.Native.Nat.{_-_, _*_, _%_, _≤_}
 use native.Mathlib.Omega.{arith}
 use lib.ListN.{length, getD}
+use Rattle.field.specs.declared.elements.Element.{Element}
+use Rattle.field.specs.elements.Plain.{product-is}
 use Rattle.poly.specs.loops.CellsModel.{Filled}
 use Rattle.poly.specs.loops.Cells.{filled-start, filled-next, filled-end}
 use Rattle.poly.specs.euclid.Model.{scaled}
@@ -11,22 +13,25 @@ use Rattle.poly.proofs.euclid.scaled.Statement.{statement}
 use Rattle.poly.proofs.euclid.scaled.Tie as tie
 
 abbrev Inv-loop : tie.InvT-loop
-Inv-loop p c f r₀ i₀ r i = (i ≤ 8) × (length r₀ ≡ 8) × Filled (λ j. (c * getD f j 0) % p) r₀ i r
+Inv-loop c f r₀ i₀ r i = (i ≤ 8) × (length r₀ ≡ 8) × Filled (λ j. (c .value * getD f j 0) % c .modulus) r₀ i r
 
 abbrev μ-loop : tie.MeasureT-loop
-μ-loop p c f r₀ i₀ r i = 8 - i
+μ-loop c f r₀ i₀ r i = 8 - i
 
 loop-holds : tie.Need-loop-holds Inv-loop μ-loop
 loop-holds c = (omega arith, refl, filled-start _ _ 0 (λ j l. absurd (omega arith)))
 
-mul-times : tie.Need-mul-times Inv-loop μ-loop
-mul-times c = search needs
+mul-of : tie.Need-mul-of Inv-loop μ-loop
+mul-of c = search needs
 
-array-read-times : tie.Need-array-read-times Inv-loop μ-loop
-array-read-times c = search needs
+array-read-of : tie.Need-array-read-of Inv-loop μ-loop
+array-read-of c = search needs
 
-times-requires : tie.Need-times-requires Inv-loop μ-loop
-times-requires c κs = omega arith
+of-requires : tie.Need-of-requires Inv-loop μ-loop
+of-requires c κs = search needs
+
+product-requires : tie.Need-product-requires Inv-loop μ-loop
+product-requires c κs = c .before .before .before .pre
 
 mul-r : tie.Need-mul-r Inv-loop μ-loop
 mul-r c = search needs
@@ -42,8 +47,12 @@ loop-less c = search needs
 
 loop-again : tie.Need-loop-again Inv-loop μ-loop
 loop-again c =
-    let l = c .before .before .loop in
-    (omega arith, l .inv .1, filled-next _ _ (l .i) (l .r) _ (l .inv .2) (omega arith) (c .times .ensures))
+    let l = c .before .before .before .loop in (
+      omega arith,
+      l .inv .1,
+      filled-next _ _ (l .i) (l .r) _ (l .inv .2) (omega arith)
+          (ap (λ (v : Element). v .value) (product-is refl (c .before .of .ensures) (c .product .ensures))),
+    )
 
 returns : tie.Need-returns Inv-loop μ-loop
 unfolding scaled
@@ -58,9 +67,10 @@ scaled-spec =
     Inv-loop
     μ-loop
     loop-holds
-    mul-times
-    array-read-times
-    times-requires
+    mul-of
+    array-read-of
+    of-requires
+    product-requires
     mul-r
     array-write-r
     add-i

@@ -1,9 +1,11 @@
--- `poly::euclid::subtract` meets its contract: the loop fills the array from k on. Assumes nothing.
+-- `poly::euclid::subtract` meets its contract: the loop fills the array from k on.
 use borrow.Author.Needs.{needs}
 use mathlib.Core.Path.{_≡_, refl, sym, ap, _∙_}
 use Prim.Native.Nat.{ℕ, _+_, _-_, _*_, _%_, _≤_}
 use native.Mathlib.Omega.{arith}
 use lib.ListN.{length, getD}
+use Rattle.field.specs.declared.elements.Element.{Element}
+use Rattle.field.specs.elements.Plain.{minus-product-is, can-subtract}
 use Rattle.poly.specs.loops.CellsModel.{Filled}
 use Rattle.poly.specs.loops.Cells.{filled-start, filled-next, filled-end}
 use Rattle.poly.specs.euclid.Model.{less-at, subtract}
@@ -12,13 +14,10 @@ use Rattle.poly.proofs.euclid.subtract.Statement.{statement}
 use Rattle.poly.proofs.euclid.subtract.Tie as tie
 
 abbrev Inv-loop : tie.InvT-loop
-Inv-loop p c k f₀ g n i₀ f i = (k ≤ i) × (i ≤ 8) × (length f₀ ≡ 8) × (n ≡ p - c) × Filled (less-at p c k f₀ g) f₀ i f
+Inv-loop c k f₀ g i₀ f i = (k ≤ i) × (i ≤ 8) × (length f₀ ≡ 8) × Filled (less-at (c .modulus) (c .value) k f₀ g) f₀ i f
 
 abbrev μ-loop : tie.MeasureT-loop
-μ-loop p c k f₀ g n i₀ f i = 8 - i
-
-sub-n : tie.Need-sub-n Inv-loop μ-loop
-sub-n c = search needs
+μ-loop c k f₀ g i₀ f i = 8 - i
 
 loop-holds : tie.Need-loop-holds Inv-loop μ-loop
 loop-holds c =
@@ -26,28 +25,35 @@ loop-holds c =
       omega arith,
       omega arith,
       c .pre .eight,
-      refl,
-      filled-start (less-at (a .p) (a .c) (a .k) (a .f .now) (a .t5)) (a .f .now) (a .k)
-          (λ j l. sym (less-low (a .p) (a .c) (a .k) (a .f .now) (a .t5) j l)),
+      filled-start (less-at (a .c .modulus) (a .c .value) (a .k) (a .f .now) (a .t4)) (a .f .now) (a .k)
+          (λ j l. sym (less-low (a .c .modulus) (a .c .value) (a .k) (a .f .now) (a .t4) j l)),
     )
 
-mul-plus-times : tie.Need-mul-plus-times Inv-loop μ-loop
-mul-plus-times c = search needs
+mul-of : tie.Need-mul-of Inv-loop μ-loop
+mul-of c = search needs
 
-element-copy-out-plus-times : tie.Need-element-copy-out-plus-times Inv-loop μ-loop
-element-copy-out-plus-times c = search needs
+element-copy-out-of : tie.Need-element-copy-out-of Inv-loop μ-loop
+element-copy-out-of c = search needs
 
-sub-plus-times : tie.Need-sub-plus-times Inv-loop μ-loop
-sub-plus-times c = search needs
+of-requires : tie.Need-of-requires Inv-loop μ-loop
+of-requires c κs = search needs
 
-mul-plus-times-2 : tie.Need-mul-plus-times-2 Inv-loop μ-loop
-mul-plus-times-2 c = search needs
+sub-of : tie.Need-sub-of Inv-loop μ-loop
+sub-of c = search needs
 
-array-read-plus-times : tie.Need-array-read-plus-times Inv-loop μ-loop
-array-read-plus-times c = search needs
+mul-of-2 : tie.Need-mul-of-2 Inv-loop μ-loop
+mul-of-2 c = search needs
 
-plus-times-requires : tie.Need-plus-times-requires Inv-loop μ-loop
-plus-times-requires c κs = omega arith
+array-read-of : tie.Need-array-read-of Inv-loop μ-loop
+array-read-of c = search needs
+
+of-requires-2 : tie.Need-of-requires-2 Inv-loop μ-loop
+of-requires-2 c κs = search needs
+
+minus-product-requires : tie.Need-minus-product-requires Inv-loop μ-loop
+minus-product-requires c κs =
+    let s = c .before .before .before .before .before in
+    can-subtract (c .before .of .ensures) refl (omega (arith, s .pre .below)) (omega (arith, s .pre .below))
 
 mul-f : tie.Need-mul-f Inv-loop μ-loop
 mul-f c = search needs
@@ -63,23 +69,23 @@ loop-less c = search needs
 
 loop-again : tie.Need-loop-again Inv-loop μ-loop
 loop-again c =
-    let l = c .before .before .before .loop in
-    let a = c .before .before .before .before .args in (
+    let turn = c .before .before .before .before .before in
+    let l = turn .loop in
+    let a = turn .before .args in (
       omega arith,
       omega arith,
       l .inv .2,
-      refl,
-      filled-next (less-at (a .p) (a .c) (a .k) (a .f .now) (a .t5)) (a .f .now) (l .i) (l .f) _ (l .inv .4) (omega arith)
-          (c .plus-times .ensures
-          ∙ ap (λ (x : ℕ). (x + (a .p - a .c) * getD (a .t5) (l .i - a .k) 0) % a .p) (l .inv .4 .left (l .i) (omega arith))
-          ∙ sym (less-high (a .p) (a .c) (a .k) (a .f .now) (a .t5) (l .i) (l .inv .0))),
+      filled-next (less-at (a .c .modulus) (a .c .value) (a .k) (a .f .now) (a .t4)) (a .f .now) (l .i) (l .f) _ (l .inv .3) (omega arith)
+          (ap (λ (v : Element). v .value) (minus-product-is refl (c .before .of2 .ensures) (c .before .before .of .ensures) (c .minus-product .ensures))
+          ∙ ap (λ (x : ℕ). (x + (a .c .modulus - a .c .value) * getD (a .t4) (l .i - a .k) 0) % a .c .modulus) (l .inv .3 .left (l .i) (omega arith))
+          ∙ sym (less-high (a .c .modulus) (a .c .value) (a .k) (a .f .now) (a .t4) (l .i) (l .inv .0))),
     )
 
 returns : tie.Need-returns Inv-loop μ-loop
 unfolding subtract
 returns c =
     let l = c .before .loop in
-    filled-end _ _ 8 (l .i) (l .f) (l .inv .4) (l .inv .2) (omega arith)
+    filled-end _ _ 8 (l .i) (l .f) (l .inv .3) (l .inv .2) (omega arith)
 
 pub subtract-spec : {M : Type 1} → statement M
 subtract-spec =
@@ -87,14 +93,15 @@ subtract-spec =
     (tie.spec
     Inv-loop
     μ-loop
-    sub-n
     loop-holds
-    mul-plus-times
-    element-copy-out-plus-times
-    sub-plus-times
-    mul-plus-times-2
-    array-read-plus-times
-    plus-times-requires
+    mul-of
+    element-copy-out-of
+    of-requires
+    sub-of
+    mul-of-2
+    array-read-of
+    of-requires-2
+    minus-product-requires
     mul-f
     element-write-f
     add-i

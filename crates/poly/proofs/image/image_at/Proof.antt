@@ -1,20 +1,21 @@
 -- `poly::image::image_at` meets its contract: the tables, A's value and the test of the point, B's value and what is made of both are
--- the model's, whose record answers the point.
+-- the model's, which answers the point.
 use mathlib.Core.Path.{_≡_, sym, ap, _∙_, subst}
 use mathlib.Core.List.{List}
 use Prim.Native.Nat.{ℕ}
 use native.Mathlib.Omega.{arith}
 use lib.ListN.{getD}
 use Rattle.field.specs.modulus.Laws.{listed-prime, listed-above, listed-positive}
-use Rattle.poly.specs.declared.ImageRecord.{ImageRecord}
+use Rattle.poly.specs.declared.PointImage.{PointImage}
 use Rattle.poly.specs.Coefficients.{Eight}
 use Rattle.poly.specs.Keys.{exponents}
 use Rattle.poly.specs.LeadingPart.{x-of}
 use Rattle.poly.specs.value.Model.{Ready, value-of}
-use Rattle.poly.specs.ImageCall.{refusal, AnswersPoint}
+use Rattle.poly.specs.ImageCall.{AnswersPoint}
 use Rattle.poly.specs.value.PowersModel.{powers}
-use Rattle.poly.specs.euclid.Model.{gcd}
-use Rattle.poly.specs.image.Model.{value-at, image-record, image-of}
+use Rattle.poly.specs.euclid.Model.{size, gcd}
+use Rattle.poly.specs.euclid.Numbers.{size-le}
+use Rattle.poly.specs.image.Model.{value-at, sized, image-of}
 use Rattle.poly.specs.list.Right.{RightList, RightLists, lists-are-right}
 use Rattle.poly.specs.value.PowersLaws.{powers-model}
 use Rattle.poly.specs.image.Call.{model-answers}
@@ -86,8 +87,8 @@ module _ (c : tie.After-x) where
   lead : getD (c .before .before .before .value .result) (c .x .result) 0 ≡ getD (value-at (p tables) (point tables) A) (x-of (getD A 0 0)) 0
   lead = λ i. getD (first-value i) (power i) 0
 
-  -- the model's record answers the point
-  answers : {r : ImageRecord} → r ≡ image-of (p tables) A B (point tables) → AnswersPoint (p tables) A B (point tables) r
+  -- the model's image answers the point
+  answers : {r : PointImage} → r ≡ image-of (p tables) A B (point tables) → AnswersPoint (p tables) A B (point tables) r
   answers = model-answers (p tables) A B (point tables) (start tables .pre .lists)
 
 shared-slice-read-powers : tie.Need-shared-slice-read-powers
@@ -131,24 +132,15 @@ array-read-if1 c =
     let s = start (tables c) in
     omega (arith, power c, first-power-small (s .args .p) (s .args .first .now) (right s .first))
 
-at-requires : tie.Need-at-requires
-at-requires c κs = search needs
-
-refused-requires : tie.Need-refused-requires
-refused-requires c κs = search needs
-
 returns : tie.Need-returns
 unfolding image-of
-returns c =
-    let at-x = c .before .before .before in
-    answers at-x
-    (c .refused .ensures ∙ ap refusal (c .before .at .ensures) ∙ sym (values-bad _ _ _ _ (sym (lead at-x) ∙ c .before .before .if1 .taken)))
+returns c = answers (c .before) (sym (values-bad _ _ _ _ (sym (lead (c .before)) ∙ c .if1 .taken)))
 
 value-requires-2 : tie.Need-value-requires-2
 value-requires-2 c κs = ready (tables (c .before)) (B (c .before)) (right (start (tables (c .before))) .second)
 
-image-of-values-requires : tie.Need-image-of-values-requires
-image-of-values-requires c κs =
+gcd-requires : tie.Need-gcd-requires
+gcd-requires c κs =
     let at-x = c .before .before in
     let k = tables at-x in
     let first = in-range k (A at-x) (at-x .before .before .before .value .ensures) in
@@ -159,15 +151,22 @@ image-of-values-requires c κs =
       nonzero = size-positive (p k) (at-x .x .result) _ first (c .before .if1 .left);
     }
 
+size-requires : tie.Need-size-requires
+size-requires c κs = search needs
+
+cast-t13 : tie.Need-cast-t13
+cast-t13 c = omega (arith, c .size .ensures, size-le 8 (c .before .gcd .result))
+
 returns-2 : tie.Need-returns-2
 unfolding image-of
 returns-2 c =
-    let at-x = c .before .before .before in
+    let at-x = c .before .before .before .before in
     let k = tables at-x in
+    let u = c .before .gcd .ensures in
     answers at-x
-    (c .image-of-values .ensures
-    ∙ (λ i. image-record (gcd (p k) (first-value at-x i) (worked k (B at-x) (c .before .value2 .ensures) i)))
-    ∙ sym (values-good _ _ _ _ (λ z. c .before .before .if1 .left (lead at-x ∙ z))))
+    ((λ i. record { size = (c .size .ensures ∙ ap size u) i; coefficients = u i })
+    ∙ (λ i. sized (gcd (p k) (first-value at-x i) (worked k (B at-x) (c .before .before .value2 .ensures) i)))
+    ∙ sym (values-good _ _ _ _ (λ z. c .before .before .before .if1 .left (lead at-x ∙ z))))
 
 pub image-at-spec : {M : Type 1} → statement M
 image-at-spec =
@@ -186,9 +185,9 @@ image-at-spec =
     cast-x
     mul-if1
     array-read-if1
-    at-requires
-    refused-requires
     returns
     value-requires-2
-    image-of-values-requires
+    gcd-requires
+    size-requires
+    cast-t13
     returns-2)

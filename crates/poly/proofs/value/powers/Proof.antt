@@ -1,10 +1,12 @@
--- `poly::value::powers` meets its contract: the loop fills the table from 1 on. Assumes nothing.
+-- `poly::value::powers` meets its contract: the loop fills the table from 1 on.
 use borrow.Author.Needs.{needs}
 use mathlib.Core.List.{List}
 use mathlib.Core.Path.{_≡_, refl, sym, ap, _∙_, subst}
 use Prim.Native.Nat.{ℕ, _-_, _*_, _%_, _≤_}
 use native.Mathlib.Omega.{arith}
 use lib.ListN.{length, replicate}
+use Rattle.field.specs.declared.elements.Element.{Element}
+use Rattle.field.specs.elements.Plain.{has-modulus, product-is}
 use Rattle.poly.specs.Powers.{Powers}
 use Rattle.poly.specs.loops.CellsModel.{Filled}
 use Rattle.poly.specs.loops.Cells.{filled-start, filled-next, filled-end}
@@ -28,17 +30,23 @@ loop-holds c =
     let a = c .args in
     (omega arith, omega arith, refl, filled-start (power (a .p) (a .y)) ones 1 (power-start (a .p) (a .y) ones refl))
 
-sub-times : tie.Need-sub-times Inv-loop μ-loop
-sub-times c = search needs
+sub-of : tie.Need-sub-of Inv-loop μ-loop
+sub-of c = search needs
 
-mul-times : tie.Need-mul-times Inv-loop μ-loop
-mul-times c = search needs
+mul-of : tie.Need-mul-of Inv-loop μ-loop
+mul-of c = search needs
 
-array-read-times : tie.Need-array-read-times Inv-loop μ-loop
-array-read-times c = search needs
+array-read-of : tie.Need-array-read-of Inv-loop μ-loop
+array-read-of c = search needs
 
-times-requires : tie.Need-times-requires Inv-loop μ-loop
-times-requires c κs = omega arith
+of-requires : tie.Need-of-requires Inv-loop μ-loop
+of-requires c κs = search needs
+
+of-requires-2 : tie.Need-of-requires-2 Inv-loop μ-loop
+of-requires-2 c κs = search needs
+
+product-requires : tie.Need-product-requires Inv-loop μ-loop
+product-requires c κs = has-modulus (c .before .of .ensures) (c .before .before .before .before .pre)
 
 mul-r : tie.Need-mul-r Inv-loop μ-loop
 mul-r c = search needs
@@ -54,13 +62,15 @@ loop-less c = search needs
 
 loop-again : tie.Need-loop-again Inv-loop μ-loop
 loop-again c =
-    let l = c .before .before .loop in
-    let a = c .before .before .before .args in (
+    let turn = c .before .before .before .before in
+    let l = turn .loop in
+    let a = turn .before .args in (
       omega arith,
       omega arith,
       l .inv .2,
       filled-next (power (a .p) (a .y)) _ (l .i) (l .r) _ (l .inv .3) (omega arith)
-          (c .times .ensures ∙ ap (λ (x : ℕ). (x * a .y) % a .p) (l .inv .3 .done (l .i - 1) (omega arith)) ∙ power-next (a .p) (a .y) (l .i) (l .inv .0)),
+          (ap (λ (v : Element). v .value) (product-is (c .before .before .of .ensures) (c .before .of2 .ensures) (c .product .ensures))
+          ∙ ap (λ (x : ℕ). (x * a .y) % a .p) (l .inv .3 .done (l .i - 1) (omega arith)) ∙ power-next (a .p) (a .y) (l .i) (l .inv .0)),
     )
 
 returns : tie.Need-returns Inv-loop μ-loop
@@ -78,10 +88,12 @@ powers-spec =
     Inv-loop
     μ-loop
     loop-holds
-    sub-times
-    mul-times
-    array-read-times
-    times-requires
+    sub-of
+    mul-of
+    array-read-of
+    of-requires
+    of-requires-2
+    product-requires
     mul-r
     array-write-r
     add-i

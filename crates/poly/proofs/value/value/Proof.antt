@@ -1,11 +1,16 @@
 -- `poly::value::value` meets its contract: the loop keeps the model's answer on the terms that are left; the measure is their number.
--- Assumes nothing.
+--
 use borrow.Author.Needs.{needs}
 use mathlib.Core.Path.{_≡_, refl, sym, ap, ap₂, _∙_, subst}
 use Prim.Native.Nat.{ℕ, _+_, _-_, _*_, _/_, _%_, _≤_, _<_}
 use native.Mathlib.Omega.{arith}
 use mathlib.Core.List.{List}
 use lib.ListN.{length, getD, set, drop}
+use mir.Syntax.{w64}
+use mir.Val.{Fits}
+use Rattle.field.specs.declared.elements.Element.{Element}
+use Rattle.field.specs.Contract.{element}
+use Rattle.field.specs.elements.Plain.{has-modulus, product-is, plus-product-is}
 use Rattle.poly.specs.Coefficients.{Eight}
 use Rattle.poly.specs.Keys.{exponents}
 use Rattle.poly.specs.Terms.{key-of, coefficient-of}
@@ -26,16 +31,38 @@ x-small c =
     let turn = c .before .before .before in
     omega (arith, turn .before .before .before .pre .keys (turn .before .loop .i) (turn .loop-test .taken))
 
-positive : (c : tie.After-x Inv-loop μ-loop) → 0 < c .before .before .before .before .before .before .args .p
-positive c = omega (arith, c .before .before .before .before .before .before .pre .y-powers .below 0)
+abbrev start : tie.After-x Inv-loop μ-loop → tie.Start Inv-loop μ-loop
+start c = c .before .before .before .before .before .before
+
+positive : (c : tie.After-x Inv-loop μ-loop) → 0 < start c .args .p
+positive c = omega (arith, start c .pre .y-powers .below 0)
+
+-- the first product, and the second
+first : (c : tie.After-product Inv-loop μ-loop) → let y = c .before .before in let a = start (y .before .before .before) .args in
+    c .product .result ≡ element (a .p) ((y .before .before .coefficient-of .result * getD (a .t2) (y .y .result) 0) % a .p)
+first c = product-is (c .before .before .before .of2 .ensures) (c .before .of3 .ensures) (c .product .ensures)
+
+second : (c : tie.After-product2 Inv-loop μ-loop) → let z = c .before .before in let y = z .before .before .before in
+    let a = start (y .before .before .before) .args in
+    c .product2 .result
+    ≡ element (a .p) ((y .before .before .coefficient-of .result * getD (a .t2) (y .y .result) 0) % a .p * getD (a .t3) (z .z .result) 0 % a .p)
+second c = product-is (first (c .before .before .before)) (c .before .of4 .ensures) (c .product2 .ensures)
 
 -- what the steps on a term make is what the model adds
-added : (p : ℕ) (ys zs ws r : List ℕ) (t : ℕ) {k c x y z w a b s : ℕ} → k ≡ key-of t → c ≡ coefficient-of t
+added : (p : ℕ) (ys zs ws r : List ℕ) (t : ℕ) {k c x y z w s : ℕ} → k ≡ key-of t → c ≡ coefficient-of t
     → x ≡ exponents k .x → y ≡ exponents k .y → z ≡ exponents k .z → w ≡ exponents k .w
-    → a ≡ (c * getD ys y 0) % p → b ≡ (a * getD zs z 0) % p → s ≡ (getD r x 0 + b * getD ws w 0) % p
+    → s ≡ (getD r x 0 + c * getD ys y 0 % p * getD zs z 0 % p * getD ws w 0) % p
     → s ≡ plus-term p ys zs ws t (getD r (exponents (key-of t) .x) 0)
 unfolding plus-term
-added p ys zs ws r t ek ec ex ey ez ew ea eb es = cc
+added p ys zs ws r t ek ec ex ey ez ew es = cc
+
+-- where the power of w is known, and the power of x
+abbrev at-x : tie.After-w Inv-loop μ-loop → tie.After-x Inv-loop μ-loop
+at-x c = c .before .before .before .before .before .before .before .before .before
+
+-- the count of terms fits, and so does the next place
+one-more : (c : tie.In-loop Inv-loop μ-loop) → Fits w64 (c .before .loop .i + 1)
+one-more c = omega arith
 
 loop-holds : tie.Need-loop-holds Inv-loop μ-loop
 loop-holds c = (omega arith, zeros-eight (c .before .args .p) (omega (arith, c .before .pre .y-powers .below 0)), refl)
@@ -58,86 +85,104 @@ cast-x c = search needs
 coefficient-of-requires : tie.Need-coefficient-of-requires Inv-loop μ-loop
 coefficient-of-requires c κs = search needs
 
+of-requires-2 : tie.Need-of-requires-2 Inv-loop μ-loop
+of-requires-2 c κs = search needs
+
 y-requires : tie.Need-y-requires Inv-loop μ-loop
 y-requires c κs = search needs
 
-cast-times : tie.Need-cast-times Inv-loop μ-loop
-cast-times c = search needs
+cast-of : tie.Need-cast-of Inv-loop μ-loop
+cast-of c = search needs
 
-mul-times : tie.Need-mul-times Inv-loop μ-loop
-mul-times c = search needs
+mul-of : tie.Need-mul-of Inv-loop μ-loop
+mul-of c = search needs
 
-array-read-times : tie.Need-array-read-times Inv-loop μ-loop
-array-read-times c = search needs
+array-read-of : tie.Need-array-read-of Inv-loop μ-loop
+array-read-of c = search needs
 
-times-requires : tie.Need-times-requires Inv-loop μ-loop
-times-requires c κs = positive (c .before .before)
+of-requires-3 : tie.Need-of-requires-3 Inv-loop μ-loop
+of-requires-3 c κs = search needs
+
+product-requires : tie.Need-product-requires Inv-loop μ-loop
+product-requires c κs = has-modulus (c .before .before .of2 .ensures) (positive (c .before .before .before .before))
 
 z-requires : tie.Need-z-requires Inv-loop μ-loop
 z-requires c κs = search needs
 
-cast-times-2 : tie.Need-cast-times-2 Inv-loop μ-loop
-cast-times-2 c = search needs
+cast-of-2 : tie.Need-cast-of-2 Inv-loop μ-loop
+cast-of-2 c = search needs
 
-mul-times-2 : tie.Need-mul-times-2 Inv-loop μ-loop
-mul-times-2 c = search needs
+mul-of-2 : tie.Need-mul-of-2 Inv-loop μ-loop
+mul-of-2 c = search needs
 
-array-read-times-2 : tie.Need-array-read-times-2 Inv-loop μ-loop
-array-read-times-2 c = search needs
+array-read-of-2 : tie.Need-array-read-of-2 Inv-loop μ-loop
+array-read-of-2 c = search needs
 
-times-requires-2 : tie.Need-times-requires-2 Inv-loop μ-loop
-times-requires-2 c κs = positive (c .before .before .before .before)
+of-requires-4 : tie.Need-of-requires-4 Inv-loop μ-loop
+of-requires-4 c κs = search needs
 
-mul-plus-times : tie.Need-mul-plus-times Inv-loop μ-loop
-mul-plus-times c = search needs
-
-array-read-plus-times : tie.Need-array-read-plus-times Inv-loop μ-loop
-array-read-plus-times c = let l = x-small (c .before .before .before .before .before) in omega arith
+product-requires-2 : tie.Need-product-requires-2 Inv-loop μ-loop
+product-requires-2 c κs = has-modulus (first (c .before .before)) (positive (c .before .before .before .before .before .before .before))
 
 w-requires : tie.Need-w-requires Inv-loop μ-loop
 w-requires c κs = search needs
 
-cast-plus-times : tie.Need-cast-plus-times Inv-loop μ-loop
-cast-plus-times c = search needs
+cast-of-3 : tie.Need-cast-of-3 Inv-loop μ-loop
+cast-of-3 c = search needs
 
-mul-plus-times-2 : tie.Need-mul-plus-times-2 Inv-loop μ-loop
-mul-plus-times-2 c = search needs
+mul-of-3 : tie.Need-mul-of-3 Inv-loop μ-loop
+mul-of-3 c = search needs
 
-array-read-plus-times-2 : tie.Need-array-read-plus-times-2 Inv-loop μ-loop
-array-read-plus-times-2 c = search needs
+array-read-of-3 : tie.Need-array-read-of-3 Inv-loop μ-loop
+array-read-of-3 c = search needs
 
-plus-times-requires : tie.Need-plus-times-requires Inv-loop μ-loop
-plus-times-requires c κs = positive (c .before .before .before .before .before .before)
+of-requires-5 : tie.Need-of-requires-5 Inv-loop μ-loop
+of-requires-5 c κs = search needs
+
+mul-of-4 : tie.Need-mul-of-4 Inv-loop μ-loop
+mul-of-4 c = search needs
+
+array-read-of-4 : tie.Need-array-read-of-4 Inv-loop μ-loop
+array-read-of-4 c = let l = x-small (at-x (c .before)) in omega arith
+
+of-requires-6 : tie.Need-of-requires-6 Inv-loop μ-loop
+of-requires-6 c κs = search needs
+
+plus-product-requires : tie.Need-plus-product-requires Inv-loop μ-loop
+plus-product-requires c κs = has-modulus (c .of6 .ensures) (positive (at-x (c .before .before)))
 
 mul-r : tie.Need-mul-r Inv-loop μ-loop
 mul-r c = search needs
 
 array-write-r : tie.Need-array-write-r Inv-loop μ-loop
-array-write-r c = let l = x-small (c .before .before .before .before .before .before .before) in omega arith
+array-write-r c = let l = x-small (at-x (c .before .before .before)) in omega arith
 
 add-i : tie.Need-add-i Inv-loop μ-loop
-add-i c = search needs
+add-i c = omega (arith, one-more (at-x (c .before .before .before) .before .before .before))
 
 loop-less : tie.Need-loop-less Inv-loop μ-loop
-loop-less c = search needs
+loop-less c = omega (arith, at-x (c .before .before .before) .before .before .before .loop-test .taken)
 
 loop-again : tie.Need-loop-again Inv-loop μ-loop
 loop-again c =
-    let at-z = c .before .before .before in
-    let at-y = at-z .before .before in
-    let at-x = at-y .before .before in
-    let turn = at-x .before .before .before in
+    let with-w = c .before .before .before in
+    let with-z = with-w .before .before .before in
+    let with-y = with-z .before .before .before in
+    let with-x = at-x with-w in
+    let turn = with-x .before .before .before in
     let l = turn .before .loop in
-    let a = turn .before .before .before .args in
+    let a = start with-x .args in
     let t = getD (a .terms .now) (l .i) 0 in
-    let x : at-x .x .result ≡ exponents (key-of t) .x = at-x .x .ensures ∙ ap (λ (k : ℕ). k / 512) (at-x .before .of .ensures) in
-    let v : c .plus-times .result ≡ plus-term (a .p) (a .t2) (a .t3) (a .t4) t (getD (l .r) (exponents (key-of t) .x) 0) =
-    added (a .p) (a .t2) (a .t3) (a .t4) (l .r) t (at-x .before .of .ensures) (at-y .before .coefficient-of .ensures)
-    (at-x .x .ensures) (at-y .y .ensures) (at-z .z .ensures) (c .before .w .ensures)
-    (at-z .before .times .ensures) (c .before .before .times2 .ensures) (c .plus-times .ensures) in (
+    let new = c .plus-product .result .value in
+    let x : with-x .x .result ≡ exponents (key-of t) .x = with-x .x .ensures ∙ ap (λ (k : ℕ). k / 512) (with-x .before .of .ensures) in
+    let v : new ≡ plus-term (a .p) (a .t2) (a .t3) (a .t4) t (getD (l .r) (exponents (key-of t) .x) 0) =
+    added (a .p) (a .t2) (a .t3) (a .t4) (l .r) t (with-x .before .of .ensures) (with-y .before .before .coefficient-of .ensures)
+    (with-x .x .ensures) (with-y .y .ensures) (with-z .z .ensures) (with-w .w .ensures)
+    (ap (λ (e : Element). e .value)
+    (plus-product-is (second (with-w .before)) (c .before .before .of5 .ensures) (c .before .of6 .ensures) (c .plus-product .ensures))) in (
       omega arith,
-      set-eight (a .p) (l .r) (at-x .x .result) (c .plus-times .result) (l .inv .1)
-          (subst (λ (n : ℕ). n < a .p) (sym v) (plus-term-below (a .p) (a .t2) (a .t3) (a .t4) (positive at-x) t (getD (l .r) (exponents (key-of t) .x) 0))),
+      set-eight (a .p) (l .r) (with-x .x .result) new (l .inv .1)
+          (subst (λ (n : ℕ). n < a .p) (sym v) (plus-term-below (a .p) (a .t2) (a .t3) (a .t4) (positive with-x) t (getD (l .r) (exponents (key-of t) .x) 0))),
       l .inv .2 ∙ value-next (a .p) (a .t2) (a .t3) (a .t4) (a .terms .now) (l .i) (l .r) (turn .loop-test .taken)
           ∙ ap₂ (λ (k n : ℕ). value-from (a .p) (a .t2) (a .t3) (a .t4) (drop (l .i + 1) (a .terms .now)) (set (l .r) k n)) (sym x) (sym v),
     )
@@ -162,23 +207,28 @@ value-spec =
     x-requires
     cast-x
     coefficient-of-requires
+    of-requires-2
     y-requires
-    cast-times
-    mul-times
-    array-read-times
-    times-requires
+    cast-of
+    mul-of
+    array-read-of
+    of-requires-3
+    product-requires
     z-requires
-    cast-times-2
-    mul-times-2
-    array-read-times-2
-    times-requires-2
-    mul-plus-times
-    array-read-plus-times
+    cast-of-2
+    mul-of-2
+    array-read-of-2
+    of-requires-4
+    product-requires-2
     w-requires
-    cast-plus-times
-    mul-plus-times-2
-    array-read-plus-times-2
-    plus-times-requires
+    cast-of-3
+    mul-of-3
+    array-read-of-3
+    of-requires-5
+    mul-of-4
+    array-read-of-4
+    of-requires-6
+    plus-product-requires
     mul-r
     array-write-r
     add-i
