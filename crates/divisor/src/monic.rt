@@ -40,18 +40,16 @@ pub(crate) fn made_monic(p: Residue, skeleton: &[KeyBits], values: Cells) -> Div
     requires { ⌜ Solvable p (now skeleton) values ⌝ }
     ensures { λ r. ⌜ Monic p (now (skeleton .entry)) values r ⌝ }
 {
-    let lead = Element {
-        modulus: p,
-        value: leading(values, skeleton.len()),
-    };
+    let lead = Element::of(p, leading(values, skeleton.len()));
     let inverse = lead.inverse();
-    let factor = inverse.value;
     let mut terms: Terms = [0; MOST_KEYS];
     let mut count: usize = 0;
     let mut i: usize = 0;
     while i < skeleton.len() {
         if values[i] != 0 {
-            terms[count] = poly::key::term(skeleton[i], field::times(p, values[i], factor));
+            let value = Element::of(p, values[i]);
+            let coefficient = value.product(inverse);
+            terms[count] = poly::key::term(skeleton[i], coefficient.value);
             count += 1;
         }
         i += 1;

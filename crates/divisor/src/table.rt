@@ -2,6 +2,7 @@
 // its pivot column, where its cell is 1; where no row is kept the cell on the diagonal is 0. A row kept in the last column says 1 = 0: there is
 // no solution.
 ghost use mathlib.Core.Path.{_≡_};
+ghost use Rattle.field.specs.Contract.{element};
 ghost use Rattle.poly.specs.Search.{Searched};
 ghost use Rattle.divisor.specs.table.Model.{COLUMNS as columns-most, Entry, Columns, Column, Back, TableReady, Ready, empty-table, minus, scaled-row, with-row, kind, value, values, solved};
 use field::Element;
@@ -71,10 +72,12 @@ fn subtract(row: &mut Cells, pivot: Row, j: usize, columns: usize, p: Residue)
     requires { ⌜ Column p (record { cells = now row }) j columns ⌝ }
     ensures { λ _. ⌜ record { cells = now (row .exit) } ≡ minus p (record { cells = now (row .entry) }) pivot j columns ⌝ }
 {
-    let factor = p - row[j];
+    let factor = Element::of(p, row[j]);
     let mut i = j;
     while i < columns {
-        row[i] = field::plus_times(p, row[i], factor, pivot.cells[i]);
+        let cell = Element::of(p, row[i]);
+        let next = cell.minus_product(factor, Element::of(p, pivot.cells[i]));
+        row[i] = next.value;
         i += 1;
     }
 }
@@ -85,15 +88,12 @@ fn scaled(row: Row, j: usize, columns: usize, p: Residue) -> Row
     ensures { λ r. ⌜ r ≡ scaled-row p row j columns ⌝ }
 {
     let mut r = row;
-    let first = Element {
-        modulus: p,
-        value: r.cells[j],
-    };
+    let first = Element::of(p, r.cells[j]);
     let inverse = first.inverse();
-    let factor = inverse.value;
     let mut i = j;
     while i < columns {
-        r.cells[i] = field::times(p, factor, r.cells[i]);
+        let next = inverse.product(Element::of(p, r.cells[i]));
+        r.cells[i] = next.value;
         i += 1;
     }
     r
@@ -164,17 +164,18 @@ fn kind_of(t: Table) -> Kind
 }
 
 // The unknown of column j, by its row, from the values of those behind it; the last one is 1.
-fn value_at(row: Row, values: Cells, j: usize, last: usize, p: Residue) -> Residue
+fn value_at(row: Row, values: Cells, j: usize, last: usize, p: Residue) -> Element
     requires { ⌜ Back p row j last ⌝ }
-    ensures { λ r. ⌜ r ≡ value p row values j last ⌝ }
+    ensures { λ r. ⌜ r ≡ element p (value p row values j last) ⌝ }
 {
-    let mut sum = row.cells[last];
+    let mut sum = Element::of(p, row.cells[last]);
     let mut k = j + 1;
     while k < last {
-        sum = field::plus_times(p, sum, row.cells[k], values[k]);
+        sum = sum.plus_product(Element::of(p, row.cells[k]), Element::of(p, values[k]));
         k += 1;
     }
-    (p - sum) % p
+    let zero = Element::zero(p);
+    zero.difference(sum)
 }
 
 // Back substitution, from the last unknown to the first.
@@ -188,7 +189,8 @@ fn values_of(t: Table, p: Residue) -> Cells
     while j > 0 {
         j -= 1;
         let row = t.rows[j];
-        values[j] = value_at(row, values, j, last, p);
+        let value = value_at(row, values, j, last, p);
+        values[j] = value.value;
     }
     values
 }
