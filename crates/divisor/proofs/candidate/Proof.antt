@@ -14,11 +14,15 @@ question s =
 candidate-fault-requires : tie.Need-candidate-fault-requires
 candidate-fault-requires c κs = search needs
 
+refused-requires : tie.Need-refused-requires
+refused-requires c κs = search needs
+
 returns : tie.Need-returns
 returns c =
-    let s = c .before .before .before .before .before .before .before .before .before in
-    let f = c .before .before .candidate-fault in
-    refused (f .result) (tested-refuses (table (question s)) (f .result) (f .ensures) (c .if1 .taken))
+    let test = c .before in
+    let s = test .before .before .before .before .before .before .before .before .before in
+    let f = test .before .before .candidate-fault in
+    rw (c .refused .ensures) (refused (f .result) (tested-refuses (table (question s)) (f .result) (f .ensures) (test .if1 .taken)))
 
 answer-requires : tie.Need-answer-requires
 answer-requires c κs =
@@ -38,4 +42,4 @@ returns-2 c = c .before .before .before .before .answer .ensures
 pub candidate-spec : {M : Type 1} → statement M
 candidate-spec =
     tie.close
-    (tie.spec candidate-fault-requires returns answer-requires same-length same-length-2 returns-2)
+    (tie.spec candidate-fault-requires refused-requires returns answer-requires same-length same-length-2 returns-2)

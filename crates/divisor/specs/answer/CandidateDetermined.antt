@@ -11,7 +11,7 @@ use Rattle.poly.specs.Room.{of-rooms, written, cleared}
 use Rattle.poly.specs.list.Check.{lists-one-place}
 use Rattle.divisor.specs.declared.CandidateRecord.{CandidateRecord}
 use Rattle.divisor.specs.Rule.{Answer}
-use Rattle.divisor.specs.Candidate.{Call, table, prime, Numbers, A, B, monomials, lent-points, refusal, Result, Candidate, refused, answered, of-skeleton, of-points}
+use Rattle.divisor.specs.Candidate.{Call, table, prime, Numbers, A, B, monomials, lent-points, refused-record, Result, Candidate, refused, answered, of-skeleton, of-points}
 use Rattle.divisor.specs.answer.Determined.{answer-determined}
 
 table-one-place : (c : Call) → OnePlaceEach (table c)
@@ -43,7 +43,7 @@ answered-determined c listed listed′ f g G H x y =
 pub candidate-determined : (c : Call) (r q : Result) → Candidate c r → Candidate c q → r ≡ q
 candidate-determined c r q (refused f h) (refused g k) =
     let e = refuses-determined (table c) (table-one-place c) f g h k in
-    λ i. record { found = refusal (e i); output = c .output; work = c .work }
+    λ i. record { found = refused-record (e i); output = c .output; work = c .work }
 candidate-determined c r q (refused f h) (answered pass listed g G x) = absurd (not-passes-and-refuses (table c) f pass h)
 candidate-determined c r q (answered pass listed f G x) (refused g h) = absurd (not-passes-and-refuses (table c) g pass h)
 candidate-determined c r q (answered pass listed f G x) (answered pass′ listed′ g H y) = answered-determined c listed listed′ f g G H x y

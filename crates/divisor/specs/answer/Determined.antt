@@ -98,4 +98,4 @@ module _ (K : Field) (A B : Polynomial K) where
       let same : d ≡ e = omega arith in
       let sorted = sorted-determined e points b u c w (k ∷ ks) (l ∷ ls) (subst (λ (f : ℕ). Sorted K A B f points b u (k ∷ ks)) same s) t in
       let v = verdict-determined monomials (l ∷ ls) n m I J (subst (λ (ms : List (Kept K)). Verdict K A B monomials ms n I) (sorted .2) x) y in
-      (λ i. report (v .0 i) (same i) (sorted .0 i) (sorted .1 i) (length (sorted .2 i)) (length (v .1 i)), v .1)
+      (λ i. report (v .0 i) (record { d = same i; bad = sorted .0 i; unlucky = sorted .1 i; kept = length (sorted .2 i) }) (length (v .1 i)), v .1)

@@ -82,7 +82,9 @@ module _ (K : Field) (A B : Polynomial K) (within : WithinX K (x-degree (K .ring
     pub common-divisor-found : (monomials : List Exponents) → map (λ (t : Term R). t .exponents) C ≡ monomials
         → (points : List (Point R)) (b u : ℕ) (k : Kept K) (kept : List (Kept K)) → Sorted K A B d points b u (k ∷ kept)
         → (s : Unknowns K) → OnlySolution K monomials (k ∷ kept) s
-        → Answer K A B monomials points (report 0 d b u (length (k ∷ kept)) (length (made-monic K (without-zeros K C)))) (made-monic K (without-zeros K C))
+        → Answer K A B monomials points
+        (report 0 (record { d = d; bad = b; unlucky = u; kept = length (k ∷ kept) }) (length (made-monic K (without-zeros K C))))
+        (made-monic K (without-zeros K C))
     unfolding solution-of
     common-divisor-found monomials e points b u k kept sorted s only =
         some-good d b u k kept sorted 0 _ (subst (Verdict K A B monomials (k ∷ kept) 0) same

@@ -16,7 +16,7 @@ use Rattle.poly.specs.TrialDivision.{CanDivide}
 use Rattle.poly.specs.Lists.{Falling}
 use Rattle.poly.specs.list.Right.{RightLists}
 use Rattle.divisor.specs.declared.CandidateRecord.{CandidateRecord}
-use Rattle.divisor.specs.Rule.{report, DividesBoth}
+use Rattle.divisor.specs.Rule.{none-good, report, DividesBoth}
 use Rattle.divisor.specs.Candidate.{most-keys}
 use Rattle.divisor.specs.declared.table.Kind.the-variants.{None, One, Several}
 use Rattle.divisor.specs.declared.table.Solved.{Solved}
@@ -77,5 +77,5 @@ only values = record { kind = One; values = values }
 
 -- what is answered where no point of n is good; the work room is cleared
 pub record NoGoodPoint (n : ℕ) (work work-after : List ℕ) (r : CandidateRecord) : Type 0 where
-  pub is : r ≡ report NO_GOOD_POINT 0 n 0 0 0
+  pub is : r ≡ report NO_GOOD_POINT (none-good n) 0
   pub clears : work-after ≡ cleared work

@@ -11,7 +11,7 @@ use Rattle.field.specs.Numbers.{NO_GOOD_POINT, NO_SOLUTION, SEVERAL_SOLUTIONS, 
 use Rattle.poly.specs.declared.ImageRecord.{ImageRecord}
 use Rattle.poly.specs.Keys.{exponents}
 use Rattle.poly.specs.Terms.{terms-of}
-use Rattle.divisor.specs.Rule.{Kept}
+use Rattle.divisor.specs.Rule.{Counts, none-good, Kept}
 use Rattle.divisor.specs.Candidate.{points-of}
 use Rattle.divisor.specs.equations.Rows.{all-rows}
 use Rattle.divisor.specs.sorting.Model.{sizes-of, least, alike, kept-of}
@@ -24,10 +24,10 @@ pub data Verdict : Type 0 where
   unsettled : Verdict
   settled : ℕ → List ℕ → Verdict
 
--- the record's numbers but the place, which is 0, and the count; and the terms
+-- the number, what is counted, and the terms
 pub data Computed : Type 0 where
   unanswered : Computed
-  answered : (number degree bad unlucky kept : ℕ) → List ℕ → Computed
+  answered : ℕ → Counts → List ℕ → Computed
 
 -- what the two divisions settle
 unfoldable pub tried : List ℕ → Outcome → Outcome → Verdict
@@ -60,7 +60,14 @@ module _ (p : ℕ) (P : Prime p) (A B skeleton points : List ℕ) where
   unfoldable pub with-counts : ℕ → List ℕ → Verdict → Computed
   with-counts d sizes unsettled = unanswered
   with-counts d sizes (settled number terms) =
-      answered number d (alike 0 sizes) (length points / 3 - alike 0 sizes - alike (suc d) sizes) (alike (suc d) sizes) terms
+      answered number
+      (record {
+        d = d;
+        bad = alike 0 sizes;
+        unlucky = length points / 3 - alike 0 sizes - alike (suc d) sizes;
+        kept = alike (suc d) sizes;
+      })
+      terms
 
   -- by the kept points
   unfoldable pub by-kept : ℕ → List ℕ → List (Kept (Modulo p P)) → Computed
@@ -70,7 +77,7 @@ module _ (p : ℕ) (P : Prime p) (A B skeleton points : List ℕ) where
 
   -- by the least size of an image, which is 0 where all points are bad
   unfoldable pub by-least : List ImageRecord → ℕ → Computed
-  by-least looks zero = answered NO_GOOD_POINT 0 (length points / 3) 0 0 []
+  by-least looks zero = answered NO_GOOD_POINT (none-good (length points / 3)) []
   by-least looks (suc d) = by-kept d (sizes-of looks) (kept-of P (suc d) (points-of p P points) looks)
 
   unfoldable pub by-looks : List ImageRecord → Computed

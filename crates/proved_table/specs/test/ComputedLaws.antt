@@ -71,8 +71,8 @@ module _ (c : Call) (pass : Passes (table c)) (listed : Listed (c .modulus)) whe
   -- the numbers and the terms are the candidate's
   abbrev pub Sound : Computed → Type 0
   Sound unanswered = Unit {0}
-  Sound (answered number degree bad unlucky kept terms) =
-      Candidate c (record { found = report number degree bad unlucky kept (length terms); output = written terms (c .output); work = cleared (c .work) })
+  Sound (answered number counts terms) =
+      Candidate c (record { found = report number counts (length terms); output = written terms (c .output); work = cleared (c .work) })
 
   abbrev looks : List ImageRecord
   looks = looks-of c
