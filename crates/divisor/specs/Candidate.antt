@@ -20,7 +20,7 @@ use Rattle.poly.specs.PointValue.{Point}
 use Rattle.poly.specs.Lists.{Count, WrongKey, WrongNumber, of-lists}
 use Rattle.poly.specs.Room.{of-rooms, written, cleared}
 use Rattle.divisor.specs.declared.CandidateRecord.{CandidateRecord}
-use Rattle.divisor.specs.Rule.{Answer}
+use Rattle.divisor.specs.Rule.{RuleAnswer}
 
 -- what is lent
 pub record Call : Type 0 where
@@ -111,7 +111,7 @@ pub data Candidate (c : Call) : Result → Type 0 where
   refused : (f : Fault) → Refuses (table c) f
       → Candidate c (candidate-result (refused-record f) (c .output) (c .work))
   answered : Passes (table c) → (listed : Listed (c .modulus)) (found : CandidateRecord) (G : Polynomial (Numbers c listed))
-      → Answer (Numbers c listed) (A c listed) (B c listed) (monomials c listed) (lent-points c listed) found G
+      → RuleAnswer (Numbers c listed) (A c listed) (B c listed) (monomials c listed) (lent-points c listed) found G
       → Candidate c (candidate-result found (written (numbers-of (c .modulus) (prime c listed) G) (c .output)) (cleared (c .work)))
 
 -- the polynomial that is handed out: the terms first in the output

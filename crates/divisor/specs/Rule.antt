@@ -115,14 +115,14 @@ module _ (K : Field) where
 
   -- What the kept points settle: the number, and the polynomial to be handed out.
   pub data Verdict (A B : Polynomial K) (monomials : List Exponents) (kept : List Kept) : ℕ → Polynomial K → Type 0 where
-    none : NoSolution monomials kept → Verdict A B monomials kept NO_SOLUTION []
+    unsolvable : NoSolution monomials kept → Verdict A B monomials kept NO_SOLUTION []
     several : SeveralSolutions monomials kept → Verdict A B monomials kept SEVERAL_SOLUTIONS []
     rejected : (s : Unknowns) → OnlySolution monomials kept s → ¬ DividesBoth A B (divisor s) → Verdict A B monomials kept DOES_NOT_DIVIDE []
     accepted : (s : Unknowns) → OnlySolution monomials kept s → DividesBoth A B (divisor s) → Verdict A B monomials kept 0 (divisor s)
 
   -- What the rule answers: the record, and the polynomial to be handed out.
-  pub data Answer (A B : Polynomial K) (monomials : List Exponents) (points : List (Point R)) : CandidateRecord → Polynomial K → Type 0 where
-    all-bad : AllBad A B points → Answer A B monomials points (report NO_GOOD_POINT (none-good (length points)) 0) []
+  pub data RuleAnswer (A B : Polynomial K) (monomials : List Exponents) (points : List (Point R)) : CandidateRecord → Polynomial K → Type 0 where
+    all-bad : AllBad A B points → RuleAnswer A B monomials points (report NO_GOOD_POINT (none-good (length points)) 0) []
     some-good : (d b u : ℕ) (k : Kept) (kept : List Kept) → Sorted A B d points b u (k ∷ kept)
         → (number : ℕ) (G : Polynomial K) → Verdict A B monomials (k ∷ kept) number G
-        → Answer A B monomials points (report number (record { d = d; bad = b; unlucky = u; kept = length (k ∷ kept) }) (length G)) G
+        → RuleAnswer A B monomials points (report number (record { d = d; bad = b; unlucky = u; kept = length (k ∷ kept) }) (length G)) G

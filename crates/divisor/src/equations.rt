@@ -7,7 +7,7 @@ ghost use Rattle.divisor.specs.equations.Model.{EquationReady, IsEquatio
 ghost use Rattle.divisor.specs.points.Model.{next-column, ColumnReady, EquationsReady, Equations-before};
 use crate::sorting::Size;
 use crate::sorting::Sizes;
-use crate::table::COLUMNS;
+use crate::table::MOST_COLUMNS;
 use crate::table::Row;
 use crate::table::Table;
 use field::COORDINATES;
@@ -33,7 +33,7 @@ fn equation(
 {
     let p = u.modulus;
     let mut row = Row {
-        cells: [0; COLUMNS],
+        cells: [0; MOST_COLUMNS],
     };
     let mut j: usize = 0;
     while j < skeleton.len() {
@@ -72,7 +72,7 @@ fn point_equations(
         let u = zero.difference(Element::of(p, image[i]));
         let e = equation(ys, zs, ws, skeleton, i as KeyBits, column, u);
         // An equation without entries says nothing: adding it would only copy the table.
-        if crate::table::first_entry(e) < COLUMNS {
+        if crate::table::first_entry(e) < MOST_COLUMNS {
             s = crate::table::with_added(s, e, p);
         }
         i += 1;

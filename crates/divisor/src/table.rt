@@ -4,16 +4,16 @@
 ghost use mathlib.Core.Path.{_≡_};
 ghost use Rattle.field.specs.Contract.{element};
 ghost use Rattle.poly.specs.Search.{Searched};
-ghost use Rattle.divisor.specs.table.Model.{COLUMNS as columns-most, Entry, Columns, Column, Back, TableReady, Ready, empty-table, minus, scaled-row, with-row, kind, value, values, solved};
+ghost use Rattle.divisor.specs.table.Model.{most-columns, Entry, Columns, Column, Back, TableReady, StepReady, empty-table, minus, scaled-row, with-row, kind, value, values, solved};
 use field::Element;
 use field::MOST_KEYS;
 use field::MOST_POINTS;
 use field::Residue;
 
 // An unknown for each key that a skeleton can have, and a multiplier for each point, of which the first is fixed.
-pub(crate) const COLUMNS: usize = MOST_KEYS + MOST_POINTS;
+pub(crate) const MOST_COLUMNS: usize = MOST_KEYS + MOST_POINTS;
 
-pub(crate) type Cells = [Residue; COLUMNS];
+pub(crate) type Cells = [Residue; MOST_COLUMNS];
 
 pub(crate) struct Row {
     pub cells: Cells,
@@ -21,7 +21,7 @@ pub(crate) struct Row {
 
 // `columns` is one more than the number of unknowns.
 pub(crate) struct Table {
-    pub rows: [Row; COLUMNS],
+    pub rows: [Row; MOST_COLUMNS],
     pub columns: usize,
 }
 
@@ -44,10 +44,10 @@ impl Table {
         ensures { λ r. ⌜ r ≡ empty-table columns ⌝ }
     {
         let row = Row {
-            cells: [0; COLUMNS],
+            cells: [0; MOST_COLUMNS],
         };
         Table {
-            rows: [row; COLUMNS],
+            rows: [row; MOST_COLUMNS],
             columns,
         }
     }
@@ -55,10 +55,10 @@ impl Table {
 
 // The first column whose cell is not 0, or the number of columns where there is none.
 pub(crate) fn first_entry(row: Row) -> usize
-    ensures { λ r. ⌜ Searched (Entry row) columns-most r ⌝ }
+    ensures { λ r. ⌜ Searched (Entry row) most-columns r ⌝ }
 {
     let mut j: usize = 0;
-    while j < COLUMNS {
+    while j < MOST_COLUMNS {
         if row.cells[j] != 0 {
             return j;
         }
@@ -102,7 +102,7 @@ fn scaled(row: Row, j: usize, columns: usize, p: Residue) -> Row
 // One more equation: column after column the kept row is taken off, and the equation is kept in the first column where none is and its cell is not 0.
 // The table is copied once, at the top: with a copy where a row is kept there would be two tables to hand back, and each way out would copy again.
 pub(crate) fn with_equation(t: Table, e: Row, p: Residue) -> Table
-    requires { ⌜ Ready p t e ⌝ }
+    requires { ⌜ StepReady p t e ⌝ }
     ensures { λ r. ⌜ r ≡ with-row p t e ⌝ }
 {
     let columns = t.columns;
@@ -125,7 +125,7 @@ pub(crate) fn with_equation(t: Table, e: Row, p: Residue) -> Table
 
 // The same on a table that is lent.
 pub(crate) fn add_equation(t: &mut Table, e: Row, p: Residue)
-    requires { ⌜ Ready p (now t) e ⌝ }
+    requires { ⌜ StepReady p (now t) e ⌝ }
     ensures { λ _. ⌜ now (t .exit) ≡ with-row p (now (t .entry)) e ⌝ }
 {
     let next = with_equation(*t, e, p);
@@ -134,7 +134,7 @@ pub(crate) fn add_equation(t: &mut Table, e: Row, p: Residue)
 
 // The lender: by value outside, lent inside, so that a loop over equations carries the table by value.
 pub(crate) fn with_added(t: Table, e: Row, p: Residue) -> Table
-    requires { ⌜ Ready p t e ⌝ }
+    requires { ⌜ StepReady p t e ⌝ }
     ensures { λ r. ⌜ r ≡ with-row p t e ⌝ }
 {
     let mut s = t;
@@ -184,7 +184,7 @@ fn values_of(t: Table, p: Residue) -> Cells
     ensures { λ r. ⌜ r ≡ values p t ⌝ }
 {
     let last = t.columns - 1;
-    let mut values: Cells = [0; COLUMNS];
+    let mut values: Cells = [0; MOST_COLUMNS];
     let mut j = last;
     while j > 0 {
         j -= 1;
@@ -201,7 +201,7 @@ pub(crate) fn solution(t: Table, p: Residue) -> Solved
     ensures { λ r. ⌜ r ≡ solved p t ⌝ }
 {
     let kind = kind_of(t);
-    let zeros: Cells = [0; COLUMNS];
+    let zeros: Cells = [0; MOST_COLUMNS];
     match kind {
         Kind::None => Solved {
             kind: Kind::None,

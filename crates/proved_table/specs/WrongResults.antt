@@ -34,16 +34,16 @@ always-one = wrong-candidate p1 (report 0 (record { d = 1; bad = 0; unlucky = 0;
 
 -- writes nothing: P1's record, and an output that begins with 0 as lent
 abbrev pub writes-nothing : WrongCandidate
-writes-nothing = record { row = p1; output-begins = 0 ∷ []; work-begins = []; found = report 0 (record { d = 1; bad = 0; unlucky = 0; kept = 1 }) 2; terms = []; clears = true }
+writes-nothing = record { row = p1; output-begins = 0 ∷ []; work-begins = []; found = p1 .found; terms = []; clears = true }
 
 -- writes the first term only: the second number of the output is 0 as lent
 abbrev pub writes-one-term : WrongCandidate
-writes-one-term = record { row = p1; output-begins = 0 ∷ 0 ∷ []; work-begins = []; found = report 0 (record { d = 1; bad = 0; unlucky = 0; kept = 1 }) 2; terms = term-xy 1 1 0 ∷ []; clears = true }
+writes-one-term = record { row = p1; output-begins = 0 ∷ 0 ∷ []; work-begins = []; found = p1 .found; terms = term-xy 1 1 0 ∷ []; clears = true }
 
 -- writes past the count: the third number of the output was 0
 abbrev pub writes-past-the-count : WrongCandidate
 writes-past-the-count =
-    record { row = p1; output-begins = 0 ∷ 0 ∷ 0 ∷ []; work-begins = []; found = report 0 (record { d = 1; bad = 0; unlucky = 0; kept = 1 }) 2; terms = p1 .terms ++ (1 ∷ []); clears = true }
+    record { row = p1; output-begins = 0 ∷ 0 ∷ 0 ∷ []; work-begins = []; found = p1 .found; terms = p1 .terms ++ (1 ∷ []); clears = true }
 
 -- uses only the first kept point: of P10 that is y = 5, which leaves several solutions, as in P9
 abbrev pub first-kept-point : WrongCandidate
@@ -103,12 +103,12 @@ zeros-kept = wrong-candidate zeros-dropped (report 0 (record { d = 2; bad = 0; u
 
 -- the work room left as lent on refusal, where it begins with 1: P4's record
 abbrev pub work-room-left : WrongCandidate
-work-room-left = record { row = p4; output-begins = []; work-begins = 1 ∷ []; found = report 15 (record { d = 1; bad = 0; unlucky = 0; kept = 1 }) 0; terms = []; clears = false }
+work-room-left = record { row = p4; output-begins = []; work-begins = 1 ∷ []; found = p4 .found; terms = []; clears = false }
 
 -- P4's record, and the terms of what was refused in an output that began with 0
 abbrev pub refusal-writes : WrongCandidate
 refusal-writes =
-    record { row = p4; output-begins = 0 ∷ []; work-begins = []; found = report 15 (record { d = 1; bad = 0; unlucky = 0; kept = 1 }) 0; terms = term-xy 1 1 0 ∷ []; clears = true }
+    record { row = p4; output-begins = 0 ∷ []; work-begins = []; found = p4 .found; terms = term-xy 1 1 0 ∷ []; clears = true }
 
 -- 12 with no bad point counted: P2's point is bad
 abbrev pub bad-not-counted : WrongCandidate

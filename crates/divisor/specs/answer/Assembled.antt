@@ -22,7 +22,7 @@ use Rattle.poly.specs.Terms.{Polynomial, numbers-of, poly, coefficient-limit}
 use Rattle.poly.specs.PointImage.{Divides, Image}
 use Rattle.poly.specs.Room.{written, cleared}
 use Rattle.poly.specs.image.Laws.{image-within}
-use Rattle.divisor.specs.Rule.{Counts, none-good, report, Kept, Sorted, Unknowns, Solution, OnlySolution, without-zeros, made-monic, divisor, Verdict, none, several, rejected, accepted, all-bad, some-good}
+use Rattle.divisor.specs.Rule.{Counts, none-good, report, Kept, Sorted, Unknowns, Solution, OnlySolution, without-zeros, made-monic, divisor, Verdict, unsolvable, several, rejected, accepted, all-bad, some-good}
 use Rattle.divisor.specs.Candidate.{Call, table, prime, Numbers, A, B, monomials, lent-points, Result, Candidate, answered}
 use Rattle.divisor.specs.table.Meaning.{entries}
 use Rattle.divisor.specs.equations.Rows.{all-rows, with-coefficients, unknowns-of}
@@ -131,7 +131,7 @@ module _ (c : Call) (pass : Passes (table c)) (listed : Listed (c .modulus)) whe
     length-monomials = length-map (c .skeleton) exponents
 
     pub answer-none : linear.NoSolution (Numbers c listed) unknowns equations → Candidate c (result NO_SOLUTION [])
-    answer-none h = answer-verdict NO_SOLUTION [] (none (no-solution (Numbers c listed) (monomials c listed) k ks
+    answer-none h = answer-verdict NO_SOLUTION [] (unsolvable (no-solution (Numbers c listed) (monomials c listed) k ks
         (subst (λ (n : ℕ). linear.NoSolution (Numbers c listed) (n + length ks) equations) (sym length-monomials) h)))
 
     pub answer-several : (v w : List (Fp (c .modulus))) → linear.DifferentSolutions (Numbers c listed) unknowns equations v w

@@ -10,7 +10,7 @@ use Rattle.poly.specs.Lists.{of-lists}
 use Rattle.poly.specs.Room.{of-rooms, written, cleared}
 use Rattle.poly.specs.list.Check.{lists-one-place}
 use Rattle.divisor.specs.declared.CandidateRecord.{CandidateRecord}
-use Rattle.divisor.specs.Rule.{Answer}
+use Rattle.divisor.specs.Rule.{RuleAnswer}
 use Rattle.divisor.specs.Candidate.{Call, table, prime, Numbers, A, B, monomials, lent-points, refused-record, Result, Candidate, refused, answered, of-skeleton, of-points}
 use Rattle.divisor.specs.answer.Determined.{answer-determined}
 
@@ -22,7 +22,7 @@ table-one-place c =
     (whole-one-place _, (first-one-place _, (whole-one-place _, (first-one-place _, (whole-one-place _, (whole-one-place _, tt))))))
 
 abbrev pub answer-of : (c : Call) (listed : Listed (c .modulus)) → CandidateRecord → Polynomial (Numbers c listed) → Type 0
-answer-of c listed = Answer (Numbers c listed) (A c listed) (B c listed) (monomials c listed) (lent-points c listed)
+answer-of c listed = RuleAnswer (Numbers c listed) (A c listed) (B c listed) (monomials c listed) (lent-points c listed)
 
 abbrev pub result-of : (c : Call) (listed : Listed (c .modulus)) → CandidateRecord → Polynomial (Numbers c listed) → Result
 result-of c listed f G = record { found = f; output = written (numbers-of (c .modulus) (prime c listed) G) (c .output); work = cleared (c .work) }

@@ -14,7 +14,7 @@ use Rattle.divisor.specs.declared.table.Kind.{Kind}
 use Rattle.divisor.specs.declared.table.Kind.the-variants.{None, One, Several}
 use Rattle.divisor.specs.declared.table.Solved.{Solved}
 use Rattle.divisor.specs.declared.table.Table.{Table}
-use Rattle.divisor.specs.declared.verdict.Verdict.{Verdict}
+use Rattle.divisor.specs.declared.verdict.Ruling.{Ruling}
 use Rattle.divisor.specs.Rule.{Kept}
 use Rattle.divisor.specs.Candidate.{Call, table, prime, Numbers, monomials, Candidate}
 use Rattle.divisor.specs.table.Model.{Columns, TableReady, empty-table, solved}
@@ -25,7 +25,7 @@ use Rattle.divisor.specs.table.Answer.{table-answers, solved-below, solv
 use Rattle.divisor.specs.equations.Rows.{kept-rows, all-rows}
 use Rattle.divisor.specs.sorting.Model.{sizes-of, least, alike}
 use Rattle.divisor.specs.points.Model.{Looks, Equations-before}
-use Rattle.divisor.specs.verdict.Model.{NoGoodPoint, VerdictReady, Settles, Settled, MakesDivisor, none, several, rejected, accepted}
+use Rattle.divisor.specs.verdict.Model.{NoGoodPoint, VerdictReady, Settles, Settled, MakesDivisor, unsolvable, several, rejected, accepted}
 use Rattle.divisor.specs.checks.Passed.{point-count, looks-of, right-lists, keys-most, output-fits}
 use Rattle.divisor.specs.sorting.Laws.{least-is}
 use Rattle.divisor.specs.monic.Terms.{AllBelow, all-below}
@@ -135,7 +135,7 @@ module _ {c : Call} {after sizes : List ℕ} {m count : ℕ} (good : SomeGood c 
       -- what is settled is the rule's verdict
       settles : (number : ℕ) (terms : List ℕ) → Settles p (c .first-list) (c .second-list) (c .skeleton) s number terms
           → Candidate c (assembled.result c pass listed d (kept .at-least) k ks (kept .kept-is) number terms)
-      settles number terms (none e) = assembled.answer-none c pass listed d (kept .at-least) k ks (kept .kept-is) (says-as None e)
+      settles number terms (unsolvable e) = assembled.answer-none c pass listed d (kept .at-least) k ks (kept .kept-is) (says-as None e)
       settles number terms (several e) =
           let q = says-as Several e in assembled.answer-several c pass listed d (kept .at-least) k ks (kept .kept-is) (q .0) (q .1) (q .2)
       settles number terms (rejected e h) =
@@ -143,7 +143,7 @@ module _ {c : Call} {after sizes : List ℕ} {m count : ℕ} (good : SomeGood c 
       settles number terms (accepted e h) =
           assembled.answer-accepted c pass listed d (kept .at-least) k ks (kept .kept-is) (s .values) (says-as One e) long first-below (h P)
 
-      pub answered-so : (bad : ℕ) → bad ≡ alike 0 (take (point-count c) sizes) → {output work : List ℕ} (v : Verdict)
+      pub answered-so : (bad : ℕ) → bad ≡ alike 0 (take (point-count c) sizes) → {output work : List ℕ} (v : Ruling)
           → Settled (c .modulus) (c .first-list) (c .second-list) (c .skeleton) s (c .output) output after work v
           → (f : Fault) → f ≡ fault (v .number) 0
           → Candidate c (record {

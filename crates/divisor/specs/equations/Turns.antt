@@ -9,13 +9,13 @@ use lib.Seq.{getD-set-same, getD-set-other}
 use Rattle.poly.specs.Keys.{exponents}
 use Rattle.poly.specs.loops.Places.{replicate-all}
 use Rattle.divisor.specs.declared.table.Row.{Row}
-use Rattle.divisor.specs.table.Model.{COLUMNS, cell}
+use Rattle.divisor.specs.table.Model.{most-columns, cell}
 use Rattle.divisor.specs.equations.Model.{monomial-number, IsEquation}
 use Rattle.divisor.specs.equations.RowLaws.{number-here, number-there}
 
 -- the keys before j have their numbers, and all other cells are 0
 pub record EquationSo (p : ℕ) (ys zs ws ks : List ℕ) (i j : ℕ) (r : Row) : Type 0 where
-  pub size : length (r .cells) ≡ COLUMNS
+  pub size : length (r .cells) ≡ most-columns
   pub done : (k : ℕ) → k < j → cell r k ≡ monomial-number p ys zs ws i (getD ks k 0)
   pub left : (k : ℕ) → j ≤ k → cell r k ≡ 0
 
@@ -23,11 +23,11 @@ abbrev pub with-cell : Row → ℕ → ℕ → Row
 with-cell r j v = record { cells = set (r .cells) j v }
 
 module _ (p : ℕ) (ys zs ws ks : List ℕ) (i : ℕ) where
-  pub equation-start : EquationSo p ys zs ws ks i 0 (record { cells = replicate COLUMNS 0 })
+  pub equation-start : EquationSo p ys zs ws ks i 0 (record { cells = replicate most-columns 0 })
   equation-start = record {
-    size = length-replicate {A = ℕ} COLUMNS 0;
+    size = length-replicate {A = ℕ} most-columns 0;
     done = λ k l. absurd (omega arith);
-    left = λ k l. replicate-all (λ a. a ≡ 0) COLUMNS k 0 0 refl refl;
+    left = λ k l. replicate-all (λ a. a ≡ 0) most-columns k 0 0 refl refl;
   }
 
   module _ (j : ℕ) (r : Row) (h : EquationSo p ys zs ws ks i j r) where
@@ -43,7 +43,7 @@ module _ (p : ℕ) (ys zs ws ks : List ℕ) (i : ℕ) where
             h .left k (omega arith) ∙ sym (ap (λ (m : ℕ). monomial-number p ys zs ws i (getD ks m 0)) e ∙ number-there p ys zs ws i (getD ks j 0) n)
         go k l (no e) = h .done k (omega arith)
 
-    pub equation-taken : (v : ℕ) → exponents (getD ks j 0) .x ≡ i → j < COLUMNS
+    pub equation-taken : (v : ℕ) → exponents (getD ks j 0) .x ≡ i → j < most-columns
         → v ≡ (getD ys (exponents (getD ks j 0) .y) 0 * getD zs (exponents (getD ks j 0) .z) 0) % p * getD ws (exponents (getD ks j 0) .w) 0 % p
         → EquationSo p ys zs ws ks i (j + 1) (with-cell r j v)
     equation-taken v e b q = record {
@@ -58,7 +58,7 @@ module _ (p : ℕ) (ys zs ws ks : List ℕ) (i : ℕ) where
             ∙ sym (ap (λ (m : ℕ). monomial-number p ys zs ws i (getD ks m 0)) z ∙ number-here p ys zs ws i (getD ks j 0) e)
         go k l (no z) = getD-set-other (r .cells) j k v 0 z ∙ h .done k (omega arith)
 
-    pub equation-end : (column u : ℕ) → length ks ≤ j → j ≤ length ks → length ks ≤ column → column < COLUMNS
+    pub equation-end : (column u : ℕ) → length ks ≤ j → j ≤ length ks → length ks ≤ column → column < most-columns
         → IsEquation p ys zs ws ks i column u (with-cell r column u)
     equation-end column u l m b c = record {
       size = length-set (r .cells) column u ∙ h .size;

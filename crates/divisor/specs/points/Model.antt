@@ -20,7 +20,7 @@ use Rattle.divisor.specs.declared.table.Row.{Row}
 use Rattle.divisor.specs.declared.table.Table.{Table}
 use Rattle.divisor.specs.Rule.{Kept}
 use Rattle.divisor.specs.Candidate.{most-points, most-point-numbers, point-at}
-use Rattle.divisor.specs.table.Model.{COLUMNS, empty-table}
+use Rattle.divisor.specs.table.Model.{most-columns, empty-table}
 use Rattle.divisor.specs.table.Meaning.{added, rows-of, AllReady}
 use Rattle.divisor.specs.equations.Rows.{kept-rows}
 use Rattle.divisor.specs.sorting.Model.{size-of, alike}
@@ -65,7 +65,7 @@ next-column n (suc kept) = kept
 -- some column behind the keys, and not all multipliers placed
 pub record ColumnReady (keys kept columns : ℕ) : Type 0 where
   pub behind : keys < columns
-  pub most : columns ≤ COLUMNS
+  pub most : columns ≤ most-columns
   pub left : keys + kept < columns
 
 -- what all equations ask for
@@ -79,7 +79,7 @@ pub record EquationsReady (p : ℕ) (ks points sizes work : List ℕ) (m columns
   pub images : (i : ℕ) → i < length points / 3 → Eight p (image-at work i)
   pub some : 0 < alike m (take (length points / 3) sizes)
   pub columns-are : columns ≡ length ks + alike m (take (length points / 3) sizes)
-  pub most : columns ≤ COLUMNS
+  pub most : columns ≤ most-columns
 
 -- the table of the equations of the kept points before i
 pub record Equations-before (i p : ℕ) (ks points sizes work : List ℕ) (m columns : ℕ) (t : Table) : Type 0 where

@@ -111,7 +111,7 @@ least-is a (s ∷ sizes) = go (lesser a s) (lesser-is a s) (least-from (lesser a
 module _ {p : ℕ} (P : Prime p) (A B : Polynomial (Modulo p P)) where
   -- each point with the record of its image
   pub data Looked : List (Point (Modulo p P .ring)) → List ImageRecord → Type 0 where
-    none : Looked [] []
+    nowhere : Looked [] []
     one : {at : Point (Modulo p P .ring)} {points : List (Point (Modulo p P .ring))} {r : ImageRecord} {looks : List ImageRecord}
         → PointAnswer p P A B at r → Looked points looks → Looked (at ∷ points) (r ∷ looks)
 
@@ -119,7 +119,7 @@ module _ {p : ℕ} (P : Prime p) (A B : Polynomial (Modulo p P)) where
   pub all-bad : (points : List (Point (Modulo p P .ring))) (looks : List ImageRecord) → Looked points looks → AllZero (sizes-of looks)
       → AllBad (Modulo p P) A B points
   unfolding size-of
-  all-bad points looks none h = tt
+  all-bad points looks nowhere h = tt
   all-bad points looks (one (bad x) rest) h = (x, all-bad _ _ rest (h .1))
   all-bad points looks (one (good degree cs e i) rest) h = absurd (let z : suc degree ≡ 0 = h .0 in omega arith)
 
@@ -146,7 +146,7 @@ module _ {p : ℕ} (P : Prime p) (A B : Polynomial (Modulo p P)) where
   -- the least size is that of the kept points
   pub sorted : (d : ℕ) (points : List (Point (Modulo p P .ring))) (looks : List ImageRecord) → Looked points looks → AtLeast (suc d) (sizes-of looks)
       → (u : ℕ) × Sorted (Modulo p P) A B d points (alike 0 (sizes-of looks)) u (kept-of P (suc d) points looks)
-  sorted d [] [] none h = (unfold alike kept-of in (0, done))
+  sorted d [] [] nowhere h = (unfold alike kept-of in (0, done))
   sorted d (at ∷ points) (r ∷ looks) (one (bad x) rest) h =
       let s = sorted d points looks rest (h .1) in
       sorted-by d at points r looks 0 (unfold size-of in refl)
@@ -166,7 +166,7 @@ module _ {p : ℕ} (P : Prime p) (A B : Polynomial (Modulo p P)) where
   pub kept-count : (m : ℕ) (points : List (Point (Modulo p P .ring))) (looks : List ImageRecord) → Looked points looks
       → length (kept-of P m points looks) ≡ alike m (sizes-of looks)
   unfolding alike kept-of
-  kept-count m points looks none = refl
+  kept-count m points looks nowhere = refl
   kept-count m (at ∷ points) (r ∷ looks) (one a rest) = go (eqb (size-of r) m) (kept-count m points looks rest)
     where
       go : (b : Bool) → length (kept-of P m points looks) ≡ alike m (sizes-of looks)

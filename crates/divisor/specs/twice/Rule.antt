@@ -15,7 +15,7 @@ use Rattle.poly.specs.PointImage.{Bad, Image}
 use Rattle.poly.specs.value.Laws.{WithinX}
 use Rattle.poly.specs.image.Laws.{image-within}
 use Rattle.divisor.specs.declared.CandidateRecord.{CandidateRecord}
-use Rattle.divisor.specs.Rule.{none-good, report, Kept, Sorted, bad, unlucky, keep, AllBad, Answer, all-bad, some-good}
+use Rattle.divisor.specs.Rule.{none-good, report, Kept, Sorted, bad, unlucky, keep, AllBad, RuleAnswer, all-bad, some-good}
 use Rattle.divisor.specs.Repeated.{OneMore, one-bad, one-unlucky, one-kept}
 use Rattle.divisor.specs.twice.Equations.{Inserted, here, there, Again, behind, later, again-length, repeated-verdict}
 
@@ -91,11 +91,11 @@ module _ (K : Field) (A B : Polynomial K) where
   -- an answer that differs in one count of points alone
   pub record AnsweredAlike (es : List Exponents) (at : Point R) (points : List (Point R)) (r : CandidateRecord) (G : Polynomial K) : Type 0 where
     pub found : CandidateRecord
-    pub answer : Answer K A B es points found G
+    pub answer : RuleAnswer K A B es points found G
     pub one-more : OneMore K A B at r found
 
   pub repeated-point : WithinX K 7 A → (es : List Exponents) {at : Point R} {ps qs : List (Point R)} → Again at ps qs
-      → (r : CandidateRecord) (G : Polynomial K) → Answer K A B es ps r G → AnsweredAlike es at qs r G
+      → (r : CandidateRecord) (G : Polynomial K) → RuleAnswer K A B es ps r G → AnsweredAlike es at qs r G
   repeated-point small es {at} {ps} {qs} a r G (all-bad h) = record {
     found = report NO_GOOD_POINT (none-good (length qs)) 0;
     answer = all-bad (bad-again a h);

@@ -137,8 +137,8 @@ returns c =
     let s = c .before .before .before in
     let l = c .before .loop in
     let a = s .args in
-    equation-end (a .u .modulus) (a .t1) (a .t2) (a .t3) (a .skeleton .now) (a .i) (l .j) (l .row) (l .inv .1) (a .column) (a .u .value) (c .loop-test .left) (l .inv .0)
-    (s .pre .behind) (s .pre .within)
+    equation-end (a .u .modulus) (a .t1) (a .t2) (a .t3) (a .skeleton .now) (a .i) (l .j) (l .row) (l .inv .1) (a .column)
+    (a .u .value) (c .loop-test .left) (l .inv .0) (s .pre .behind) (s .pre .within)
 
 pub equation-spec : {M : Type 1} → statement M
 equation-spec =

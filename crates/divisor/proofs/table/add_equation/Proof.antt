@@ -38,7 +38,7 @@ use denote.Triple.Spec.{Meets, tripleOf}
 use denote.Triple.Table.{entered, cited}
 use denote.Triple.Walked.{says, needs, Stays, stay-ref, stay-none, walkOf, AllGo, goes-none, goes-ref, Walks, ends-at, walked, walk-meets}
 use denote.Exit.{yes}
-use Rattle.divisor.specs.table.Model.{Ready, with-row}
+use Rattle.divisor.specs.table.Model.{StepReady, with-row}
 use Rattle.divisor.specs.declared.table.Table.{Table}
 use Rattle.divisor.specs.declared.table.Row.{Row}
 use Rattle.divisor.proofs.table.Table as T
@@ -104,14 +104,14 @@ module _ {M : Type 1} (𝓤 : URA M) (H : Heap 𝓤) (A : Atoms 𝓤) (W : Given
   abbrev to-step : With 𝓤 H A at-mem run .Ghost
   to-step = ((tt, tt, tt, (h, (e, (p, tt))), (tvals h, (rval e ∷ [], (vint w16 p ∷ [], tt)))), tt)
 
-  goes-step : Ready p h e → ent 𝓤 (sem 𝓤 H A (T.the-row .own h (tvals h))) (With 𝓤 H A at-mem run .pre to-step)
+  goes-step : StepReady p h e → ent 𝓤 (sem 𝓤 H A (T.the-row .own h (tvals h))) (With 𝓤 H A at-mem run .pre to-step)
   goes-step ready =
       qed W (‵ (T.the-row .own h (tvals h)) ∷ []) ∵ says ! ready $ nothing ! $ owned ! u16 (Is u16) (uint-makes 𝓤 H A W w16) p _ (refl, p-fits) $ fjoin ! $
       owned ! R.the-row (Is R.the-row) (LL.makes R.the-type R′.the-plain 𝓤 H A) e _ e-is $ fjoin ! $ move ! (1 ∷ 0 ∷ []) $ fjoin ! $ nothing ! $ frame ! $
       done !
 
   module _ (C : Calls 𝓤 H) (Λ : Loops 𝓤 H) (fm : FmC 𝓤 H (W .laws) C) (known : Triple 𝓤 (C #with-equation) (With 𝓤 H A at-mem run)) where
-    walk : Ready p h e → ent 𝓤 (onEntry 𝓤 H A add.signature (κ, tt) (q, tt) x at) (WpFn 𝓤 H C Λ code.function (vptr b o ∷ rval e ∷ vint w16 p ∷ []) Post)
+    walk : StepReady p h e → ent 𝓤 (onEntry 𝓤 H A add.signature (κ, tt) (q, tt) x at) (WpFn 𝓤 H C Λ code.function (vptr b o ∷ rval e ∷ vint w16 p ∷ []) Post)
     walk ready =
         qed W ((‵ (flft κ q) ⊛ ‵ ftrue) ∷ ‵ (owns (MutRef (named 0) κ T.the-row ∷ R.the-row ∷ u16 ∷ []) x at) ∷ []) ∵ split ! $ move ! (2 ∷ []) $ fsplit ! $
         fsplit3 ! $ drop ! $ move ! (0 ∷ 1 ∷ 3 ∷ []) $
@@ -155,7 +155,7 @@ module _ {M : Type 1} (𝓤 : URA M) (H : Heap 𝓤) (A : Atoms 𝓤) (W : Given
   add-walks C Λ fm known = walked 𝓤 H A add.ended stayed (add.clauses 𝓤 H A at-mem run) (WpFn 𝓤 H C Λ code.function)
       (λ κs. (ptr-vals, (LL.vals R.the-type R′.the-laws, (uint-vals w16, tt))))
       (λ κs. (mut-tells (named 0) (κs .0) T.the-row, (LL.tells R.the-type R′.the-laws, (uint-tells w16, tt))))
-      (λ κs qs bounds a g are. needs 𝓤 (Ready (a .1 .1 .0) (a .0 .now) (a .1 .0)) _
+      (λ κs qs bounds a g are. needs 𝓤 (StepReady (a .1 .1 .0) (a .0 .now) (a .1 .0)) _
       (walk 𝓤 H A W at-mem run (κs .0) (qs .0) (a .0 .ptr .0) (a .0 .ptr .1) (a .0 .name) (a .0 .now) (a .1 .0) (a .1 .1 .0)
       (are .1 .0) (are .1 .1 .0 .1) C Λ fm known))
 

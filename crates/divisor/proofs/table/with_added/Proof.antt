@@ -38,7 +38,7 @@ use denote.Triple.Spec.{Meets, tripleOf}
 use denote.Triple.Table.{entered, cited}
 use denote.Triple.Walked.{says, needs, Stays, stay-none, walkOf, AllGo, goes-none, Walks, ends-at, walked, walk-meets}
 use denote.Exit.{yes}
-use Rattle.divisor.specs.table.Model.{Ready, with-row}
+use Rattle.divisor.specs.table.Model.{StepReady, with-row}
 use Rattle.divisor.specs.declared.table.Table.{Table}
 use Rattle.divisor.specs.declared.table.Row.{Row}
 use Rattle.divisor.proofs.table.Table as T
@@ -117,7 +117,7 @@ module _ {M : Type 1} (𝓤 : URA M) (H : Heap 𝓤) (A : Atoms 𝓤) (W : Given
   abbrev to-add : ℕ → GName → ℕ → Add 𝓤 H A at-mem run .Ghost
   to-add α γ l = (((α ∷ [], tt), (fullShare, tt), tt, (ref l γ, (e, (p, tt))), (vptr l 0 ∷ [], (rval e ∷ [], (vint w16 p ∷ [], tt)))), tt)
 
-  goes-add : (α : ℕ) (γ : GName) (l : ℕ) → Ready p t e
+  goes-add : (α : ℕ) (γ : GName) (l : ℕ) → StepReady p t e
       → ent 𝓤 (sep 𝓤 (A .lft (α ∷ []) fullShare)
       (sem 𝓤 H A (MutRef (named 0) (α ∷ []) T.the-row .own (ref l γ) (vptr l 0 ∷ [])))) (Add 𝓤 H A at-mem run .pre (to-add α γ l))
   goes-add α γ l ready =
@@ -127,7 +127,7 @@ module _ {M : Type 1} (𝓤 : URA M) (H : Heap 𝓤) (A : Atoms 𝓤) (W : Given
       owned ! R.the-row (Is R.the-row) (LL.makes R.the-type R′.the-plain 𝓤 H A) e _ e-is $ fjoin ! $ move ! (1 ∷ 0 ∷ []) $ fjoin ! $ done !
 
   module _ (C : Calls 𝓤 H) (Λ : Loops 𝓤 H) (fm : FmC 𝓤 H (W .laws) C) (known : Triple 𝓤 (C #add-equation) (Add 𝓤 H A at-mem run)) where
-    walk : Ready p t e → ent 𝓤 (onEntry 𝓤 H A outer.signature tt tt x at) (WpFn 𝓤 H C Λ code.function (tval t ∷ rval e ∷ vint w16 p ∷ []) Post)
+    walk : StepReady p t e → ent 𝓤 (onEntry 𝓤 H A outer.signature tt tt x at) (WpFn 𝓤 H C Λ code.function (tval t ∷ rval e ∷ vint w16 p ∷ []) Post)
     walk ready =
         qed W (‵ ftrue ∷ ‵ (owns (T.the-row ∷ R.the-row ∷ u16 ∷ []) x at) ∷ []) ∵ drop ! $ drop ! $
         enter ! C Λ code.function (tval t ∷ rval e ∷ vint w16 p ∷ []) _ $
@@ -177,7 +177,7 @@ module _ {M : Type 1} (𝓤 : URA M) (H : Heap 𝓤) (A : Atoms 𝓤) (W : Given
   outer-walks C Λ fm known = walked 𝓤 H A outer.ended stayed (outer.clauses 𝓤 H A at-mem run) (WpFn 𝓤 H C Λ code.function)
       (λ κs. (LL.vals T.the-type T′.the-laws, (LL.vals R.the-type R′.the-laws, (uint-vals w16, tt))))
       (λ κs. (LL.tells T.the-type T′.the-laws, (LL.tells R.the-type R′.the-laws, (uint-tells w16, tt))))
-      (λ κs qs bounds a g are. needs 𝓤 (Ready (a .1 .1 .0) (a .0) (a .1 .0)) _
+      (λ κs qs bounds a g are. needs 𝓤 (StepReady (a .1 .1 .0) (a .0) (a .1 .0)) _
       (walk 𝓤 H A W at-mem run (a .0) (a .1 .0) (a .1 .1 .0) (are .0) (are .1 .0) (are .1 .1 .0 .1) C Λ fm known))
 
   goes : AllGo 𝓤 H A W 0 (outer.signature .params) (outer.ended .kept) stayed

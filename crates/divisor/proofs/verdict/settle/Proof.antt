@@ -1,5 +1,5 @@
 -- `divisor::verdict::settle` meets its contract, by the kind of the solution. Assumes nothing.
-use Rattle.divisor.specs.verdict.Model.{none, several}
+use Rattle.divisor.specs.verdict.Model.{unsolvable, several}
 use Rattle.divisor.specs.verdict.Laws.{settled-refused, only-ready, settled-only}
 use borrow.Author.Needs.{needs}
 use Rattle.divisor.proofs.verdict.settle.Statement.{statement}
@@ -30,7 +30,7 @@ same-length c = search needs
 
 returns : tie.Need-returns
 returns c =
-    settled-refused (none (c .before .before .before .before .enum-told .given .1)) (c .before .before .refused .ensures)
+    settled-refused (unsolvable (c .before .before .before .before .enum-told .given .1)) (c .before .before .refused .ensures)
 
 same-length-2 : tie.Need-same-length-2
 same-length-2 c = search needs
