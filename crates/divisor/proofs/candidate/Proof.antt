@@ -1,4 +1,4 @@
--- `divisor::candidate` meets its contract: the fault of the table, or the answer. Assumes nothing.
+-- `divisor::candidate` meets its contract: the fault of the table, or the answer.
 use Rattle.field.specs.faults.Laws.{tested-refuses, tested-passes}
 use Rattle.divisor.specs.Candidate.{Call, candidate-call, table, refused}
 use borrow.Author.Needs.{needs}
@@ -11,6 +11,10 @@ question s =
     let a = s .args in
     candidate-call (a .p) (a .first .now) (a .second .now) (a .skeleton .now) (a .points .now) (a .out .now) (a .work .now)
 
+-- with the inputs tested: where the routine began
+abbrev start : tie.After-candidate-fault → tie.Start
+start f = f .before .before .before .before .before .before .before
+
 candidate-fault-requires : tie.Need-candidate-fault-requires
 candidate-fault-requires c κs = search needs
 
@@ -20,15 +24,15 @@ refused-requires c κs = search needs
 returns : tie.Need-returns
 returns c =
     let test = c .before in
-    let s = test .before .before .before .before .before .before .before .before .before in
-    let f = test .before .before .candidate-fault in
-    rw (c .refused .ensures) (refused (f .result) (tested-refuses (table (question s)) (f .result) (f .ensures) (test .if1 .taken)))
+    let f = test .before .before in
+    rw (c .refused .ensures)
+    (refused _ (tested-refuses (table (question (start f))) _ (f .candidate-fault .ensures) (test .if1 .taken)))
 
 answer-requires : tie.Need-answer-requires
 answer-requires c κs =
-    let s = c .before .before .before .before .before .before .before .before .before .before .before in
-    let f = c .before .before .before .before .candidate-fault in
-    tested-passes (table (question s)) tt (f .result) (f .ensures) (c .before .before .if1 .left) .0
+    let test = c .before .before in
+    let f = test .before .before in
+    tested-passes (table (question (start f))) tt _ (f .candidate-fault .ensures) (test .if1 .left) .0
 
 same-length : tie.Need-same-length
 same-length c = search needs

@@ -1,5 +1,5 @@
 -- What the routine finds, put together, meets the promise of the call: from the images looked at, what the equations have for solutions,
--- and the two trial divisions. Assumes nothing.
+-- and the two trial divisions.
 use mathlib.Core.Path.{_≡_, refl, sym, _∙_, ap, subst}
 use mathlib.Core.List.{List, [], _∷_, map}
 use Prim.Native.Nat.{ℕ, suc, _+_, _-_, _≤_, _<_}

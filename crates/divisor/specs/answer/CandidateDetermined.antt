@@ -1,4 +1,4 @@
--- The promise of the candidate call settles the record, the output and the work room: two results that meet it are equal. Assumes nothing.
+-- The promise of the candidate call settles the record, the output and the work room: two results that meet it are equal.
 use mathlib.Core.Path.{_≡_, subst}
 use mathlib.Core.List.{_++_}
 use lib.ListN.{length}

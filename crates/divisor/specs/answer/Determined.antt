@@ -1,4 +1,4 @@
--- The rule settles its answer: two answers to the same question are equal. Assumes nothing.
+-- The rule settles its answer: two answers to the same question are equal.
 use mathlib.Core.Path.{_≡_, refl, sym, _∙_, ap, ap₂, subst}
 use mathlib.Core.List.{List, _∷_}
 use lib.ListN.{length}

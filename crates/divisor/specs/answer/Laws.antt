@@ -1,4 +1,4 @@
--- From what the calls of the routine give back to the promise of the call, where the inputs pass. Assumes nothing.
+-- From what the calls of the routine give back to the promise of the call, where the inputs pass.
 use mathlib.Core.Path.{_≡_, sym, _∙_, ap, ap₂, subst}
 use mathlib.Core.List.{List}
 use Prim.Native.Nat.{ℕ, zero, suc, _+_, _-_, _≤_, _<_}

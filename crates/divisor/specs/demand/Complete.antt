@@ -1,5 +1,5 @@
 -- Demand 3, second half, of the rule: where the kept points settle one solution, and A and B have a common divisor of degree d in x with only
--- proposed monomials, that one, made monic, is the answer. Assumes nothing.
+-- proposed monomials, that one, made monic, is the answer.
 use mathlib.Core.Path.{_≡_, sym, _∙_, ap, subst}
 use mathlib.Core.List.{List, [], _∷_, map}
 use lib.ListN.{length}

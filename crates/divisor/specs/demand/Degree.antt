@@ -1,4 +1,4 @@
--- Demand 3, first half, of the rule: an accepted G divides A and B, has the degree d in x, and no common divisor has a higher one. Assumes nothing.
+-- Demand 3, first half, of the rule: an accepted G divides A and B, has the degree d in x, and no common divisor has a higher one.
 use mathlib.Core.Path.{_≡_, sym, _∙_, ap, subst}
 use mathlib.Core.Logic.{_⊎_, inl, inr}
 use mathlib.Core.List.{List, [], _∷_}

@@ -1,4 +1,4 @@
--- The turns of the loop that adds the equations of a point: one more power of x at the end. Assumes nothing.
+-- The turns of the loop that adds the equations of a point: one more power of x at the end.
 use mathlib.Core.Path.{_≡_, refl, sym, _∙_, ap, ap₂, subst}
 use mathlib.Core.List.{List, [], _∷_, _++_, map}
 use Prim.Native.Nat.{ℕ, zero, suc, _+_, _-_, _%_, _<_}

@@ -1,4 +1,4 @@
--- The points one after the other, with the records of their images: what the code has seen is what the rule speaks of. Assumes nothing.
+-- The points one after the other, with the records of their images: what the code has seen is what the rule speaks of.
 use mathlib.Core.Path.{_≡_, refl, sym, _∙_, ap, ap₂, subst}
 use mathlib.Core.Bool.{Bool, true, false}
 use mathlib.Core.List.{List, [], _∷_, _++_, append-assoc, append-nil}

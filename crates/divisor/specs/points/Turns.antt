@@ -1,4 +1,4 @@
--- The turns of the loop over the points that adds the equations of the kept ones. Assumes nothing.
+-- The turns of the loop over the points that adds the equations of the kept ones.
 use mathlib.Core.Path.{_≡_, refl, sym, _∙_, ap, ap₂, subst}
 use mathlib.Core.List.{List, [], _∷_, _++_, map, append-assoc, append-nil}
 use Prim.Native.Nat.{ℕ, zero, suc, _+_, _-_, _/_, _≤_, _<_}

@@ -1,4 +1,4 @@
--- Sorting by size is the sorting of the rule: sizes of 0 are bad points, the least size is that of the kept ones. Assumes nothing.
+-- Sorting by size is the sorting of the rule: sizes of 0 are bad points, the least size is that of the kept ones.
 use mathlib.Core.Path.{_≡_, refl, sym, _∙_, ap, subst}
 use mathlib.Core.Logic.{_⊎_, inl, inr}
 use mathlib.Core.Bool.{Bool, true, false}

@@ -1,4 +1,4 @@
--- Equations added one after the other: the table stays ready, keeps its columns, and takes two lists one after the other. Assumes nothing.
+-- Equations added one after the other: the table stays ready, keeps its columns, and takes two lists one after the other.
 use mathlib.Core.Path.{_≡_, refl, ap, _∙_}
 use mathlib.Core.List.{List, [], _∷_, _++_}
 use Prim.Native.Nat.{ℕ}

@@ -1,5 +1,5 @@
 -- The table's answer is right: for equations of n unknowns, taken one after the other into the empty table, `None` says that there is no solution,
--- `One` that the values are the only one, and `Several` that there are two different ones. Assumes nothing.
+-- `One` that the values are the only one, and `Several` that there are two different ones.
 use mathlib.Core.Path.{_≡_, refl, sym, ap, _∙_, subst}
 use mathlib.Core.Bool.{Bool, true, false}
 use mathlib.Core.List.{List, [], _∷_}

@@ -1,4 +1,4 @@
--- The entries of rows: what subtracting, scaling and setting do to them in the field. Assumes nothing.
+-- The entries of rows: what subtracting, scaling and setting do to them in the field.
 use mathlib.Core.Path.{_≡_, refl, sym, ap, ap₂, _∙_}
 use mathlib.Core.List.{List, _∷_}
 use Prim.Native.Nat.{ℕ, zero, suc, _+_, _-_, _*_, _%_, _<_, _≤_}

@@ -1,4 +1,4 @@
--- The empty table is ready, and a step keeps the table ready for the next equation, with as many columns as it had. Assumes nothing.
+-- The empty table is ready, and a step keeps the table ready for the next equation, with as many columns as it had.
 use mathlib.Core.Path.{_≡_, refl, _∙_}
 use mathlib.Core.Bool.{Bool, true, false}
 use Prim.Native.Nat.{ℕ, zero, suc, _<_, _≤_}

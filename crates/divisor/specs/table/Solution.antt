@@ -1,4 +1,4 @@
--- Where a row is kept in each column before the last, the values of back substitution are the solution over the field. Assumes nothing.
+-- Where a row is kept in each column before the last, the values of back substitution are the solution over the field.
 use mathlib.Core.Path.{_≡_, refl, sym, ap, ap₂, _∙_, subst}
 use mathlib.Core.Bool.{Bool, true, false}
 use mathlib.Core.List.{List, [], _∷_}

@@ -1,4 +1,4 @@
--- A step of the model is a step of algebra's table. Assumes nothing.
+-- A step of the model is a step of algebra's table.
 use mathlib.Core.Path.{_≡_, refl, sym, ap, ap₂, _∙_}
 use mathlib.Core.Bool.{Bool, true, false}
 use mathlib.Core.List.{List, [], _∷_}

@@ -1,4 +1,4 @@
--- The table's models one turn at a time, as the loops of the code move. Assumes nothing.
+-- The table's models one turn at a time, as the loops of the code move.
 use mathlib.Core.Path.{_≡_, refl, sym, ap, _∙_}
 use mathlib.Core.Bool.{Bool, true, false}
 use mathlib.Core.List.{List}

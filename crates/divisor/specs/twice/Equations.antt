@@ -1,5 +1,5 @@
 -- A point may occur twice: it then adds no knowledge and does no harm. A kept point that is kept once more, at any place behind, changes nothing in what
--- the equations settle. Assumes nothing.
+-- the equations settle.
 use mathlib.Core.Path.{_≡_, refl, sym, ap, _∙_, subst}
 use mathlib.Core.Logic.{_↔_}
 use mathlib.Core.List.{List, [], _∷_}

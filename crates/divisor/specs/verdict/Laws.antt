@@ -1,4 +1,4 @@
--- Two trial divisions one after the other, the terms written into the output one by one, and what a solution settles. Assumes nothing.
+-- Two trial divisions one after the other, the terms written into the output one by one, and what a solution settles.
 use mathlib.Core.Path.{_≡_, refl, sym, _∙_, ap, subst}
 use mathlib.Core.Bool.{Bool, true, false, not, true≢false}
 use mathlib.Core.List.{List, [], _∷_, _++_}

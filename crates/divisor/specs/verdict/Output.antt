@@ -1,4 +1,4 @@
--- What an answered call writes can be read again: the terms first in the output are the polynomial that is handed out. Assumes nothing.
+-- What an answered call writes can be read again: the terms first in the output are the polynomial that is handed out.
 use mathlib.Core.Path.{_≡_, refl, sym, _∙_, ap, ap₂, subst}
 use mathlib.Core.List.{List, [], _∷_, map}
 use lib.ListN.{length, take}

@@ -1,4 +1,4 @@
--- `divisor::checks::candidate_fault` meets its contract: the table is tested part by part, and the first fault is given. Assumes nothing.
+-- `divisor::checks::candidate_fault` meets its contract: the table is tested part by part, and the first fault is given.
 use mathlib.Core.List.{List, _++_}
 use lib.ListN.{length}
 use Rattle.field.specs.Refusal.{Line, Tested}

@@ -1,4 +1,4 @@
--- `divisor::checks::first_wrong_key` meets its contract. The invariant: no key before i is wrong, and the key before is at hand. Assumes nothing.
+-- `divisor::checks::first_wrong_key` meets its contract. The invariant: no key before i is wrong, and the key before is at hand.
 use Prim.Native.Nat.{_-_}
 use lib.ListN.{length}
 use Rattle.divisor.specs.checks.Laws.{KeysSo, keys-start, keys-stop, keys-next, keys-end}

@@ -7,18 +7,22 @@ use native.Mathlib.Omega.{arith}
 use lib.ListN.{length, getD}
 use Rattle.field.specs.Contract.{product-of}
 use Rattle.field.specs.modulus.Laws.{listed-positive}
-use Rattle.divisor.specs.equations.Turns.{EquationSo, equation-start, equation-passed, equation-taken, equation-end}
+use Rattle.poly.specs.loops.CellsModel.{Filled}
+use Rattle.divisor.specs.table.Model.{zeros}
+use Rattle.divisor.specs.equations.Turns.{number-at, equation-start, equation-passed, equation-taken, equation-end}
 use Rattle.divisor.proofs.equations.equation.Statement.{statement}
 use Rattle.divisor.proofs.equations.equation.Tie as tie
 
 abbrev Inv-loop : tie.InvT-loop
-Inv-loop skeleton i column u ys zs ws p row₀ j₀ row j = (j ≤ length skeleton) × EquationSo p ys zs ws skeleton i j row
+Inv-loop skeleton i column u ys zs ws p row₀ j₀ row j = (j ≤ length skeleton) × Filled (number-at p ys zs ws skeleton i) zeros j (row .cells)
 
 abbrev μ-loop : tie.MeasureT-loop
 μ-loop skeleton i column u ys zs ws p row₀ j₀ row j = length skeleton - j
 
 loop-holds : tie.Need-loop-holds Inv-loop μ-loop
-loop-holds c = (omega arith, equation-start _ _ _ _ _ _)
+loop-holds c =
+    let a = c .before .args in
+    (omega arith, equation-start (a .u .modulus) (a .t1) (a .t2) (a .t3) (a .skeleton .now) (a .i))
 
 mul-if1 : tie.Need-mul-if1 Inv-loop μ-loop
 mul-if1 c = search needs
@@ -106,13 +110,14 @@ loop-again c =
     let l = c .before .before .before .before .loop in
     let a = s .args in
     let p = a .u .modulus in
+    let number = number-at p (a .t1) (a .t2) (a .t3) (a .skeleton .now) (a .i) in
     let x = c .before .x .ensures in
     ⊎-elim
     (λ w.
     let yz = w .5 .ensures ∙ (λ n. product-of (w .2 .ensures n) (w .4 .ensures n)) in
     let yzw = w .8 .ensures ∙ (λ n. product-of (yz n) (w .7 .ensures n)) in (
       omega arith,
-      subst (EquationSo p (a .t1) (a .t2) (a .t3) (a .skeleton .now) (a .i) (l .j + 1)) (sym (w .9))
+      subst (λ r. Filled number zeros (l .j + 1) (r .cells)) (sym (w .9))
           (equation-taken p (a .t1) (a .t2) (a .t3) (a .skeleton .now) (a .i) (l .j) (l .row) (l .inv .1) (w .8 .result .value) (sym x ∙ w .0 .taken)
           (omega (arith, s .pre .behind, s .pre .within))
           (ap (λ e. e .value) yzw
@@ -121,7 +126,7 @@ loop-again c =
     ))
     (λ w. (
       omega arith,
-      subst (EquationSo p (a .t1) (a .t2) (a .t3) (a .skeleton .now) (a .i) (l .j + 1)) (sym (w .1))
+      subst (λ r. Filled number zeros (l .j + 1) (r .cells)) (sym (w .1))
           (equation-passed p (a .t1) (a .t2) (a .t3) (a .skeleton .now) (a .i) (l .j) (l .row) (l .inv .1) (λ e. w .0 .left (x ∙ e))),
     ))
     (c .if1 .came)

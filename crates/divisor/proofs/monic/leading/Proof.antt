@@ -1,4 +1,4 @@
--- `divisor::monic::leading` meets its contract. The invariant: the coefficients passed are 0, so the leading one is that of those left. Assumes nothing.
+-- `divisor::monic::leading` meets its contract. The invariant: the coefficients passed are 0, so the leading one is that of those left.
 use borrow.Author.Needs.{needs}
 use mathlib.Core.Path.{_≡_, refl, sym, _∙_}
 use Prim.Native.Nat.{_-_, _≤_}

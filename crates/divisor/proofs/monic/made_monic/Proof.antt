@@ -17,10 +17,14 @@ use Rattle.divisor.specs.sorting.Turns.{MadeSo, made-passed, made-taken,
 use Rattle.divisor.proofs.monic.made_monic.Statement.{statement}
 use Rattle.divisor.proofs.monic.made_monic.Tie as tie
 
+record Reached (p f : ℕ) (ks values terms : List ℕ) (count i : ℕ) : Type 0 where
+  within : i ≤ length ks
+  few : count ≤ i
+  sized : length terms ≡ most-keys
+  made : MadeSo p f ks values i count terms
+
 abbrev Inv-loop : tie.InvT-loop
-Inv-loop p skeleton values inverse terms₀ count₀ i₀ terms count i =
-    (i ≤ length skeleton) × (count ≤ i) × (length terms ≡ most-keys)
-    × MadeSo p (inverse .value) skeleton values i count terms
+Inv-loop p skeleton values inverse terms₀ count₀ i₀ terms count i = Reached p (inverse .value) skeleton values terms count i
 
 abbrev μ-loop : tie.MeasureT-loop
 μ-loop p skeleton values inverse terms₀ count₀ i₀ terms count i = length skeleton - i
@@ -104,24 +108,25 @@ loop-again c =
     let i = c .before .loop-test .taken in
     ⊎-elim
     (λ w.
-    let made = w .2 .ensures ∙ ap (λ e. product-of e (inverse .inverse .result)) (w .1 .ensures) in (
-      omega arith,
-      omega (arith, w .6),
-      ap length (w .5) ∙ length-set (l .terms) (l .count) (w .4 .result) ∙ l .inv .2,
-      subst (λ (n : ℕ). MadeSo (a .p) f (a .skeleton .now) (a .t3) (l .i + 1) n (c .if1 .terms)) (sym (w .6))
-          (subst (λ (ts : List ℕ). MadeSo (a .p) f (a .skeleton .now) (a .t3) (l .i + 1) (l .count + 1) ts) (sym (w .5))
+    let made = w .2 .ensures ∙ ap (λ e. product-of e (inverse .inverse .result)) (w .1 .ensures) in
+    record {
+      within = omega arith;
+      few = omega (arith, w .6, l .inv .few);
+      sized = ap length (w .5) ∙ length-set (l .terms) (l .count) (w .4 .result) ∙ l .inv .sized;
+      made =
+          rw (w .6, w .5)
           (made-taken (a .p) f (a .skeleton .now) (a .t3) (l .i) (s .pre .long) (l .count) (l .terms) (w .4 .result) i (w .0 .taken)
-          (omega (arith, s .pre .few))
-          (w .4 .ensures ∙ ap (λ e. keyed (getD (a .skeleton .now) (l .i) 0) (e .value)) made) (l .inv .3))),
-    ))
-    (λ w. (
-      omega arith,
-      omega (arith, w .2),
-      ap length (w .1) ∙ l .inv .2,
-      subst (λ (n : ℕ). MadeSo (a .p) f (a .skeleton .now) (a .t3) (l .i + 1) n (c .if1 .terms)) (sym (w .2))
-          (subst (λ (ts : List ℕ). MadeSo (a .p) f (a .skeleton .now) (a .t3) (l .i + 1) (l .count) ts) (sym (w .1))
-          (made-passed (a .p) f (a .skeleton .now) (a .t3) (l .i) (s .pre .long) (l .count) (l .terms) i (w .0 .left) (l .inv .3))),
-    ))
+          (omega (arith, s .pre .few, l .inv .few, l .inv .sized))
+          (w .4 .ensures ∙ ap (λ e. keyed (getD (a .skeleton .now) (l .i) 0) (e .value)) made) (l .inv .made));
+    })
+    (λ w. record {
+      within = omega arith;
+      few = omega (arith, w .2, l .inv .few);
+      sized = ap length (w .1) ∙ l .inv .sized;
+      made =
+          rw (w .2, w .1)
+          (made-passed (a .p) f (a .skeleton .now) (a .t3) (l .i) (s .pre .long) (l .count) (l .terms) i (w .0 .left) (l .inv .made));
+    })
     (c .if1 .came)
 
 returns : tie.Need-returns Inv-loop μ-loop
@@ -131,11 +136,11 @@ returns c =
     let l = c .before .loop in
     let a = s .args in
     record {
-      sized = l .inv .2;
+      sized = l .inv .sized;
       fits = omega arith;
       terms =
           made-all (a .p) (inverse .inverse .result .value) (a .skeleton .now) (a .t3) (l .i) (s .pre .long) (l .count) (l .terms)
-          (c .loop-test .left) (l .inv .3)
+          (c .loop-test .left) (l .inv .made)
           ∙ ap (λ (f : ℕ). scaled-terms (a .p) f (a .skeleton .now) (take (length (a .skeleton .now)) (a .t3)))
           (inverse-val _ _ (listed-prime (s .pre .listed))
           (subst (λ e. Inverse e (inverse .inverse .result)) (lead-is (inverse .before)) (inverse .inverse .ensures)));

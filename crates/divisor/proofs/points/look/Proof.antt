@@ -1,4 +1,4 @@
--- `divisor::points::look` meets its contract. The invariant: the sizes and the images of the points passed stand. Assumes nothing.
+-- `divisor::points::look` meets its contract. The invariant: the sizes and the images of the points passed stand.
 use borrow.Author.Needs.{needs}
 use mathlib.Core.Path.{_≡_, sym, _∙_, ap, subst}
 use Prim.Native.Nat.{ℕ, _-_, _/_, _≤_, _<_}

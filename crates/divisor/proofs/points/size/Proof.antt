@@ -1,4 +1,4 @@
--- `divisor::points::size` meets its contract: the two cases of the definition. Assumes nothing.
+-- `divisor::points::size` meets its contract: the two cases of the definition.
 use borrow.Author.Needs.{needs}
 use native.Mathlib.Numerals.{add-one}
 use borrow.Author.Tests.{eq-eqb, ne-eqb}

@@ -1,4 +1,4 @@
--- `divisor::sorting::alike` meets its contract. The invariant: as many are m as were met and are left. Assumes nothing.
+-- `divisor::sorting::alike` meets its contract. The invariant: as many are m as were met and are left.
 use borrow.Author.Needs.{needs}
 use mathlib.Core.Path.{_≡_}
 use mathlib.Core.Logic.{⊎-elim}

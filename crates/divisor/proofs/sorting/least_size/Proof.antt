@@ -1,4 +1,4 @@
--- `divisor::sorting::least_size` meets its contract. The invariant: the least size is that of what was met and of the sizes that are left. Assumes nothing.
+-- `divisor::sorting::least_size` meets its contract. The invariant: the least size is that of what was met and of the sizes that are left.
 use borrow.Author.Needs.{needs}
 use mathlib.Core.Path.{_≡_, refl, sym, _∙_, ap}
 use Prim.Native.Nat.{ℕ, _+_, _-_, _≤_}

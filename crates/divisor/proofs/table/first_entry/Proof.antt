@@ -1,4 +1,4 @@
--- `divisor::table::first_entry` meets its contract. The loop keeps that no cell before j is other than 0. Assumes nothing.
+-- `divisor::table::first_entry` meets its contract. The loop keeps that no cell before j is other than 0.
 use Prim.Native.Nat.{_-_}
 use Rattle.poly.specs.list.Searching.{Searching}
 use Rattle.poly.specs.list.Search.{search-begins, search-goes-on, search-stops, search-ends}

@@ -1,5 +1,5 @@
 -- `divisor::table::kind_of` meets its contract. The loop's invariant: the kind by the columns from j on is the table's. The measure is the number of columns
--- left before the last. Assumes nothing.
+-- left before the last.
 use native.Mathlib.Nat.{sub-zero}
 use mathlib.Core.Path.{_≡_, sym, ap, _∙_}
 use Prim.Native.Nat.{_-_, _≤_}

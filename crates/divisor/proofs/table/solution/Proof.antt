@@ -1,4 +1,4 @@
--- `divisor::table::solution` meets its contract: the kind is the table's, and in its arm the values are those that the model has for it. Assumes nothing.
+-- `divisor::table::solution` meets its contract: the kind is the table's, and in its arm the values are those that the model has for it.
 use mathlib.Core.Path.{_≡_, sym, ap, _∙_}
 use Rattle.divisor.specs.declared.table.Kind.{Kind}
 use Rattle.divisor.specs.declared.table.Kind.the-variants.{One}

@@ -2,20 +2,27 @@
 -- sum. The measure is the number of columns left before the last.
 use native.Mathlib.Nat.{mod-lt, zero-add}
 use mathlib.Core.Path.{_≡_, sym, ap, _∙_, subst}
+use mathlib.Core.List.{List}
 use Prim.Native.Nat.{ℕ, _+_, _-_, _*_, _%_, _<_, _≤_}
 use native.Mathlib.Omega.{arith}
 use lib.ListN.{getD}
+use Rattle.field.specs.declared.elements.Element.{Element}
 use Rattle.field.specs.Contract.{element, plus-product-of, difference-of}
+use Rattle.divisor.specs.declared.table.Row.{Row}
 use Rattle.divisor.specs.table.Model.{cell, total}
 use Rattle.divisor.specs.table.Turns.{total-turn, total-end}
 use borrow.Author.Needs.{needs}
 use Rattle.divisor.proofs.table.value_at.Statement.{statement}
 use Rattle.divisor.proofs.table.value_at.Tie as tie
 
+record Reached (j last p : ℕ) (row : Row) (values : List ℕ) (sum : Element) (k : ℕ) : Type 0 where
+  within : k ≤ last
+  modulus : sum .modulus ≡ p
+  below : sum .value < p
+  comes-to : total (last - k) k p row values (sum .value) ≡ total (last - (j + 1)) (j + 1) p row values (cell row last)
+
 abbrev Inv-loop : tie.InvT-loop
-Inv-loop j last p row values sum₀ k₀ sum k =
-    (k ≤ last) × (sum .modulus ≡ p) × (sum .value < p)
-    × (total (last - k) k p row values (sum .value) ≡ total (last - (j + 1)) (j + 1) p row values (cell row last))
+Inv-loop j last p row values sum₀ k₀ sum k = Reached j last p row values sum k
 
 abbrev μ-loop : tie.MeasureT-loop
 μ-loop j last p row values sum₀ k₀ sum k = last - k
@@ -34,12 +41,13 @@ add-k c = search needs
 
 loop-holds : tie.Need-loop-holds Inv-loop μ-loop
 loop-holds c =
-    let a = c .before .before .args in (
-      search needs,
-      ap (λ e. e .modulus) (c .of .ensures),
-      subst (λ e. e .value < a .p) (sym (c .of .ensures)) (c .before .before .pre .below),
-      ap (λ e. total (a .last - (a .j + 1)) (a .j + 1) (a .p) (a .t1) (a .t2) (e .value)) (c .of .ensures),
-    )
+    let a = c .before .before .args in
+    record {
+      within = omega (arith, c .before .before .pre .within);
+      modulus = ap (λ e. e .modulus) (c .of .ensures);
+      below = subst (λ e. e .value < a .p) (sym (c .of .ensures)) (c .before .before .pre .below);
+      comes-to = ap (λ e. total (a .last - (a .j + 1)) (a .j + 1) (a .p) (a .t1) (a .t2) (e .value)) (c .of .ensures);
+    }
 
 mul-of-2 : tie.Need-mul-of-2 Inv-loop μ-loop
 mul-of-2 c = search needs
@@ -75,22 +83,25 @@ loop-again c =
     let a = loop .before .before .before .args in
     let k = loop .loop .k in
     let sum = loop .loop .sum in
-    let positive : 0 < a .p = omega (arith, loop .loop .inv .2) in
+    let positive : 0 < a .p = omega (arith, loop .loop .inv .below) in
     let made = c .plus-product .ensures ∙ (λ n. plus-product-of sum (cell-made .of2 .ensures n) (c .before .of3 .ensures n))
-    ∙ ap (λ (m : ℕ). element m ((sum .value + cell (a .t1) k * getD (a .t2) k 0) % m)) (loop .loop .inv .1) in (
-      search needs,
-      ap (λ e. e .modulus) made,
-      subst (λ e. e .value < a .p) (sym made) (mod-lt _ positive),
-      ap (λ e. total (a .last - (k + 1)) (k + 1) (a .p) (a .t1) (a .t2) (e .value)) made
-          ∙ sym (total-turn k (a .last) (a .p) (a .t1) (a .t2) (sum .value) (cell-made .before .before .loop-test .taken)) ∙ loop .loop .inv .3,
-    )
+    ∙ ap (λ (m : ℕ). element m ((sum .value + cell (a .t1) k * getD (a .t2) k 0) % m)) (loop .loop .inv .modulus) in
+    let test = cell-made .before .before .loop-test .taken in
+    record {
+      within = omega (arith, test);
+      modulus = ap (λ e. e .modulus) made;
+      below = subst (λ e. e .value < a .p) (sym made) (mod-lt _ positive);
+      comes-to =
+          ap (λ e. total (a .last - (k + 1)) (k + 1) (a .p) (a .t1) (a .t2) (e .value)) made
+          ∙ sym (total-turn k (a .last) (a .p) (a .t1) (a .t2) (sum .value) test) ∙ loop .loop .inv .comes-to;
+    }
 
 zero-requires : tie.Need-zero-requires Inv-loop μ-loop
 zero-requires c κs = search needs
 
 difference-requires : tie.Need-difference-requires Inv-loop μ-loop
 difference-requires c κs =
-    let sum = c .before .before .loop .inv .2 in
+    let sum = c .before .before .loop .inv .below in
     record {
       below = omega (arith, sum, ap (λ e. e .modulus) (c .zero .ensures), ap (λ e. e .value) (c .zero .ensures));
       other-below = omega (arith, sum, ap (λ e. e .modulus) (c .zero .ensures));
@@ -105,7 +116,7 @@ returns c =
     c .difference .ensures ∙ ap (λ e. difference-of e sum) (c .before .zero .ensures)
     ∙ ap (λ (n : ℕ). element (a .p) (n % a .p)) (zero-add (a .p - sum .value))
     ∙ ap (λ (n : ℕ). element (a .p) ((a .p - n) % a .p))
-    (sym (total-end (loop .loop .k) (a .last) (a .p) (a .t1) (a .t2) (sum .value) (left .loop-test .left)) ∙ loop .loop .inv .3)
+    (sym (total-end (loop .loop .k) (a .last) (a .p) (a .t1) (a .t2) (sum .value) (left .loop-test .left)) ∙ loop .loop .inv .comes-to)
 
 pub value-at-spec : {M : Type 1} → statement M
 value-at-spec =

@@ -1,4 +1,4 @@
--- `divisor::verdict::divides_both` meets its contract, from what the two trial divisions say. Assumes nothing.
+-- `divisor::verdict::divides_both` meets its contract, from what the two trial divisions say.
 use Rattle.divisor.specs.verdict.Laws.{divide-again, first-fails, then-second}
 use borrow.Author.Needs.{needs}
 use Rattle.divisor.proofs.verdict.divides_both.Statement.{statement}

@@ -1,4 +1,4 @@
--- `divisor::verdict::write` meets its contract. The invariant: the first i terms are written, the rest is left. Assumes nothing.
+-- `divisor::verdict::write` meets its contract. The invariant: the first i terms are written, the rest is left.
 use mathlib.Core.Path.{_≡_, refl, _∙_, ap}
 use mathlib.Core.List.{List, _++_}
 use Prim.Native.Nat.{ℕ, _-_, _≤_, _<_}
