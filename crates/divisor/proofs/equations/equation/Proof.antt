@@ -67,7 +67,7 @@ of-requires-2 c κs = search needs
 positive : (c : tie.After-of Inv-loop μ-loop) → 0 < c .of .result .modulus
 positive c =
     let start = c .before .before .before .before .before .before .before .before in
-    subst (λ e. 0 < e .modulus) (sym (c .of .ensures)) (listed-positive (start .pre .listed))
+    rw (c .of .ensures) (listed-positive (start .pre .listed))
 
 product-requires : tie.Need-product-requires Inv-loop μ-loop
 product-requires c κs = positive (c .before .before)
@@ -90,7 +90,7 @@ of-requires-3 c κs = search needs
 product-requires-2 : tie.Need-product-requires-2 Inv-loop μ-loop
 product-requires-2 c κs =
     let yz = c .before .before in
-    subst (λ e. 0 < e .modulus) (sym (yz .product .ensures)) (positive (yz .before .before .before))
+    rw (yz .product .ensures) (positive (yz .before .before .before))
 
 mul-row : tie.Need-mul-row Inv-loop μ-loop
 mul-row c = search needs
@@ -110,14 +110,13 @@ loop-again c =
     let l = c .before .before .before .before .loop in
     let a = s .args in
     let p = a .u .modulus in
-    let number = number-at p (a .t1) (a .t2) (a .t3) (a .skeleton .now) (a .i) in
     let x = c .before .x .ensures in
     ⊎-elim
     (λ w.
     let yz = w .5 .ensures ∙ (λ n. product-of (w .2 .ensures n) (w .4 .ensures n)) in
     let yzw = w .8 .ensures ∙ (λ n. product-of (yz n) (w .7 .ensures n)) in (
       omega arith,
-      subst (λ r. Filled number zeros (l .j + 1) (r .cells)) (sym (w .9))
+      rw (w .9)
           (equation-taken p (a .t1) (a .t2) (a .t3) (a .skeleton .now) (a .i) (l .j) (l .row) (l .inv .1) (w .8 .result .value) (sym x ∙ w .0 .taken)
           (omega (arith, s .pre .behind, s .pre .within))
           (ap (λ e. e .value) yzw
@@ -126,7 +125,7 @@ loop-again c =
     ))
     (λ w. (
       omega arith,
-      subst (λ r. Filled number zeros (l .j + 1) (r .cells)) (sym (w .1))
+      rw (w .1)
           (equation-passed p (a .t1) (a .t2) (a .t3) (a .skeleton .now) (a .i) (l .j) (l .row) (l .inv .1) (λ e. w .0 .left (x ∙ e))),
     ))
     (c .if1 .came)
@@ -148,35 +147,6 @@ returns c =
 pub equation-spec : {M : Type 1} → statement M
 equation-spec =
     tie.close
-    (tie.spec
-    Inv-loop
-    μ-loop
-    loop-holds
-    mul-if1
-    shared-slice-read-if1
-    x-requires
-    y-requires
-    cast-of
-    mul-of
-    array-read-of
-    of-requires
-    z-requires
-    cast-of-2
-    mul-of-2
-    array-read-of-2
-    of-requires-2
-    product-requires
-    w-requires
-    cast-of-3
-    mul-of-3
-    array-read-of-3
-    of-requires-3
-    product-requires-2
-    mul-row
-    element-write-row
-    add-j
-    loop-less
-    loop-again
-    mul-row-2
-    element-write-row-2
-    returns)
+    (tie.spec Inv-loop μ-loop loop-holds mul-if1 shared-slice-read-if1 x-requires y-requires cast-of mul-of array-read-of of-requires z-requires
+    cast-of-2 mul-of-2 array-read-of-2 of-requires-2 product-requires w-requires cast-of-3 mul-of-3 array-read-of-3 of-requires-3 product-requires-2
+    mul-row element-write-row add-j loop-less loop-again mul-row-2 element-write-row-2 returns)

@@ -40,9 +40,7 @@ loop-holds c =
     record {
       within = omega arith;
       left = omega arith;
-      added =
-          subst (Equations-before 0 (a .p) (a .skeleton .now) (a .points .now) (a .t4) (a .work .now) (a .least) (a .columns)) (sym (c .empty .ensures))
-          equations-start;
+      added = rw (c .empty .ensures) equations-start;
       met = λ P. length-none P (a .least) (a .points .now) (a .t4) (a .work .now);
     }
 
@@ -160,7 +158,7 @@ loop-again c =
       within = omega arith;
       left = omega (arith, k, l .inv .left, left);
       added =
-          subst (Equations-before (l .i + 1) (a .p) (a .skeleton .now) (a .points .now) (a .t4) (a .work .now) (a .least) (a .columns)) (sym (w .5))
+          rw (w .5)
           (equations-same (l .inv .added) (w .0 .taken)
           (w .1 .result) (l .kept) (a .columns - length (a .skeleton .now) - 1) (w .4 .result) (l .inv .met)
           (omega (arith, s .pre .columns-are, s .pre .some)) (omega (arith, s .pre .columns-are, s .pre .some)) (w .1 .ensures)
@@ -174,9 +172,7 @@ loop-again c =
     record {
       within = omega arith;
       left = omega (arith, k, l .inv .left, left);
-      added =
-          subst (Equations-before (l .i + 1) (a .p) (a .skeleton .now) (a .points .now) (a .t4) (a .work .now) (a .least) (a .columns)) (sym (w .1))
-          (equations-other (l .inv .added) (w .0 .left));
+      added = rw (w .1) (equations-other (l .inv .added) (w .0 .left));
       met = λ P. length-other P (a .least) (a .points .now) (a .t4) (a .work .now) (l .i) (l .kept) (l .inv .met P) (w .0 .left) ∙ sym k;
     })
     (c .if1 .came)
@@ -191,29 +187,7 @@ returns c =
 pub equations-spec : {M : Type 1} → statement M
 equations-spec =
     tie.close
-    (tie.spec
-    Inv-loop
-    μ-loop
-    empty-requires
-    loop-holds
-    mul-if1
-    array-read-if1
-    column-of-requires
-    mul-at
-    mul-image
-    add-point-equations
-    mul-point-equations
-    sub-point-equations
-    part-point-equations-start
-    part-point-equations-end
-    add-point-equations-2
-    mul-point-equations-2
-    sub-point-equations-2
-    part-point-equations-start-2
-    part-point-equations-end-2
-    point-equations-requires
-    add-kept
-    add-i
-    loop-less
-    loop-again
+    (tie.spec Inv-loop μ-loop empty-requires loop-holds mul-if1 array-read-if1 column-of-requires mul-at mul-image add-point-equations
+    mul-point-equations sub-point-equations part-point-equations-start part-point-equations-end add-point-equations-2 mul-point-equations-2
+    sub-point-equations-2 part-point-equations-start-2 part-point-equations-end-2 point-equations-requires add-kept add-i loop-less loop-again
     returns)

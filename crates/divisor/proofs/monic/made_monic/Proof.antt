@@ -71,7 +71,7 @@ of-requires-2 c κs = search needs
 product-requires : tie.Need-product-requires Inv-loop μ-loop
 product-requires c κs =
     let start = c .before .before .before .before .before .before .before .before in
-    subst (λ e. 0 < e .modulus) (sym (c .of2 .ensures)) (listed-positive (start .pre .listed))
+    rw (c .of2 .ensures) (listed-positive (start .pre .listed))
 
 mul-term : tie.Need-mul-term Inv-loop μ-loop
 mul-term c = search needs
@@ -149,26 +149,5 @@ returns c =
 pub made-monic-spec : {M : Type 1} → statement M
 made-monic-spec =
     tie.close
-    (tie.spec
-    Inv-loop
-    μ-loop
-    leading-requires
-    of-requires
-    inverse-requires
-    loop-holds
-    mul-if1
-    array-read-if1
-    mul-of
-    array-read-of
-    of-requires-2
-    product-requires
-    mul-term
-    shared-slice-read-term
-    term-requires
-    mul-terms
-    array-write-terms
-    add-count
-    add-i
-    loop-less
-    loop-again
-    returns)
+    (tie.spec Inv-loop μ-loop leading-requires of-requires inverse-requires loop-holds mul-if1 array-read-if1 mul-of array-read-of of-requires-2
+    product-requires mul-term shared-slice-read-term term-requires mul-terms array-write-terms add-count add-i loop-less loop-again returns)

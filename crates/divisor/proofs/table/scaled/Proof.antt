@@ -2,7 +2,6 @@
 -- link of `field`. The measure is the number of columns left.
 use lib.ListN.{set}
 use Rattle.field.specs.modulus.Laws.{listed-prime}
-use Rattle.field.specs.Fp.{el, inv}
 use Rattle.field.specs.Contract.{element, product-of, Invertible, Inverse}
 use Rattle.field.specs.elements.Link.{inverse-val}
 use mathlib.Core.Path.{_≡_, sym, ap, _∙_, subst}
@@ -92,21 +91,5 @@ returns c =
 pub scaled-spec : {M : Type 1} → statement M
 scaled-spec =
     tie.close
-    (tie.spec
-    Inv-loop
-    μ-loop
-    mul-of
-    element-copy-out-of
-    of-requires
-    inverse-requires
-    loop-holds
-    mul-of-2
-    element-copy-out-of-2
-    of-requires-2
-    product-requires
-    mul-r
-    element-write-r
-    add-i
-    loop-less
-    loop-again
-    returns)
+    (tie.spec Inv-loop μ-loop mul-of element-copy-out-of of-requires inverse-requires loop-holds mul-of-2 element-copy-out-of-2 of-requires-2
+    product-requires mul-r element-write-r add-i loop-less loop-again returns)

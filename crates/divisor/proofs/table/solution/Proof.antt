@@ -40,12 +40,4 @@ returns-3 c =
 pub solution-spec : {M : Type 1} → statement M
 solution-spec =
     tie.close
-    (tie.spec
-    kind-of-requires
-    enum-told
-    enum-told-2
-    enum-told-3
-    values-of-requires
-    returns
-    returns-2
-    returns-3)
+    (tie.spec kind-of-requires enum-told enum-told-2 enum-told-3 values-of-requires returns returns-2 returns-3)

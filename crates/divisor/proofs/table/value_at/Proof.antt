@@ -45,7 +45,7 @@ loop-holds c =
     record {
       within = omega (arith, c .before .before .pre .within);
       modulus = ap (λ e. e .modulus) (c .of .ensures);
-      below = subst (λ e. e .value < a .p) (sym (c .of .ensures)) (c .before .before .pre .below);
+      below = rw (c .of .ensures) (c .before .before .pre .below);
       comes-to = ap (λ e. total (a .last - (a .j + 1)) (a .j + 1) (a .p) (a .t1) (a .t2) (e .value)) (c .of .ensures);
     }
 
@@ -90,7 +90,7 @@ loop-again c =
     record {
       within = omega (arith, test);
       modulus = ap (λ e. e .modulus) made;
-      below = subst (λ e. e .value < a .p) (sym made) (mod-lt _ positive);
+      below = rw made (mod-lt _ positive);
       comes-to =
           ap (λ e. total (a .last - (k + 1)) (k + 1) (a .p) (a .t1) (a .t2) (e .value)) made
           ∙ sym (total-turn k (a .last) (a .p) (a .t1) (a .t2) (sum .value) test) ∙ loop .loop .inv .comes-to;
@@ -121,24 +121,5 @@ returns c =
 pub value-at-spec : {M : Type 1} → statement M
 value-at-spec =
     tie.close
-    (tie.spec
-    Inv-loop
-    μ-loop
-    mul-of
-    element-copy-out-of
-    of-requires
-    add-k
-    loop-holds
-    mul-of-2
-    element-copy-out-of-2
-    of-requires-2
-    mul-of-3
-    array-read-of
-    of-requires-3
-    plus-product-requires
-    add-k-2
-    loop-less
-    loop-again
-    zero-requires
-    difference-requires
-    returns)
+    (tie.spec Inv-loop μ-loop mul-of element-copy-out-of of-requires add-k loop-holds mul-of-2 element-copy-out-of-2 of-requires-2 mul-of-3
+    array-read-of of-requires-3 plus-product-requires add-k-2 loop-less loop-again zero-requires difference-requires returns)

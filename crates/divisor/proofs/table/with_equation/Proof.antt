@@ -112,7 +112,7 @@ loop-again c =
     w .6 ∙ w .5 .ensures ∙ ap (λ (t : Table). minus (a .p) (l .row) (row-at t (l .j)) (l .j) (a .t .columns)) (l .inv .same) in
     record {
       within = omega arith;
-      below = λ k. subst (λ x. cell x k < a .p) (sym is) (minus-below (a .p) (l .row) (l .j) (a .t .columns) (l .inv .below) (row-at (a .t) (l .j)) k);
+      below = λ k. rw is (minus-below (a .p) (l .row) (l .j) (a .t .columns) (l .inv .below) (row-at (a .t) (l .j)) k);
       comes-to =
           ap (λ x. insert left (l .j + 1) (a .p) (a .t) x) is
           ∙ sym (insert-minus (a .p) (a .t) (l .row) (l .j) test (w .0 .taken) (λ z. w .3 .left (ap (λ (t : Table). diagonal t (l .j)) (l .inv .same) ∙ z)))
@@ -121,7 +121,7 @@ loop-again c =
     })
     (λ w. record {
       within = omega arith;
-      below = λ k. subst (λ x. cell x k < a .p) (sym (w .1)) (l .inv .below k);
+      below = λ k. rw (w .1) (l .inv .below k);
       comes-to =
           ap (λ x. insert left (l .j + 1) (a .p) (a .t) x) (w .1) ∙ sym (insert-skip (a .p) (a .t) (l .row) (l .j) test (w .0 .left)) ∙ l .inv .comes-to;
       same = l .inv .same;
@@ -137,22 +137,5 @@ returns-2 c =
 pub with-equation-spec : {M : Type 1} → statement M
 with-equation-spec =
     tie.close
-    (tie.spec
-    Inv-loop
-    μ-loop
-    loop-holds
-    mul-if1
-    element-copy-out-if1
-    mul-pivot
-    element-copy-out-pivot
-    mul-if2
-    element-copy-out-if2
-    scaled-requires
-    mul-t24
-    element-set-from-s
-    returns
-    subtract-requires
-    add-j
-    loop-less
-    loop-again
-    returns-2)
+    (tie.spec Inv-loop μ-loop loop-holds mul-if1 element-copy-out-if1 mul-pivot element-copy-out-pivot mul-if2 element-copy-out-if2 scaled-requires
+    mul-t24 element-set-from-s returns subtract-requires add-j loop-less loop-again returns-2)
