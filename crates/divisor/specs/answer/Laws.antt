@@ -20,7 +20,7 @@ use Rattle.divisor.specs.Candidate.{Call, table, prime, Numbers, monomia
 use Rattle.divisor.specs.table.Model.{Columns, TableReady, empty-table, solved}
 use Rattle.divisor.specs.table.Meaning.{added, rows-of, Says}
 use Rattle.divisor.specs.table.Kept.{empty-ready}
-use Rattle.divisor.specs.table.Added.{added-ready}
+use Rattle.divisor.specs.table.Added.{adds-ready}
 use Rattle.divisor.specs.table.Answer.{table-answers, solved-below, solved-length}
 use Rattle.divisor.specs.equations.Rows.{kept-rows, all-rows}
 use Rattle.divisor.specs.sorting.Model.{sizes-of, least, alike}
@@ -73,8 +73,7 @@ module _ {c : Call} {after sizes : List ℕ} {m count : ℕ} (good : SomeGood c 
 
   module _ (t : Table) (made : Equations-before (point-count c) (c .modulus) (c .skeleton) (c .points) sizes after m (length (c .skeleton) + count) t) where
     pub ready-table : TableReady (c .modulus) t
-    ready-table = subst (TableReady p) (sym (made .adds)) (added-ready p _ (made .rows)
-        (empty-ready p _ listed columns) (made .ready))
+    ready-table = adds-ready p (made .adds) (empty-ready p _ listed columns)
 
     abbrev unknowns : ℕ
     unknowns = length (c .skeleton) + length ks
@@ -99,8 +98,8 @@ module _ {c : Call} {after sizes : List ℕ} {m count : ℕ} (good : SomeGood c 
         let a : length (c .skeleton) + count ≡ suc unknowns = omega arith in
         subst (λ (rs : List (List (Fp p))). Says p P unknowns rs (solved p t .kind) (solved p t .values)) means
         (subst (λ (u : Table). Says p P unknowns (rows-of p unknowns (made .rows)) (solved p u .kind) (solved p u .values))
-        (sym (made .adds ∙ ap (λ (x : ℕ). added p (empty-table x) (made .rows)) a))
-        (table-answers p P unknowns (omega arith) (made .rows) listed (made .ready)))
+        (sym (made .adds .is ∙ ap (λ (x : ℕ). added p (empty-table x) (made .rows)) a))
+        (table-answers p P unknowns (omega arith) (made .rows) listed (made .adds .ready)))
 
     module _ (s : Solved) (is-solved : s ≡ solved (c .modulus) t) where
       says-as : (x : Kind) → s .kind ≡ x → Says p P unknowns equations x (s .values)

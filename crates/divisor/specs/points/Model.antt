@@ -21,7 +21,7 @@ use Rattle.divisor.specs.declared.table.Table.{Table}
 use Rattle.divisor.specs.Rule.{Kept}
 use Rattle.divisor.specs.Candidate.{most-points, most-point-numbers, point-at}
 use Rattle.divisor.specs.table.Model.{most-columns, empty-table}
-use Rattle.divisor.specs.table.Meaning.{added, rows-of, AllReady}
+use Rattle.divisor.specs.table.Meaning.{rows-of, Adds}
 use Rattle.divisor.specs.equations.Rows.{kept-rows}
 use Rattle.divisor.specs.sorting.Model.{size-of, alike}
 use Rattle.divisor.specs.equations.Model.{kept-numbers}
@@ -84,8 +84,7 @@ pub record EquationsReady (p : ℕ) (ks points sizes work : List ℕ) (m columns
 -- the table of the equations of the kept points before i
 pub record Equations-before (i p : ℕ) (ks points sizes work : List ℕ) (m columns : ℕ) (t : Table) : Type 0 where
   pub rows : List Row
-  pub ready : AllReady p rows
-  pub adds : t ≡ added p (empty-table columns) rows
+  pub adds : Adds p (empty-table columns) rows t
   pub means : (P : Prime p) → rows-of p (columns - 1) rows
       ≡ kept-rows (Modulo p P) (map exponents ks) (alike m (take (length points / 3) sizes) - 1) (kept-before P m points sizes work i)
 

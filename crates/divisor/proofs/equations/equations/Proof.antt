@@ -11,11 +11,12 @@ use Rattle.field.specs.Prime.{Prime}
 use Rattle.poly.specs.Coefficients.{Eight}
 use Rattle.divisor.specs.declared.table.Table.{Table}
 use Rattle.divisor.specs.table.Kept.{empty-ready}
+use Rattle.divisor.specs.table.Added.{adds-ready, adds-columns}
 use Rattle.divisor.specs.sorting.Model.{alike}
 use Rattle.divisor.specs.points.Model.{kept-before, Equations-before}
 use Rattle.divisor.specs.sorting.Turns.{alike-same, alike-other}
 use Rattle.divisor.specs.points.Parts.{part-is, part-length}
-use Rattle.divisor.specs.points.Turns.{equations-start, equations-ready, equations-columns, equations-other, equations-same, points-sized, next-fits, equations-to-at, length-none, length-same, length-other}
+use Rattle.divisor.specs.points.Turns.{equations-start, equations-other, equations-same, points-sized, next-fits, equations-to-at, length-none, length-same, length-other}
 use Rattle.divisor.proofs.equations.equations.Statement.{statement}
 use Rattle.divisor.proofs.equations.equations.Tie as tie
 
@@ -122,9 +123,9 @@ point-equations-requires c κs =
     let left = one-kept test in
     let i : l .i < length (a .points .now) / 3 = test .before .loop-test .taken in
     let fits = next-fits (a .columns - length (a .skeleton .now) - 1) (l .kept) (omega (arith, s .pre .columns-are, l .inv .left, left)) in
-    let columns = equations-columns (l .inv .added) in
+    let columns = adds-columns _ (l .inv .added .adds) in
     record {
-      table = equations-ready (l .inv .added)
+      table = adds-ready _ (l .inv .added .adds)
           (empty-ready (a .p) (a .columns) (s .pre .listed) (record { some = omega (arith, s .pre .columns-are, s .pre .some); most = s .pre .most }));
       small = s .pre .small;
       three = ap length (part-is 3 (l .i) (a .points .now)) ∙ part-length 3 (l .i) (a .points .now) (omega (arith, s .pre .threes));

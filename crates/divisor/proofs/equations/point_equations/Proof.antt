@@ -16,7 +16,8 @@ use Rattle.divisor.specs.table.Model.{with-row, TableReady}
 use Rattle.divisor.specs.equations.Model.{EquationReady, IsEquation, Equations-to}
 use Rattle.divisor.specs.table.Turns.{blank-adds-nothing}
 use Rattle.divisor.specs.equations.RowLaws.{equation-ready}
-use Rattle.divisor.specs.equations.PointTurns.{equation-with, point-start, point-ready, point-next}
+use Rattle.divisor.specs.equations.PointTurns.{equation-with, point-start, point-next}
+use Rattle.divisor.specs.table.Added.{adds-ready}
 use Rattle.divisor.proofs.equations.point_equations.Statement.{statement}
 use Rattle.divisor.proofs.equations.point_equations.Tie as tie
 
@@ -147,11 +148,7 @@ first-entry-requires c κs = search needs
 
 -- the table so far is ready
 ready : (l : tie.At-loop Inv-loop μ-loop) → TableReady (start l .args .p) (l .loop .s)
-ready at =
-    let s = start at in
-    let a = s .args in
-    let l = at .loop in
-    point-ready (a .p) (a .t) (a .skeleton .now) (a .point .now) (a .image .now) (a .column) (l .i) (l .s) (s .pre .table) (l .inv .1)
+ready at = adds-ready _ (at .loop .inv .1 .adds) (start at .pre .table)
 
 with-added-requires : tie.Need-with-added-requires Inv-loop μ-loop
 with-added-requires c κs =
