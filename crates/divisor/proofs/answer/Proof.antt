@@ -137,6 +137,5 @@ returns-2 c =
 
 pub answer-spec : {M : Type 1} → statement M
 answer-spec =
-    tie.close
-    (tie.spec look-requires least-size-requires no-good-point-requires same-length returns alike-requires alike-requires-2 add-columns
+    tie.close (tie.spec look-requires least-size-requires no-good-point-requires same-length returns alike-requires alike-requires-2 add-columns
     equations-requires solution-requires settle-requires at-requires cast-t17 sub-t30 sub-t31 sub-t32 same-length-2 same-length-3 returns-2)

@@ -44,6 +44,4 @@ returns-2 : tie.Need-returns-2
 returns-2 c = c .before .before .before .before .answer .ensures
 
 pub candidate-spec : {M : Type 1} → statement M
-candidate-spec =
-    tie.close
-    (tie.spec candidate-fault-requires refused-requires returns answer-requires same-length same-length-2 returns-2)
+candidate-spec = tie.close (tie.spec candidate-fault-requires refused-requires returns answer-requires same-length same-length-2 returns-2)

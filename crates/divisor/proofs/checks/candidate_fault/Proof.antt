@@ -83,5 +83,5 @@ returns-4 c =
 
 pub candidate-fault-spec : {M : Type 1} → statement M
 candidate-fault-spec =
-    tie.close
-    (tie.spec lists-fault-requires returns skeleton-fault-requires returns-2 points-fault-requires returns-3 rooms-fault-requires returns-4)
+    tie.close (tie.spec lists-fault-requires returns skeleton-fault-requires returns-2 points-fault-requires returns-3 rooms-fault-requires
+    returns-4)

@@ -48,6 +48,5 @@ returns-5 c =
 
 pub points-fault-spec : {M : Type 1} → statement M
 points-fault-spec =
-    tie.close
-    (tie.spec at-requires returns at-requires-2 returns-2 at-requires-3 returns-3 first-large-requires at-requires-4 returns-4 none-requires
-    returns-5)
+    tie.close (tie.spec at-requires returns at-requires-2 returns-2 at-requires-3 returns-3 first-large-requires at-requires-4 returns-4
+    none-requires returns-5)

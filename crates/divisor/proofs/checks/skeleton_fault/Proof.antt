@@ -40,5 +40,4 @@ returns-4 c =
 
 pub skeleton-fault-spec : {M : Type 1} → statement M
 skeleton-fault-spec =
-    tie.close
-    (tie.spec at-requires returns at-requires-2 returns-2 first-wrong-key-requires at-requires-3 returns-3 none-requires returns-4)
+    tie.close (tie.spec at-requires returns at-requires-2 returns-2 first-wrong-key-requires at-requires-3 returns-3 none-requires returns-4)

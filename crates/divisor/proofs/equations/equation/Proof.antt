@@ -1,8 +1,8 @@
 -- `divisor::equations::equation` meets its contract. The invariant: the keys passed have their numbers, and all other cells are 0.
 use borrow.Author.Needs.{needs}
-use mathlib.Core.Path.{sym, _∙_, ap, ap₂, subst}
+use mathlib.Core.Path.{sym, _∙_, ap, ap₂}
 use mathlib.Core.Logic.{⊎-elim}
-use Prim.Native.Nat.{ℕ, _+_, _*_, _%_, _-_, _≤_, _<_}
+use Prim.Native.Nat.{ℕ, _*_, _%_, _-_, _≤_, _<_}
 use native.Mathlib.Omega.{arith}
 use lib.ListN.{length, getD}
 use Rattle.field.specs.Contract.{product-of}
@@ -146,7 +146,6 @@ returns c =
 
 pub equation-spec : {M : Type 1} → statement M
 equation-spec =
-    tie.close
-    (tie.spec Inv-loop μ-loop loop-holds mul-if1 shared-slice-read-if1 x-requires y-requires cast-of mul-of array-read-of of-requires z-requires
-    cast-of-2 mul-of-2 array-read-of-2 of-requires-2 product-requires w-requires cast-of-3 mul-of-3 array-read-of-3 of-requires-3 product-requires-2
-    mul-row element-write-row add-j loop-less loop-again mul-row-2 element-write-row-2 returns)
+    tie.close (tie.spec Inv-loop μ-loop loop-holds mul-if1 shared-slice-read-if1 x-requires y-requires cast-of mul-of array-read-of of-requires
+    z-requires cast-of-2 mul-of-2 array-read-of-2 of-requires-2 product-requires w-requires cast-of-3 mul-of-3 array-read-of-3 of-requires-3
+    product-requires-2 mul-row element-write-row add-j loop-less loop-again mul-row-2 element-write-row-2 returns)

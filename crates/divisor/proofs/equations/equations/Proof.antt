@@ -187,8 +187,7 @@ returns c =
 
 pub equations-spec : {M : Type 1} → statement M
 equations-spec =
-    tie.close
-    (tie.spec Inv-loop μ-loop empty-requires loop-holds mul-if1 array-read-if1 column-of-requires mul-at mul-image add-point-equations
+    tie.close (tie.spec Inv-loop μ-loop empty-requires loop-holds mul-if1 array-read-if1 column-of-requires mul-at mul-image add-point-equations
     mul-point-equations sub-point-equations part-point-equations-start part-point-equations-end add-point-equations-2 mul-point-equations-2
     sub-point-equations-2 part-point-equations-start-2 part-point-equations-end-2 point-equations-requires add-kept add-i loop-less loop-again
     returns)

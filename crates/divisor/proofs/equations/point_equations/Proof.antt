@@ -200,7 +200,6 @@ returns c =
 
 pub point-equations-spec : {M : Type 1} → statement M
 point-equations-spec =
-    tie.close
-    (tie.spec Inv-loop μ-loop shared-slice-read-powers powers-requires shared-slice-read-powers-2 powers-requires-2 shared-slice-read-powers-3
-    powers-requires-3 loop-holds zero-requires mul-of shared-slice-read-of of-requires difference-requires cast-equation equation-requires
-    first-entry-requires with-added-requires add-i loop-less loop-again returns)
+    tie.close (tie.spec Inv-loop μ-loop shared-slice-read-powers powers-requires shared-slice-read-powers-2 powers-requires-2
+    shared-slice-read-powers-3 powers-requires-3 loop-holds zero-requires mul-of shared-slice-read-of of-requires difference-requires cast-equation
+    equation-requires first-entry-requires with-added-requires add-i loop-less loop-again returns)

@@ -56,5 +56,4 @@ returns-2 c =
 
 pub leading-spec : {M : Type 1} → statement M
 leading-spec =
-    tie.close
-    (tie.spec Inv-loop μ-loop loop-holds mul-if1 array-read-if1 mul-result array-read-result returns add-i loop-less loop-again returns-2)
+    tie.close (tie.spec Inv-loop μ-loop loop-holds mul-if1 array-read-if1 mul-result array-read-result returns add-i loop-less loop-again returns-2)

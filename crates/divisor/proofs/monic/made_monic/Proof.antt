@@ -3,7 +3,7 @@ use borrow.Author.Needs.{needs}
 use mathlib.Core.Path.{_≡_, sym, _∙_, ap, subst}
 use mathlib.Core.Logic.{⊎-elim}
 use mathlib.Core.List.{List}
-use Prim.Native.Nat.{ℕ, _+_, _-_, _≤_, _<_}
+use Prim.Native.Nat.{ℕ, _-_, _≤_}
 use native.Mathlib.Omega.{arith}
 use lib.ListN.{length, take, getD, length-set}
 use Rattle.field.specs.elements.Link.{inverse-val}
@@ -148,6 +148,6 @@ returns c =
 
 pub made-monic-spec : {M : Type 1} → statement M
 made-monic-spec =
-    tie.close
-    (tie.spec Inv-loop μ-loop leading-requires of-requires inverse-requires loop-holds mul-if1 array-read-if1 mul-of array-read-of of-requires-2
-    product-requires mul-term shared-slice-read-term term-requires mul-terms array-write-terms add-count add-i loop-less loop-again returns)
+    tie.close (tie.spec Inv-loop μ-loop leading-requires of-requires inverse-requires loop-holds mul-if1 array-read-if1 mul-of array-read-of
+    of-requires-2 product-requires mul-term shared-slice-read-term term-requires mul-terms array-write-terms add-count add-i loop-less loop-again
+    returns)

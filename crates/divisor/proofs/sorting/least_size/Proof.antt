@@ -50,5 +50,4 @@ returns c =
 
 pub least-size-spec : {M : Type 1} → statement M
 least-size-spec =
-    tie.close
-    (tie.spec Inv-loop μ-loop loop-holds mul-lesser array-read-lesser lesser-requires add-i loop-less loop-again returns)
+    tie.close (tie.spec Inv-loop μ-loop loop-holds mul-lesser array-read-lesser lesser-requires add-i loop-less loop-again returns)

@@ -39,5 +39,4 @@ returns-2 c = search-ends (c .before .loop .inv) (c .loop-test .left)
 
 pub first-entry-spec : {M : Type 1} → statement M
 first-entry-spec =
-    tie.close
-    (tie.spec Inv-loop μ-loop loop-holds mul-if1 element-copy-out-if1 returns add-j loop-less loop-again returns-2)
+    tie.close (tie.spec Inv-loop μ-loop loop-holds mul-if1 element-copy-out-if1 returns add-j loop-less loop-again returns-2)

@@ -76,6 +76,5 @@ returns-3 c =
 
 pub kind-of-spec : {M : Type 1} → statement M
 kind-of-spec =
-    tie.close
-    (tie.spec Inv-loop μ-loop sub-last mul-end element-copy-out-end mul-if1 element-copy-out-if1 returns loop-holds mul-row element-copy-out-row
-    mul-if2 element-copy-out-if2 returns-2 add-j loop-less loop-again returns-3)
+    tie.close (tie.spec Inv-loop μ-loop sub-last mul-end element-copy-out-end mul-if1 element-copy-out-if1 returns loop-holds mul-row
+    element-copy-out-row mul-if2 element-copy-out-if2 returns-2 add-j loop-less loop-again returns-3)

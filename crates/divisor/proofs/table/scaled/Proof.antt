@@ -90,6 +90,5 @@ returns c =
 
 pub scaled-spec : {M : Type 1} → statement M
 scaled-spec =
-    tie.close
-    (tie.spec Inv-loop μ-loop mul-of element-copy-out-of of-requires inverse-requires loop-holds mul-of-2 element-copy-out-of-2 of-requires-2
-    product-requires mul-r element-write-r add-i loop-less loop-again returns)
+    tie.close (tie.spec Inv-loop μ-loop mul-of element-copy-out-of of-requires inverse-requires loop-holds mul-of-2 element-copy-out-of-2
+    of-requires-2 product-requires mul-r element-write-r add-i loop-less loop-again returns)

@@ -38,6 +38,4 @@ returns-3 c =
     ap (λ v. record { kind = One; values = v }) (c .values-of .ensures) ∙ told (c .before .before .before) (c .before .enum-told3 .given .1)
 
 pub solution-spec : {M : Type 1} → statement M
-solution-spec =
-    tie.close
-    (tie.spec kind-of-requires enum-told enum-told-2 enum-told-3 values-of-requires returns returns-2 returns-3)
+solution-spec = tie.close (tie.spec kind-of-requires enum-told enum-told-2 enum-told-3 values-of-requires returns returns-2 returns-3)

@@ -92,6 +92,5 @@ returns c =
 
 pub subtract-spec : {M : Type 1} → statement M
 subtract-spec =
-    tie.close
-    (tie.spec Inv-loop μ-loop mul-of element-copy-out-of of-requires loop-holds mul-of-2 element-copy-out-of-2 of-requires-2 mul-of-3
+    tie.close (tie.spec Inv-loop μ-loop mul-of element-copy-out-of of-requires loop-holds mul-of-2 element-copy-out-of-2 of-requires-2 mul-of-3
     element-copy-out-of-3 of-requires-3 minus-product-requires mul-row element-write-row add-i loop-less loop-again returns)

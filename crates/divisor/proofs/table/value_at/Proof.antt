@@ -1,7 +1,7 @@
 -- `divisor::table::value_at` meets its contract. The loop's invariant: the sum is a number below p, and with the columns from k on it comes to the whole
 -- sum. The measure is the number of columns left before the last.
 use native.Mathlib.Nat.{mod-lt, zero-add}
-use mathlib.Core.Path.{_≡_, sym, ap, _∙_, subst}
+use mathlib.Core.Path.{_≡_, sym, ap, _∙_}
 use mathlib.Core.List.{List}
 use Prim.Native.Nat.{ℕ, _+_, _-_, _*_, _%_, _<_, _≤_}
 use native.Mathlib.Omega.{arith}
@@ -120,6 +120,5 @@ returns c =
 
 pub value-at-spec : {M : Type 1} → statement M
 value-at-spec =
-    tie.close
-    (tie.spec Inv-loop μ-loop mul-of element-copy-out-of of-requires add-k loop-holds mul-of-2 element-copy-out-of-2 of-requires-2 mul-of-3
-    array-read-of of-requires-3 plus-product-requires add-k-2 loop-less loop-again zero-requires difference-requires returns)
+    tie.close (tie.spec Inv-loop μ-loop mul-of element-copy-out-of of-requires add-k loop-holds mul-of-2 element-copy-out-of-2 of-requires-2
+    mul-of-3 array-read-of of-requires-3 plus-product-requires add-k-2 loop-less loop-again zero-requires difference-requires returns)

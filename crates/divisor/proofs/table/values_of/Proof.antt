@@ -68,6 +68,5 @@ returns c =
 
 pub values-of-spec : {M : Type 1} → statement M
 values-of-spec =
-    tie.close
-    (tie.spec Inv-loop μ-loop sub-last loop-holds sub-j mul-row element-copy-out-row value-at-requires mul-values array-write-values loop-less
-    loop-again returns)
+    tie.close (tie.spec Inv-loop μ-loop sub-last loop-holds sub-j mul-row element-copy-out-row value-at-requires mul-values array-write-values
+    loop-less loop-again returns)

@@ -136,6 +136,5 @@ returns-2 c =
 
 pub with-equation-spec : {M : Type 1} → statement M
 with-equation-spec =
-    tie.close
-    (tie.spec Inv-loop μ-loop loop-holds mul-if1 element-copy-out-if1 mul-pivot element-copy-out-pivot mul-if2 element-copy-out-if2 scaled-requires
-    mul-t24 element-set-from-s returns subtract-requires add-j loop-less loop-again returns-2)
+    tie.close (tie.spec Inv-loop μ-loop loop-holds mul-if1 element-copy-out-if1 mul-pivot element-copy-out-pivot mul-if2 element-copy-out-if2
+    scaled-requires mul-t24 element-set-from-s returns subtract-requires add-j loop-less loop-again returns-2)

@@ -66,6 +66,5 @@ returns-2 c =
 
 pub divided-spec : {M : Type 1} → statement M
 divided-spec =
-    tie.close
-    (tie.spec made-monic-requires array-share-prefix-terms slice-aggregate-list divides-both-requires same-length returns write-requires
+    tie.close (tie.spec made-monic-requires array-share-prefix-terms slice-aggregate-list divides-both-requires same-length returns write-requires
     same-length-2 same-length-3 returns-2)

@@ -27,6 +27,4 @@ returns-2 c =
     (c .before .before .divides2 .ensures)
 
 pub divides-both-spec : {M : Type 1} → statement M
-divides-both-spec =
-    tie.close
-    (tie.spec divides-requires same-length returns divides-requires-2 same-length-2 returns-2)
+divides-both-spec = tie.close (tie.spec divides-requires same-length returns divides-requires-2 same-length-2 returns-2)

@@ -57,6 +57,5 @@ returns-3 c =
 
 pub settle-spec : {M : Type 1} → statement M
 settle-spec =
-    tie.close
-    (tie.spec enum-told refused-requires enum-told-2 refused-requires-2 enum-told-3 divided-requires same-length returns same-length-2 returns-2
-    same-length-3 same-length-4 returns-3)
+    tie.close (tie.spec enum-told refused-requires enum-told-2 refused-requires-2 enum-told-3 divided-requires same-length returns same-length-2
+    returns-2 same-length-3 same-length-4 returns-3)

@@ -56,6 +56,5 @@ returns c =
 
 pub write-spec : {M : Type 1} → statement M
 write-spec =
-    tie.close
-    (tie.spec Inv-loop μ-loop loop-holds mul-output shared-slice-read-output mul-output-2 slice-write-output add-i loop-less loop-again same-length
-    returns)
+    tie.close (tie.spec Inv-loop μ-loop loop-holds mul-output shared-slice-read-output mul-output-2 slice-write-output add-i loop-less loop-again
+    same-length returns)
