@@ -8,10 +8,10 @@ use Rattle.algebra.specs.Ring.{CommRing}
 use Rattle.algebra.specs.Field.{Field}
 
 -- what may be said of a system: no solution, one, or two different ones
-pub data Answer (A : Type 0) : Type 0 where
-  none : Answer A
-  one : List A → Answer A
-  several : List A → List A → Answer A
+pub data Solutions (A : Type 0) : Type 0 where
+  unsolvable : Solutions A
+  one : List A → Solutions A
+  several : List A → List A → Solutions A
 
 module _ (K : Field) where
   open CommRing (K .ring) using (Car, 𝟘, add as _+_, mul as _*_)
@@ -47,7 +47,7 @@ module _ (K : Field) where
   DifferentSolutions n rows v w = Solution n rows v × Solution n rows w × (¬ (v ≡ w))
 
   -- what an answer says of the equations
-  abbrev pub Meets : ℕ → List (List Car) → Answer Car → Type 0
-  Meets n rows none = NoSolution n rows
+  abbrev pub Meets : ℕ → List (List Car) → Solutions Car → Type 0
+  Meets n rows unsolvable = NoSolution n rows
   Meets n rows (one v) = OnlySolution n rows v
   Meets n rows (several v w) = DifferentSolutions n rows v w

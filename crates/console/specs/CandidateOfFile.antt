@@ -6,12 +6,12 @@ use Rattle.field.specs.declared.faults.Fault.{Fault}
 use Rattle.case_file.specs.Format.{modulus-kind, first-kind, second-kind, skeleton-kind, point-kind}
 use Rattle.case_file.specs.Reading.{Reading}
 use Rattle.case_file.specs.Handed.{list}
-use Rattle.divisor.specs.Candidate.{Call, candidate-call, Result, candidate-result, Candidate, refusal}
+use Rattle.divisor.specs.Candidate.{Call, candidate-call, Result, candidate-result, Candidate, refused-record}
 use Rattle.console.specs.OfFile.{OfFile, Answered}
 
 module _ (output work : List ℕ) where
   abbrev pub unread : Fault → Result
-  unread f = candidate-result (refusal f) output work
+  unread f = candidate-result (refused-record f) output work
 
   -- the call that a case makes
   abbrev pub call : Reading → Call

@@ -1,27 +1,11 @@
 // The candidate of a case file.
-ghost use mathlib.Core.Path.{_≡_};
-ghost use Rattle.divisor.specs.Candidate.{candidate-result, refusal};
+ghost use Rattle.divisor.specs.Candidate.{candidate-result};
 ghost use Rattle.console.specs.CandidateOfFile.{CandidateAnswered};
 use crate::print;
 use divisor::CandidateRecord;
-use field::Fault;
 use field::Residue;
 use field::Term;
 use poly::rooms::WORK_ROOM;
-
-// What a reader's refusal gives: number and place, and zeros.
-fn refused(fault: Fault) -> CandidateRecord
-    ensures { λ r. ⌜ r ≡ refusal fault ⌝ }
-{
-    CandidateRecord {
-        fault,
-        degree: 0,
-        bad: 0,
-        unlucky: 0,
-        kept: 0,
-        terms: 0,
-    }
-}
 
 // Reads the case and asks for its candidate.
 pub fn candidate_of(bytes: &[u8], out: &mut [Term], work: &mut [Residue]) -> CandidateRecord
@@ -34,7 +18,7 @@ pub fn candidate_of(bytes: &[u8], out: &mut [Term], work: &mut [Residue]) -> Can
     let counts = case_file::read_into(bytes, &mut first, &mut second, &mut skeleton, &mut points);
     let fault = counts.fault;
     if fault.number != 0 {
-        return refused(fault);
+        return CandidateRecord::refused(fault);
     }
     let a = counts.first;
     let b = counts.second;

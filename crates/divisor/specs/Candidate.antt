@@ -20,7 +20,7 @@ use Rattle.poly.specs.PointValue.{Point}
 use Rattle.poly.specs.Lists.{Count, WrongKey, WrongNumber, of-lists}
 use Rattle.poly.specs.Room.{of-rooms, written, cleared}
 use Rattle.divisor.specs.declared.CandidateRecord.{CandidateRecord}
-use Rattle.divisor.specs.Rule.{Answer}
+use Rattle.divisor.specs.Rule.{RuleAnswer}
 
 -- what is lent
 pub record Call : Type 0 where
@@ -102,16 +102,16 @@ pub record Result : Type 0 where
 abbrev pub candidate-result : CandidateRecord → List ℕ → List ℕ → Result
 candidate-result found output work = record { found = found; output = output; work = work }
 
--- the record of a refusal by the table
-abbrev pub refusal : Fault → CandidateRecord
-refusal f = record { fault = f; degree = 0; bad = 0; unlucky = 0; kept = 0; terms = 0 }
+-- the record of a refusal by the table: zeros beside the fault
+abbrev pub refused-record : Fault → CandidateRecord
+refused-record f = record { fault = f; degree = 0; bad = 0; unlucky = 0; kept = 0; terms = 0 }
 
 -- the promise of the candidate call
 pub data Candidate (c : Call) : Result → Type 0 where
   refused : (f : Fault) → Refuses (table c) f
-      → Candidate c (candidate-result (refusal f) (c .output) (c .work))
+      → Candidate c (candidate-result (refused-record f) (c .output) (c .work))
   answered : Passes (table c) → (listed : Listed (c .modulus)) (found : CandidateRecord) (G : Polynomial (Numbers c listed))
-      → Answer (Numbers c listed) (A c listed) (B c listed) (monomials c listed) (lent-points c listed) found G
+      → RuleAnswer (Numbers c listed) (A c listed) (B c listed) (monomials c listed) (lent-points c listed) found G
       → Candidate c (candidate-result found (written (numbers-of (c .modulus) (prime c listed) G) (c .output)) (cleared (c .work)))
 
 -- the polynomial that is handed out: the terms first in the output

@@ -47,9 +47,9 @@ module _ (K : Field) where
   abbrev pub OnlyProposed : List Exponents → S4 R .Car → Type 0
   OnlyProposed ms f = (e : Exponents) → ¬ (coef R f e ≡ R .𝟘) → Proposed ms e
 
-  abbrev pub Leading : R .Car → Polynomial K → Type 0
-  Leading c [] = ⊥
-  Leading c (t ∷ ts) = t .coefficient ≡ c
+  abbrev pub LeadsWith : R .Car → Polynomial K → Type 0
+  LeadsWith c [] = ⊥
+  LeadsWith c (t ∷ ts) = t .coefficient ≡ c
 
   -- a number as a polynomial
   abbrev pub constant : R .Car → S4 R .Car
@@ -57,7 +57,7 @@ module _ (K : Field) where
 
   -- G is C made monic: its leading coefficient is 1, and C is a number times G
   pub record MadeMonic (C : S4 R .Car) (G : Polynomial K) : Type 0 where
-    pub leading : Leading (R .𝟙) G
+    pub leading : LeadsWith (R .𝟙) G
     pub factor : R .Car
     pub multiple : S4 R .mul (polynomial R G) (constant factor) ≡ C
 

@@ -15,10 +15,28 @@ use Rattle.poly.specs.PointValue.{Point, value}
 use Rattle.poly.specs.PointImage.{Divides, Bad, Image}
 use Rattle.divisor.specs.declared.CandidateRecord.{CandidateRecord}
 
--- what the caller is told where the inputs pass: the place is 0
-abbrev pub report : ℕ → ℕ → ℕ → ℕ → ℕ → ℕ → CandidateRecord
-report number degree bad unlucky kept terms =
-    record { fault = fault number 0; degree = degree; bad = bad; unlucky = unlucky; kept = kept; terms = terms }
+-- what is counted: d, and the points that are bad, unlucky and kept
+pub record Counts : Type 0 where
+  pub d : ℕ
+  pub bad : ℕ
+  pub unlucky : ℕ
+  pub kept : ℕ
+
+-- no point of n is good
+abbrev pub none-good : ℕ → Counts
+none-good n = record { d = 0; bad = n; unlucky = 0; kept = 0 }
+
+-- what the caller is told where the inputs pass: the number, at place 0, what is counted, and the count of terms
+abbrev pub report : ℕ → Counts → ℕ → CandidateRecord
+report number counts terms =
+    record {
+      fault = fault number 0;
+      degree = counts .d;
+      bad = counts .bad;
+      unlucky = counts .unlucky;
+      kept = counts .kept;
+      terms = terms;
+    }
 
 module _ (K : Field) where
   open Field K using (ring as R)
@@ -97,14 +115,14 @@ module _ (K : Field) where
 
   -- What the kept points settle: the number, and the polynomial to be handed out.
   pub data Verdict (A B : Polynomial K) (monomials : List Exponents) (kept : List Kept) : ℕ → Polynomial K → Type 0 where
-    none : NoSolution monomials kept → Verdict A B monomials kept NO_SOLUTION []
+    unsolvable : NoSolution monomials kept → Verdict A B monomials kept NO_SOLUTION []
     several : SeveralSolutions monomials kept → Verdict A B monomials kept SEVERAL_SOLUTIONS []
     rejected : (s : Unknowns) → OnlySolution monomials kept s → ¬ DividesBoth A B (divisor s) → Verdict A B monomials kept DOES_NOT_DIVIDE []
     accepted : (s : Unknowns) → OnlySolution monomials kept s → DividesBoth A B (divisor s) → Verdict A B monomials kept 0 (divisor s)
 
   -- What the rule answers: the record, and the polynomial to be handed out.
-  pub data Answer (A B : Polynomial K) (monomials : List Exponents) (points : List (Point R)) : CandidateRecord → Polynomial K → Type 0 where
-    all-bad : AllBad A B points → Answer A B monomials points (report NO_GOOD_POINT 0 (length points) 0 0 0) []
+  pub data RuleAnswer (A B : Polynomial K) (monomials : List Exponents) (points : List (Point R)) : CandidateRecord → Polynomial K → Type 0 where
+    all-bad : AllBad A B points → RuleAnswer A B monomials points (report NO_GOOD_POINT (none-good (length points)) 0) []
     some-good : (d b u : ℕ) (k : Kept) (kept : List Kept) → Sorted A B d points b u (k ∷ kept)
         → (number : ℕ) (G : Polynomial K) → Verdict A B monomials (k ∷ kept) number G
-        → Answer A B monomials points (report number d b u (length (k ∷ kept)) (length G)) G
+        → RuleAnswer A B monomials points (report number (record { d = d; bad = b; unlucky = u; kept = length (k ∷ kept) }) (length G)) G

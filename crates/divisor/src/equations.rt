@@ -6,10 +6,11 @@ ghost use lib.ListN.{length};
 ghost use Rattle.divisor.specs.equations.Model.{EquationReady, IsEquation, PointReady, Equations-to};
 ghost use Rattle.divisor.specs.points.Model.{next-column, ColumnReady, EquationsReady, Equations-before};
 use crate::sorting::Sizes;
-use crate::table::COLUMNS;
+use crate::table::MOST_COLUMNS;
 use crate::table::Row;
 use crate::table::Table;
 use field::COORDINATES;
+use field::Element;
 use field::KeyBits;
 use field::Residue;
 use poly::Eight;
@@ -19,31 +20,33 @@ use poly::key::Key;
 
 // The equation of x^i at a point, where the powers of y, z and w are given: a number for each key, u in the multiplier's column.
 fn equation(
-    p: Residue,
     ys: Eight,
     zs: Eight,
     ws: Eight,
     skeleton: &[KeyBits],
     i: KeyBits,
     column: usize,
-    u: Residue,
+    u: Element,
 ) -> Row
-    requires { ⌜ EquationReady p ys zs ws (now skeleton) column u ⌝ }
-    ensures { λ r. ⌜ IsEquation p ys zs ws (now (skeleton .entry)) i column u r ⌝ }
+    requires { ⌜ EquationReady (u .modulus) ys zs ws (now skeleton) column (u .value) ⌝ }
+    ensures { λ r. ⌜ IsEquation (u .modulus) ys zs ws (now (skeleton .entry)) i column (u .value) r ⌝ }
 {
+    let p = u.modulus;
     let mut row = Row {
-        cells: [0; COLUMNS],
+        cells: [0; MOST_COLUMNS],
     };
     let mut j: usize = 0;
     while j < skeleton.len() {
         let key = Key { bits: skeleton[j] };
         if key.x() == i {
-            let yz = field::times(p, ys[key.y() as usize], zs[key.z() as usize]);
-            row.cells[j] = field::times(p, yz, ws[key.w() as usize]);
+            let y = Element::of(p, ys[key.y() as usize]);
+            let yz = y.product(Element::of(p, zs[key.z() as usize]));
+            let yzw = yz.product(Element::of(p, ws[key.w() as usize]));
+            row.cells[j] = yzw.value;
         }
         j += 1;
     }
-    row.cells[column] = u;
+    row.cells[column] = u.value;
     row
 }
 
@@ -65,10 +68,11 @@ fn point_equations(
     let mut s = t;
     let mut i: usize = 0;
     while i < POWERS {
-        let u = (p - image[i]) % p;
-        let e = equation(p, ys, zs, ws, skeleton, i as KeyBits, column, u);
+        let zero = Element::zero(p);
+        let u = zero.difference(Element::of(p, image[i]));
+        let e = equation(ys, zs, ws, skeleton, i as KeyBits, column, u);
         // An equation without entries says nothing: adding it would only copy the table.
-        if crate::table::first_entry(e) < COLUMNS {
+        if crate::table::first_entry(e) < MOST_COLUMNS {
             s = crate::table::with_added(s, e, p);
         }
         i += 1;

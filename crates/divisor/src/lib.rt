@@ -1,5 +1,6 @@
 // Layer 3, the candidate: the common divisor that images and equations fix, or a refusal.
-ghost use Rattle.divisor.specs.Candidate.{candidate-call, candidate-result, table as table-of, Candidate};
+ghost use mathlib.Core.Path.{_≡_};
+ghost use Rattle.divisor.specs.Candidate.{candidate-call, candidate-result, refused-record, table as table-of, Candidate};
 ghost use Rattle.divisor.specs.verdict.Model.{NoGoodPoint};
 ghost use Rattle.field.specs.Refusal.{Passes};
 ghost use Rattle.poly.specs.Room.{work-room};
@@ -28,6 +29,22 @@ pub struct CandidateRecord {
     pub unlucky: usize,
     pub kept: usize,
     pub terms: usize,
+}
+
+impl CandidateRecord {
+    // A refusal: zeros beside the fault.
+    pub fn refused(fault: Fault) -> CandidateRecord
+        ensures { λ r. ⌜ r ≡ refused-record fault ⌝ }
+    {
+        CandidateRecord {
+            fault,
+            degree: 0,
+            bad: 0,
+            unlucky: 0,
+            kept: 0,
+            terms: 0,
+        }
+    }
 }
 
 // 12: no point of n is good. The work room is cleared.
@@ -99,14 +116,7 @@ pub fn candidate(
 {
     let fault = checks::candidate_fault(p, first, second, skeleton, points, out.len(), work.len());
     if fault.number != 0 {
-        return CandidateRecord {
-            fault,
-            degree: 0,
-            bad: 0,
-            unlucky: 0,
-            kept: 0,
-            terms: 0,
-        };
+        return CandidateRecord::refused(fault);
     }
     answer(p, first, second, skeleton, points, out, work)
 }

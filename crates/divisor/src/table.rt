@@ -2,17 +2,18 @@
 // its pivot column, where its cell is 1; where no row is kept the cell on the diagonal is 0. A row kept in the last column says 1 = 0: there is
 // no solution.
 ghost use mathlib.Core.Path.{_≡_};
+ghost use Rattle.field.specs.Contract.{element};
 ghost use Rattle.poly.specs.Search.{Searched};
-ghost use Rattle.divisor.specs.table.Model.{COLUMNS as columns-most, Entry, Columns, Column, Back, TableReady, Ready, empty-table, minus, scaled-row, with-row, kind, value, values, solved};
+ghost use Rattle.divisor.specs.table.Model.{most-columns, Entry, Columns, Column, Back, TableReady, StepReady, empty-table, minus, scaled-row, with-row, kind, value, values, solved};
 use field::Element;
 use field::MOST_KEYS;
 use field::MOST_POINTS;
 use field::Residue;
 
 // An unknown for each key that a skeleton can have, and a multiplier for each point, of which the first is fixed.
-pub(crate) const COLUMNS: usize = MOST_KEYS + MOST_POINTS;
+pub(crate) const MOST_COLUMNS: usize = MOST_KEYS + MOST_POINTS;
 
-pub(crate) type Cells = [Residue; COLUMNS];
+pub(crate) type Cells = [Residue; MOST_COLUMNS];
 
 pub(crate) struct Row {
     pub cells: Cells,
@@ -20,7 +21,7 @@ pub(crate) struct Row {
 
 // `columns` is one more than the number of unknowns.
 pub(crate) struct Table {
-    pub rows: [Row; COLUMNS],
+    pub rows: [Row; MOST_COLUMNS],
     pub columns: usize,
 }
 
@@ -43,10 +44,10 @@ impl Table {
         ensures { λ r. ⌜ r ≡ empty-table columns ⌝ }
     {
         let row = Row {
-            cells: [0; COLUMNS],
+            cells: [0; MOST_COLUMNS],
         };
         Table {
-            rows: [row; COLUMNS],
+            rows: [row; MOST_COLUMNS],
             columns,
         }
     }
@@ -54,10 +55,10 @@ impl Table {
 
 // The first column whose cell is not 0, or the number of columns where there is none.
 pub(crate) fn first_entry(row: Row) -> usize
-    ensures { λ r. ⌜ Searched (Entry row) columns-most r ⌝ }
+    ensures { λ r. ⌜ Searched (Entry row) most-columns r ⌝ }
 {
     let mut j: usize = 0;
-    while j < COLUMNS {
+    while j < MOST_COLUMNS {
         if row.cells[j] != 0 {
             return j;
         }
@@ -71,10 +72,12 @@ fn subtract(row: &mut Cells, pivot: Row, j: usize, columns: usize, p: Residue)
     requires { ⌜ Column p (record { cells = now row }) j columns ⌝ }
     ensures { λ _. ⌜ record { cells = now (row .exit) } ≡ minus p (record { cells = now (row .entry) }) pivot j columns ⌝ }
 {
-    let factor = p - row[j];
+    let factor = Element::of(p, row[j]);
     let mut i = j;
     while i < columns {
-        row[i] = field::plus_times(p, row[i], factor, pivot.cells[i]);
+        let cell = Element::of(p, row[i]);
+        let next = cell.minus_product(factor, Element::of(p, pivot.cells[i]));
+        row[i] = next.value;
         i += 1;
     }
 }
@@ -85,15 +88,12 @@ fn scaled(row: Row, j: usize, columns: usize, p: Residue) -> Row
     ensures { λ r. ⌜ r ≡ scaled-row p row j columns ⌝ }
 {
     let mut r = row;
-    let first = Element {
-        modulus: p,
-        value: r.cells[j],
-    };
+    let first = Element::of(p, r.cells[j]);
     let inverse = first.inverse();
-    let factor = inverse.value;
     let mut i = j;
     while i < columns {
-        r.cells[i] = field::times(p, factor, r.cells[i]);
+        let next = inverse.product(Element::of(p, r.cells[i]));
+        r.cells[i] = next.value;
         i += 1;
     }
     r
@@ -102,7 +102,7 @@ fn scaled(row: Row, j: usize, columns: usize, p: Residue) -> Row
 // One more equation: column after column the kept row is taken off, and the equation is kept in the first column where none is and its cell is not 0.
 // The table is copied once, at the top: with a copy where a row is kept there would be two tables to hand back, and each way out would copy again.
 pub(crate) fn with_equation(t: Table, e: Row, p: Residue) -> Table
-    requires { ⌜ Ready p t e ⌝ }
+    requires { ⌜ StepReady p t e ⌝ }
     ensures { λ r. ⌜ r ≡ with-row p t e ⌝ }
 {
     let columns = t.columns;
@@ -125,7 +125,7 @@ pub(crate) fn with_equation(t: Table, e: Row, p: Residue) -> Table
 
 // The same on a table that is lent.
 pub(crate) fn add_equation(t: &mut Table, e: Row, p: Residue)
-    requires { ⌜ Ready p (now t) e ⌝ }
+    requires { ⌜ StepReady p (now t) e ⌝ }
     ensures { λ _. ⌜ now (t .exit) ≡ with-row p (now (t .entry)) e ⌝ }
 {
     let next = with_equation(*t, e, p);
@@ -134,7 +134,7 @@ pub(crate) fn add_equation(t: &mut Table, e: Row, p: Residue)
 
 // The lender: by value outside, lent inside, so that a loop over equations carries the table by value.
 pub(crate) fn with_added(t: Table, e: Row, p: Residue) -> Table
-    requires { ⌜ Ready p t e ⌝ }
+    requires { ⌜ StepReady p t e ⌝ }
     ensures { λ r. ⌜ r ≡ with-row p t e ⌝ }
 {
     let mut s = t;
@@ -164,17 +164,18 @@ fn kind_of(t: Table) -> Kind
 }
 
 // The unknown of column j, by its row, from the values of those behind it; the last one is 1.
-fn value_at(row: Row, values: Cells, j: usize, last: usize, p: Residue) -> Residue
+fn value_at(row: Row, values: Cells, j: usize, last: usize, p: Residue) -> Element
     requires { ⌜ Back p row j last ⌝ }
-    ensures { λ r. ⌜ r ≡ value p row values j last ⌝ }
+    ensures { λ r. ⌜ r ≡ element p (value p row values j last) ⌝ }
 {
-    let mut sum = row.cells[last];
+    let mut sum = Element::of(p, row.cells[last]);
     let mut k = j + 1;
     while k < last {
-        sum = field::plus_times(p, sum, row.cells[k], values[k]);
+        sum = sum.plus_product(Element::of(p, row.cells[k]), Element::of(p, values[k]));
         k += 1;
     }
-    (p - sum) % p
+    let zero = Element::zero(p);
+    zero.difference(sum)
 }
 
 // Back substitution, from the last unknown to the first.
@@ -183,12 +184,13 @@ fn values_of(t: Table, p: Residue) -> Cells
     ensures { λ r. ⌜ r ≡ values p t ⌝ }
 {
     let last = t.columns - 1;
-    let mut values: Cells = [0; COLUMNS];
+    let mut values: Cells = [0; MOST_COLUMNS];
     let mut j = last;
     while j > 0 {
         j -= 1;
         let row = t.rows[j];
-        values[j] = value_at(row, values, j, last, p);
+        let value = value_at(row, values, j, last, p);
+        values[j] = value.value;
     }
     values
 }
@@ -199,7 +201,7 @@ pub(crate) fn solution(t: Table, p: Residue) -> Solved
     ensures { λ r. ⌜ r ≡ solved p t ⌝ }
 {
     let kind = kind_of(t);
-    let zeros: Cells = [0; COLUMNS];
+    let zeros: Cells = [0; MOST_COLUMNS];
     match kind {
         Kind::None => Solved {
             kind: Kind::None,

@@ -15,7 +15,7 @@ use field::Term;
 use poly::rooms::WORK_ROOM;
 
 // The number, and the count of the terms that are written.
-pub(crate) struct Verdict {
+pub(crate) struct Ruling {
     pub number: RefusalNumber,
     pub terms: usize,
 }
@@ -50,12 +50,12 @@ fn write(terms: &[Term], output: &mut [Term])
 }
 
 // A refusal: nothing is written, and the work room is cleared.
-fn refused(number: RefusalNumber, work: &mut [Residue]) -> Verdict
+fn refused(number: RefusalNumber, work: &mut [Residue]) -> Ruling
     requires { ⌜ work-room ≤ length (now work) ⌝ }
     ensures { λ r. ⌜ Refused number (now (work .entry)) (now (work .exit)) r ⌝ }
 {
     poly::rooms::clear(WORK_ROOM, work);
-    Verdict { number, terms: 0 }
+    Ruling { number, terms: 0 }
 }
 
 // The divisor of the only solution, which is accepted if it divides both lists, whoever proposed it.
@@ -67,7 +67,7 @@ fn divided(
     values: Cells,
     output: &mut [Term],
     work: &mut [Residue],
-) -> Verdict
+) -> Ruling
     requires { ⌜ VerdictReady p (now first) (now second) (now skeleton) (only values) (now output) (now work) ⌝ }
     ensures { λ r. ⌜ Settled p (now (first .entry)) (now (second .entry)) (now (skeleton .entry)) (only values) (now (output .entry))
         (now (output .exit)) (now (work .entry)) (now (work .exit)) r ⌝ }
@@ -77,13 +77,13 @@ fn divided(
     let count = divisor.count;
     let list = &terms[..count];
     if !divides_both(p, first, second, list, work) {
-        return Verdict {
+        return Ruling {
             number: Fault::DOES_NOT_DIVIDE,
             terms: 0,
         };
     }
     write(list, output);
-    Verdict {
+    Ruling {
         number: 0,
         terms: count,
     }
@@ -98,7 +98,7 @@ pub(crate) fn settle(
     solved: Solved,
     output: &mut [Term],
     work: &mut [Residue],
-) -> Verdict
+) -> Ruling
     requires { ⌜ VerdictReady p (now first) (now second) (now skeleton) solved (now output) (now work) ⌝ }
     ensures { λ r. ⌜ Settled p (now (first .entry)) (now (second .entry)) (now (skeleton .entry)) solved (now (output .entry)) (now (output .exit))
         (now (work .entry)) (now (work .exit)) r ⌝ }

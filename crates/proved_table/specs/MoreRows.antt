@@ -18,17 +18,20 @@ use Rattle.proved_table.specs.Table.{key-xy, term-xy, at, row, E, F, K, 
 -- x and x + y, y = 0, skeleton x: the image is x, which divides the first and not the second: 15
 abbrev pub divides-first : Row
 divides-first =
-    row 17 (term-xy 1 1 0 ∷ []) (term-xy 1 1 0 ∷ term-xy 1 0 1 ∷ []) (key-xy 1 0 ∷ []) (at (0 ∷ [])) (report 15 1 0 0 1 0) []
+    row 17 (term-xy 1 1 0 ∷ []) (term-xy 1 1 0 ∷ term-xy 1 0 1 ∷ []) (key-xy 1 0 ∷ []) (at (0 ∷ []))
+    (report 15 (record { d = 1; bad = 0; unlucky = 0; kept = 1 }) 0) []
 
 -- the two exchanged: x divides the second and not the first
 abbrev pub divides-second : Row
 divides-second =
-    row 17 (term-xy 1 1 0 ∷ term-xy 1 0 1 ∷ []) (term-xy 1 1 0 ∷ []) (key-xy 1 0 ∷ []) (at (0 ∷ [])) (report 15 1 0 0 1 0) []
+    row 17 (term-xy 1 1 0 ∷ term-xy 1 0 1 ∷ []) (term-xy 1 1 0 ∷ []) (key-xy 1 0 ∷ []) (at (0 ∷ []))
+    (report 15 (record { d = 1; bad = 0; unlucky = 0; kept = 1 }) 0) []
 
 -- x² twice, y = 0, skeleton x², x, 1: x², the zero coefficients dropped
 abbrev pub zeros-dropped : Row
 zeros-dropped =
-    row 17 (term-xy 1 2 0 ∷ []) (term-xy 1 2 0 ∷ []) (key-xy 2 0 ∷ key-xy 1 0 ∷ key-xy 0 0 ∷ []) (at (0 ∷ [])) (report 0 2 0 0 1 1) (term-xy 1 2 0 ∷ [])
+    row 17 (term-xy 1 2 0 ∷ []) (term-xy 1 2 0 ∷ []) (key-xy 2 0 ∷ key-xy 1 0 ∷ key-xy 0 0 ∷ []) (at (0 ∷ []))
+    (report 0 (record { d = 2; bad = 0; unlucky = 0; kept = 1 }) 1) (term-xy 1 2 0 ∷ [])
 
 abbrev pub more-rows : List Row
 more-rows = divides-first ∷ divides-second ∷ zeros-dropped ∷ []

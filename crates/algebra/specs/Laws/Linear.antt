@@ -8,7 +8,7 @@ use native.Mathlib.Omega.{arith}
 use lib.ListN.{length}
 use Rattle.algebra.specs.Ring.{CommRing}
 use Rattle.algebra.specs.Field.{Field}
-use Rattle.algebra.specs.Linear.{none, one, several, eval, Solves, SolvesAll, Solution, Meets}
+use Rattle.algebra.specs.Linear.{unsolvable, one, several, eval, Solves, SolvesAll, Solution, Meets}
 use Rattle.algebra.specs.Models.Elimination.{Table, solvable, failed, free, pivot, fresh, has-failed, has-free, times, plus-times, step, steps}
 use Rattle.algebra.specs.Models.Elimination.{solution, solve}
 use Rattle.algebra.specs.Laws.Ring.{zero-add, one-mul, neg-add, mul-zero, neg-unique}
@@ -180,7 +180,7 @@ module _ (K : Field) where
       from v s = steps-keep-solutions (fresh n) rows v .1 (fresh-common n v .1 (s .unknowns), s .solves)
 
       go : (b : Bool) → has-failed t ≡ b → (f : Bool) → has-free t ≡ f
-          → Meets K n rows (elim b [ true ↦ none | false ↦ elim f [ false ↦ one (solution K 𝟘 t) | true ↦ several (solution K 𝟘 t) (solution K 𝟙 t) ] ])
+          → Meets K n rows (elim b [ true ↦ unsolvable | false ↦ elim f [ false ↦ one (solution K 𝟘 t) | true ↦ several (solution K 𝟘 t) (solution K 𝟙 t) ] ])
       go true h f k = λ v s. failed-has-none t v h (from v s)
       go false h false k = (to _ (solution-common 𝟘 t h), λ w s. solution-unique 𝟘 t w k (from w s))
       go false h true k = (to _ (solution-common 𝟘 t h), to _ (solution-common 𝟙 t h), solutions-differ t k)

@@ -4,7 +4,7 @@ use mathlib.Core.List.{List, [], _∷_}
 use Prim.Native.Nat.{ℕ, zero, suc}
 use Rattle.algebra.specs.Ring.{CommRing}
 use Rattle.algebra.specs.Field.{Field}
-use Rattle.algebra.specs.Linear.{Answer, none, one, several, eval}
+use Rattle.algebra.specs.Linear.{Solutions, unsolvable, one, several, eval}
 
 -- The columns from left to right. In a `pivot` column a row is kept whose first entry, 1, stands there; the entries behind it are held.
 -- In a `free` column none is.
@@ -75,9 +75,9 @@ module _ (K : Field) where
   solution x (free t) = x ∷ solution x t
   solution x (pivot q t) = before q (solution x t)
 
-  abbrev pub answer : Table Car → Answer Car
-  answer t = elim (has-failed t) [ true ↦ none | false ↦ elim (has-free t) [ false ↦ one (solution 𝟘 t) | true ↦ several (solution 𝟘 t) (solution 𝟙 t) ] ]
+  abbrev pub answer : Table Car → Solutions Car
+  answer t = elim (has-failed t) [ true ↦ unsolvable | false ↦ elim (has-free t) [ false ↦ one (solution 𝟘 t) | true ↦ several (solution 𝟘 t) (solution 𝟙 t) ] ]
 
   -- the answer for n unknowns
-  abbrev pub solve : ℕ → List (List Car) → Answer Car
+  abbrev pub solve : ℕ → List (List Car) → Solutions Car
   solve n rows = answer (steps (fresh n) rows)

@@ -1,11 +1,13 @@
--- `divisor::answer` meets its contract, from what its calls say. Assumes nothing.
+-- `divisor::answer` meets its contract: the look at the points, their counts, the equations, the solution and the verdict, each as its call promises, make
+-- up what the rule answers.
 use mathlib.Core.Path.{sym, ap, _∙_}
 use native.Mathlib.Omega.{arith}
 use Prim.Native.Nat.{_+_, _/_, _≤_}
 use lib.ListN.{length}
 use Rattle.poly.specs.Room.{work-room}
 use Rattle.poly.specs.rooms.Laws.{zeroed-length}
-use Rattle.divisor.specs.Candidate.{Call, candidate-call}
+use Rattle.divisor.specs.Candidate.{Call, candidate-call, most-points}
+use Rattle.divisor.specs.points.PartsModel.{Within}
 use Rattle.divisor.specs.checks.Passed.{look-ready}
 use Rattle.divisor.specs.sorting.Kept.{within, room-after, SomeGood, ready-equations, count-small, counts-fit}
 use Rattle.divisor.specs.answer.Laws.{nothing-good, ready-table, ready-verdict, answered-so}
@@ -23,12 +25,23 @@ question s =
 abbrev start : tie.After-look → tie.Start
 start c = c .before .before .before .before .before .before .before .before
 
+-- what the look says, and the room that it leaves
+module _ (l : tie.After-look) where
+  abbrev asked : Call
+  asked = question (start l)
+
+  points-within : Within most-points (length (start l .args .points .now) / 3) (l .look .result)
+  points-within = within asked (start l .pre) _ (l .look .result) (l .look .ensures)
+
+  room : work-room ≤ length (l .look .last .1 .1 .1 .1 .0)
+  room = room-after asked (start l .pre) _ (l .look .result) (l .look .ensures)
+
 -- after the counts of points: the look, and what is found
 abbrev seen : tie.After-alike2 → tie.After-look
 seen c = c .before .before .before .before .before .before
 
 good : (c : tie.After-alike2) → let l = seen c in
-    SomeGood (question (start l)) (l .look .last .1 .1 .1 .1 .0) (l .look .result) (c .before .before .before .least-size .result) (c .alike2 .result)
+    SomeGood (asked l) (l .look .last .1 .1 .1 .1 .0) (l .look .result) (c .before .before .before .least-size .result) (c .alike2 .result)
 good c = record {
   pass = start (seen c) .pre;
   look = seen c .look .ensures;
@@ -41,41 +54,38 @@ good c = record {
 fit : (c : tie.After-alike2) → c .before .alike .result + c .alike2 .result ≤ length (start (seen c) .args .points .now) / 3
 fit c = counts-fit (good c) (c .before .alike .result) (c .before .alike .ensures)
 
+-- after the verdict: the counts of points
+abbrev counted : tie.After-settle → tie.After-alike2
+counted c = c .before .before .before .before .before .before
+
 look-requires : tie.Need-look-requires
 look-requires c κs =
     let s = c .before .before .before .before .before .before .before in
     look-ready (question s) (s .pre)
 
 least-size-requires : tie.Need-least-size-requires
-least-size-requires c κs =
-    let l = c .before .before in
-    within (question (start l)) (start l .pre) _ (l .look .result) (l .look .ensures)
+least-size-requires c κs = points-within (c .before .before)
 
 no-good-point-requires : tie.Need-no-good-point-requires
-no-good-point-requires c κs =
-    let l = c .before .before .before .before .before in
-    room-after (question (start l)) (start l .pre) _ (l .look .result) (l .look .ensures)
+no-good-point-requires c κs = room (c .before .before .before .before .before)
 
 same-length : tie.Need-same-length
 same-length c = search needs
 
 returns : tie.Need-returns
 returns c =
-    let l = c .before .before .before .before .before .before .before .before in
-    let m = c .before .before .before .before .before .least-size in
-    let r = c .before .before .no-good-point in
-    nothing-good (question (start l)) (start l .pre) _ (l .look .result) (l .look .ensures) (sym (m .ensures) ∙ c .before .before .before .before .if1 .taken) _
-    (r .result) (r .ensures)
+    let r = c .before .before in
+    let test = r .before .before in
+    let least = test .before in
+    let l = least .before .before .before in
+    nothing-good (asked l) (start l .pre) _ (l .look .result) (l .look .ensures) (sym (least .least-size .ensures) ∙ test .if1 .taken) _
+    (r .no-good-point .result) (r .no-good-point .ensures)
 
 alike-requires : tie.Need-alike-requires
-alike-requires c κs =
-    let l = c .before .before .before .before in
-    within (question (start l)) (start l .pre) _ (l .look .result) (l .look .ensures)
+alike-requires c κs = points-within (c .before .before .before .before)
 
 alike-requires-2 : tie.Need-alike-requires-2
-alike-requires-2 c κs =
-    let l = c .before .before .before .before .before in
-    within (question (start l)) (start l .pre) _ (l .look .result) (l .look .ensures)
+alike-requires-2 c κs = points-within (c .before .before .before .before .before)
 
 add-columns : tie.Need-add-columns
 add-columns c = let small = count-small (good c) in omega arith
@@ -102,49 +112,30 @@ sub-t30 : tie.Need-sub-t30
 sub-t30 c = search needs
 
 sub-t31 : tie.Need-sub-t31
-sub-t31 c = let f = fit (c .before .before .before .before .before .before .before .before .before .before .before) in omega arith
+sub-t31 c = omega (arith, fit (counted (c .before .before .before .before .before)))
 
 sub-t32 : tie.Need-sub-t32
-sub-t32 c = let f = fit (c .before .before .before .before .before .before .before .before .before .before .before) in omega arith
+sub-t32 c = omega (arith, fit (counted (c .before .before .before .before .before)))
 
 same-length-2 : tie.Need-same-length-2
 same-length-2 c = search needs
 
 same-length-3 : tie.Need-same-length-3
 same-length-3 c =
-    let l = c .before .before .before .before .before .before .before .before .before .before .before .before .before .before .before .before .before in
-    ap length (c .before .before .before .before .before .settle .ensures .clears)
-    ∙ zeroed-length work-room _ (room-after (question (start l)) (start l .pre) _ (l .look .result) (l .look .ensures)) ∙ l .look .ensures .same-length
+    let v = c .before .before .before .before .before in
+    let l = seen (counted v) in
+    ap length (v .settle .ensures .clears) ∙ zeroed-length work-room _ (room l) ∙ l .look .ensures .same-length
 
 returns-2 : tie.Need-returns-2
 returns-2 c =
-    let e = c .before .before .before .before .before .before .before .before .before .before .before in
-    let t = c .before .before .before .before .before .before .before .before .before .equations in
-    let v = c .before .before .before .before .before .before .before .before .solution in
-    let w = c .before .before .before .before .before .settle in
-    answered-so (good e) (t .result) (t .ensures) (v .result) (v .ensures) (e .before .alike .result) (e .before .alike .ensures) (w .result) (w .ensures)
-    (c .at .result) (c .at .ensures)
+    let v = c .before .before .before .before .before in
+    let s = v .before .before .before in
+    let t = s .before in
+    let e = counted v in
+    answered-so (good e) (t .equations .result) (t .equations .ensures) (s .solution .result) (s .solution .ensures)
+    (e .before .alike .result) (e .before .alike .ensures) (v .settle .result) (v .settle .ensures) (c .at .result) (c .at .ensures)
 
 pub answer-spec : {M : Type 1} → statement M
 answer-spec =
-    tie.close
-    (tie.spec
-    look-requires
-    least-size-requires
-    no-good-point-requires
-    same-length
-    returns
-    alike-requires
-    alike-requires-2
-    add-columns
-    equations-requires
-    solution-requires
-    settle-requires
-    at-requires
-    cast-t17
-    sub-t30
-    sub-t31
-    sub-t32
-    same-length-2
-    same-length-3
-    returns-2)
+    tie.close (tie.spec look-requires least-size-requires no-good-point-requires same-length returns alike-requires alike-requires-2 add-columns
+    equations-requires solution-requires settle-requires at-requires cast-t17 sub-t30 sub-t31 sub-t32 same-length-2 same-length-3 returns-2)

@@ -1,4 +1,4 @@
--- `divisor::candidate` meets its contract: the fault of the table, or the answer. Assumes nothing.
+-- `divisor::candidate` meets its contract: the fault of the table, or the answer.
 use Rattle.field.specs.faults.Laws.{tested-refuses, tested-passes}
 use Rattle.divisor.specs.Candidate.{Call, candidate-call, table, refused}
 use borrow.Author.Needs.{needs}
@@ -11,20 +11,28 @@ question s =
     let a = s .args in
     candidate-call (a .p) (a .first .now) (a .second .now) (a .skeleton .now) (a .points .now) (a .out .now) (a .work .now)
 
+-- with the inputs tested: where the routine began
+abbrev start : tie.After-candidate-fault → tie.Start
+start f = f .before .before .before .before .before .before .before
+
 candidate-fault-requires : tie.Need-candidate-fault-requires
 candidate-fault-requires c κs = search needs
 
+refused-requires : tie.Need-refused-requires
+refused-requires c κs = search needs
+
 returns : tie.Need-returns
 returns c =
-    let s = c .before .before .before .before .before .before .before .before .before in
-    let f = c .before .before .candidate-fault in
-    refused (f .result) (tested-refuses (table (question s)) (f .result) (f .ensures) (c .if1 .taken))
+    let test = c .before in
+    let f = test .before .before in
+    rw (c .refused .ensures)
+    (refused _ (tested-refuses (table (question (start f))) _ (f .candidate-fault .ensures) (test .if1 .taken)))
 
 answer-requires : tie.Need-answer-requires
 answer-requires c κs =
-    let s = c .before .before .before .before .before .before .before .before .before .before .before in
-    let f = c .before .before .before .before .candidate-fault in
-    tested-passes (table (question s)) tt (f .result) (f .ensures) (c .before .before .if1 .left) .0
+    let test = c .before .before in
+    let f = test .before .before in
+    tested-passes (table (question (start f))) tt _ (f .candidate-fault .ensures) (test .if1 .left) .0
 
 same-length : tie.Need-same-length
 same-length c = search needs
@@ -36,6 +44,4 @@ returns-2 : tie.Need-returns-2
 returns-2 c = c .before .before .before .before .answer .ensures
 
 pub candidate-spec : {M : Type 1} → statement M
-candidate-spec =
-    tie.close
-    (tie.spec candidate-fault-requires returns answer-requires same-length same-length-2 returns-2)
+candidate-spec = tie.close (tie.spec candidate-fault-requires refused-requires returns answer-requires same-length same-length-2 returns-2)

@@ -1,4 +1,4 @@
--- `divisor::no_good_point` meets its contract, from what its calls say. Assumes nothing.
+-- `divisor::no_good_point` meets its contract: the fault is the one made, and the work room is long enough, so all of it is cleared.
 use mathlib.Core.Path.{ap}
 use borrow.Author.Needs.{needs}
 use Rattle.field.specs.declared.faults.Fault.{Fault}

@@ -1,5 +1,5 @@
 -- What the routine finds, put together, meets the promise of the call: from the images looked at, what the equations have for solutions,
--- and the two trial divisions. Assumes nothing.
+-- and the two trial divisions.
 use mathlib.Core.Path.{_≡_, refl, sym, _∙_, ap, subst}
 use mathlib.Core.List.{List, [], _∷_, map}
 use Prim.Native.Nat.{ℕ, suc, _+_, _-_, _≤_, _<_}
@@ -22,7 +22,7 @@ use Rattle.poly.specs.Terms.{Polynomial, numbers-of, poly, coefficient-limit}
 use Rattle.poly.specs.PointImage.{Divides, Image}
 use Rattle.poly.specs.Room.{written, cleared}
 use Rattle.poly.specs.image.Laws.{image-within}
-use Rattle.divisor.specs.Rule.{report, Kept, Sorted, Unknowns, Solution, OnlySolution, without-zeros, made-monic, divisor, Verdict, none, several, rejected, accepted, all-bad, some-good}
+use Rattle.divisor.specs.Rule.{Counts, none-good, report, Kept, Sorted, Unknowns, Solution, OnlySolution, without-zeros, made-monic, divisor, Verdict, unsolvable, several, rejected, accepted, all-bad, some-good}
 use Rattle.divisor.specs.Candidate.{Call, table, prime, Numbers, A, B, monomials, lent-points, Result, Candidate, answered}
 use Rattle.divisor.specs.table.Meaning.{entries}
 use Rattle.divisor.specs.equations.Rows.{all-rows, with-coefficients, unknowns-of}
@@ -62,9 +62,9 @@ module _ (c : Call) (pass : Passes (table c)) (listed : Listed (c .modulus)) whe
 
   -- all points are bad
   pub answer-all-bad : AllZero (sizes-of (looks-of c))
-      → Candidate c (record { found = report NO_GOOD_POINT 0 (point-count c) 0 0 0; output = c .output; work = cleared (c .work) })
+      → Candidate c (record { found = report NO_GOOD_POINT (none-good (point-count c)) 0; output = c .output; work = cleared (c .work) })
   answer-all-bad h =
-      subst (λ (n : ℕ). Candidate c (record { found = report NO_GOOD_POINT 0 n 0 0 0; output = c .output; work = cleared (c .work) }))
+      subst (λ (n : ℕ). Candidate c (record { found = report NO_GOOD_POINT (none-good n) 0; output = c .output; work = cleared (c .work) }))
       (points-length p P (c .points))
       (answered pass listed _ [] (all-bad (sorting.all-bad P (A c listed) (B c listed) (lent-points c listed) (looks-of c) (looked c pass listed) h)))
 
@@ -90,10 +90,14 @@ module _ (c : Call) (pass : Passes (table c)) (listed : Listed (c .modulus)) whe
         let m = count-kept in
         omega arith
 
+    -- what is counted, where so many points are unlucky and kept
+    abbrev pub counted : ℕ → ℕ → Counts
+    counted u n = record { d = d; bad = bad-points; unlucky = u; kept = n }
+
     -- the record and the rooms of a verdict
     abbrev pub result : ℕ → List ℕ → Result
     result number terms = record {
-      found = report number d bad-points (point-count c - bad-points - kept-points) kept-points (length terms);
+      found = report number (counted (point-count c - bad-points - kept-points) kept-points) (length terms);
       output = written terms (c .output);
       work = cleared (c .work);
     }
@@ -103,7 +107,7 @@ module _ (c : Call) (pass : Passes (table c)) (listed : Listed (c .modulus)) whe
         → Candidate c (result number (numbers-of p P G))
     answer-verdict number G v = subst (Candidate c)
         (λ i. record {
-          found = report number d bad-points (count-unlucky i) (count-kept i) (sym (length-numbers p P G) i);
+          found = report number (counted (count-unlucky i) (count-kept i)) (sym (length-numbers p P G) i);
           output = written (numbers-of p P G) (c .output);
           work = cleared (c .work);
         })
@@ -127,7 +131,7 @@ module _ (c : Call) (pass : Passes (table c)) (listed : Listed (c .modulus)) whe
     length-monomials = length-map (c .skeleton) exponents
 
     pub answer-none : linear.NoSolution (Numbers c listed) unknowns equations → Candidate c (result NO_SOLUTION [])
-    answer-none h = answer-verdict NO_SOLUTION [] (none (no-solution (Numbers c listed) (monomials c listed) k ks
+    answer-none h = answer-verdict NO_SOLUTION [] (unsolvable (no-solution (Numbers c listed) (monomials c listed) k ks
         (subst (λ (n : ℕ). linear.NoSolution (Numbers c listed) (n + length ks) equations) (sym length-monomials) h)))
 
     pub answer-several : (v w : List (Fp (c .modulus))) → linear.DifferentSolutions (Numbers c listed) unknowns equations v w

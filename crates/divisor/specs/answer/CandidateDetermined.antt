@@ -1,4 +1,4 @@
--- The promise of the candidate call settles the record, the output and the work room: two results that meet it are equal. Assumes nothing.
+-- The promise of the candidate call settles the record, the output and the work room: two results that meet it are equal.
 use mathlib.Core.Path.{_≡_, subst}
 use mathlib.Core.List.{_++_}
 use lib.ListN.{length}
@@ -10,8 +10,8 @@ use Rattle.poly.specs.Lists.{of-lists}
 use Rattle.poly.specs.Room.{of-rooms, written, cleared}
 use Rattle.poly.specs.list.Check.{lists-one-place}
 use Rattle.divisor.specs.declared.CandidateRecord.{CandidateRecord}
-use Rattle.divisor.specs.Rule.{Answer}
-use Rattle.divisor.specs.Candidate.{Call, table, prime, Numbers, A, B, monomials, lent-points, refusal, Result, Candidate, refused, answered, of-skeleton, of-points}
+use Rattle.divisor.specs.Rule.{RuleAnswer}
+use Rattle.divisor.specs.Candidate.{Call, table, prime, Numbers, A, B, monomials, lent-points, refused-record, Result, Candidate, refused, answered, of-skeleton, of-points}
 use Rattle.divisor.specs.answer.Determined.{answer-determined}
 
 table-one-place : (c : Call) → OnePlaceEach (table c)
@@ -22,7 +22,7 @@ table-one-place c =
     (whole-one-place _, (first-one-place _, (whole-one-place _, (first-one-place _, (whole-one-place _, (whole-one-place _, tt))))))
 
 abbrev pub answer-of : (c : Call) (listed : Listed (c .modulus)) → CandidateRecord → Polynomial (Numbers c listed) → Type 0
-answer-of c listed = Answer (Numbers c listed) (A c listed) (B c listed) (monomials c listed) (lent-points c listed)
+answer-of c listed = RuleAnswer (Numbers c listed) (A c listed) (B c listed) (monomials c listed) (lent-points c listed)
 
 abbrev pub result-of : (c : Call) (listed : Listed (c .modulus)) → CandidateRecord → Polynomial (Numbers c listed) → Result
 result-of c listed f G = record { found = f; output = written (numbers-of (c .modulus) (prime c listed) G) (c .output); work = cleared (c .work) }
@@ -43,7 +43,7 @@ answered-determined c listed listed′ f g G H x y =
 pub candidate-determined : (c : Call) (r q : Result) → Candidate c r → Candidate c q → r ≡ q
 candidate-determined c r q (refused f h) (refused g k) =
     let e = refuses-determined (table c) (table-one-place c) f g h k in
-    λ i. record { found = refusal (e i); output = c .output; work = c .work }
+    λ i. record { found = refused-record (e i); output = c .output; work = c .work }
 candidate-determined c r q (refused f h) (answered pass listed g G x) = absurd (not-passes-and-refuses (table c) f pass h)
 candidate-determined c r q (answered pass listed f G x) (refused g h) = absurd (not-passes-and-refuses (table c) g pass h)
 candidate-determined c r q (answered pass listed f G x) (answered pass′ listed′ g H y) = answered-determined c listed listed′ f g G H x y

@@ -1,4 +1,4 @@
--- The rule settles its answer: two answers to the same question are equal. Assumes nothing.
+-- The rule settles its answer: two answers to the same question are equal.
 use mathlib.Core.Path.{_≡_, refl, sym, _∙_, ap, ap₂, subst}
 use mathlib.Core.List.{List, _∷_}
 use lib.ListN.{length}
@@ -11,7 +11,7 @@ use Rattle.poly.specs.Terms.{Polynomial}
 use Rattle.poly.specs.PointValue.{Point}
 use Rattle.poly.specs.image.Laws.{image-unique}
 use Rattle.divisor.specs.declared.CandidateRecord.{CandidateRecord}
-use Rattle.divisor.specs.Rule.{report, DividesBoth, Kept, Sorted, done, bad, unlucky, keep, AllBad, Unknowns, OnlySolution, SeveralSolutions, divisor, Verdict, none, several, rejected, accepted, Answer, all-bad, some-good}
+use Rattle.divisor.specs.Rule.{report, DividesBoth, Kept, Sorted, done, bad, unlucky, keep, AllBad, Unknowns, OnlySolution, SeveralSolutions, divisor, Verdict, unsolvable, several, rejected, accepted, RuleAnswer, all-bad, some-good}
 
 module _ (K : Field) (A B : Polynomial K) where
   open Field K using (ring as R)
@@ -68,27 +68,27 @@ module _ (K : Field) (A B : Polynomial K) where
 
   verdict-determined : (monomials : List Exponents) (kept : List (Kept K)) (n m : ℕ) (G H : Polynomial K)
       → Verdict K A B monomials kept n G → Verdict K A B monomials kept m H → (n ≡ m) × (G ≡ H)
-  verdict-determined monomials kept n m G H (none z) (none y) = (refl, refl)
-  verdict-determined monomials kept n m G H (none z) (several t) = absurd (z (t .0) (t .2))
-  verdict-determined monomials kept n m G H (none z) (rejected t only x) = absurd (z t (only .0))
-  verdict-determined monomials kept n m G H (none z) (accepted t only x) = absurd (z t (only .0))
-  verdict-determined monomials kept n m G H (several s) (none z) = absurd (z (s .0) (s .2))
+  verdict-determined monomials kept n m G H (unsolvable z) (unsolvable y) = (refl, refl)
+  verdict-determined monomials kept n m G H (unsolvable z) (several t) = absurd (z (t .0) (t .2))
+  verdict-determined monomials kept n m G H (unsolvable z) (rejected t only x) = absurd (z t (only .0))
+  verdict-determined monomials kept n m G H (unsolvable z) (accepted t only x) = absurd (z t (only .0))
+  verdict-determined monomials kept n m G H (several s) (unsolvable z) = absurd (z (s .0) (s .2))
   verdict-determined monomials kept n m G H (several s) (several t) = (refl, refl)
   verdict-determined monomials kept n m G H (several s) (rejected t only x) = absurd (not-several monomials kept t only s)
   verdict-determined monomials kept n m G H (several s) (accepted t only x) = absurd (not-several monomials kept t only s)
-  verdict-determined monomials kept n m G H (rejected s only x) (none z) = absurd (z s (only .0))
+  verdict-determined monomials kept n m G H (rejected s only x) (unsolvable z) = absurd (z s (only .0))
   verdict-determined monomials kept n m G H (rejected s only x) (several t) = absurd (not-several monomials kept s only t)
   verdict-determined monomials kept n m G H (rejected s only x) (rejected t only′ y) = (refl, refl)
   verdict-determined monomials kept n m G H (rejected s only x) (accepted t only′ y) =
       absurd (x (subst (λ (v : Unknowns K). DividesBoth K A B (divisor K v)) (only .1 t (only′ .0)) y))
-  verdict-determined monomials kept n m G H (accepted s only x) (none z) = absurd (z s (only .0))
+  verdict-determined monomials kept n m G H (accepted s only x) (unsolvable z) = absurd (z s (only .0))
   verdict-determined monomials kept n m G H (accepted s only x) (several t) = absurd (not-several monomials kept s only t)
   verdict-determined monomials kept n m G H (accepted s only x) (rejected t only′ y) =
       absurd (y (subst (λ (v : Unknowns K). DividesBoth K A B (divisor K v)) (only′ .1 s (only .0)) x))
   verdict-determined monomials kept n m G H (accepted s only x) (accepted t only′ y) = (refl, ap (divisor K) (only′ .1 s (only .0)))
 
   pub answer-determined : (monomials : List Exponents) (points : List (Point R)) (r q : CandidateRecord) (G H : Polynomial K)
-      → Answer K A B monomials points r G → Answer K A B monomials points q H → (r ≡ q) × (G ≡ H)
+      → RuleAnswer K A B monomials points r G → RuleAnswer K A B monomials points q H → (r ≡ q) × (G ≡ H)
   answer-determined monomials points r q G H (all-bad all) (all-bad all′) = (refl, refl)
   answer-determined monomials points r q G H (all-bad all) (some-good d b u k ks s n I x) = absurd (not-all-bad d points b u k ks s all)
   answer-determined monomials points r q G H (some-good d b u k ks s n I x) (all-bad all) = absurd (not-all-bad d points b u k ks s all)
@@ -98,4 +98,4 @@ module _ (K : Field) (A B : Polynomial K) where
       let same : d ≡ e = omega arith in
       let sorted = sorted-determined e points b u c w (k ∷ ks) (l ∷ ls) (subst (λ (f : ℕ). Sorted K A B f points b u (k ∷ ks)) same s) t in
       let v = verdict-determined monomials (l ∷ ls) n m I J (subst (λ (ms : List (Kept K)). Verdict K A B monomials ms n I) (sorted .2) x) y in
-      (λ i. report (v .0 i) (same i) (sorted .0 i) (sorted .1 i) (length (sorted .2 i)) (length (v .1 i)), v .1)
+      (λ i. report (v .0 i) (record { d = same i; bad = sorted .0 i; unlucky = sorted .1 i; kept = length (sorted .2 i) }) (length (v .1 i)), v .1)

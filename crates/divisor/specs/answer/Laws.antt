@@ -1,4 +1,4 @@
--- From what the calls of the routine give back to the promise of the call, where the inputs pass. Assumes nothing.
+-- From what the calls of the routine give back to the promise of the call, where the inputs pass.
 use mathlib.Core.Path.{_≡_, sym, _∙_, ap, ap₂, subst}
 use mathlib.Core.List.{List}
 use Prim.Native.Nat.{ℕ, zero, suc, _+_, _-_, _≤_, _<_}
@@ -14,18 +14,18 @@ use Rattle.divisor.specs.declared.table.Kind.{Kind}
 use Rattle.divisor.specs.declared.table.Kind.the-variants.{None, One, Several}
 use Rattle.divisor.specs.declared.table.Solved.{Solved}
 use Rattle.divisor.specs.declared.table.Table.{Table}
-use Rattle.divisor.specs.declared.verdict.Verdict.{Verdict}
+use Rattle.divisor.specs.declared.verdict.Ruling.{Ruling}
 use Rattle.divisor.specs.Rule.{Kept}
 use Rattle.divisor.specs.Candidate.{Call, table, prime, Numbers, monomials, Candidate}
 use Rattle.divisor.specs.table.Model.{Columns, TableReady, empty-table, solved}
 use Rattle.divisor.specs.table.Meaning.{added, rows-of, Says}
 use Rattle.divisor.specs.table.Kept.{empty-ready}
-use Rattle.divisor.specs.table.Added.{added-ready}
+use Rattle.divisor.specs.table.Added.{adds-ready}
 use Rattle.divisor.specs.table.Answer.{table-answers, solved-below, solved-length}
 use Rattle.divisor.specs.equations.Rows.{kept-rows, all-rows}
 use Rattle.divisor.specs.sorting.Model.{sizes-of, least, alike}
 use Rattle.divisor.specs.points.Model.{Looks, Equations-before}
-use Rattle.divisor.specs.verdict.Model.{NoGoodPoint, VerdictReady, Settles, Settled, MakesDivisor, none, several, rejected, accepted}
+use Rattle.divisor.specs.verdict.Model.{NoGoodPoint, VerdictReady, Settles, Settled, MakesDivisor, unsolvable, several, rejected, accepted}
 use Rattle.divisor.specs.checks.Passed.{point-count, looks-of, right-lists, keys-most, output-fits}
 use Rattle.divisor.specs.sorting.Laws.{least-is}
 use Rattle.divisor.specs.monic.Terms.{AllBelow, all-below}
@@ -73,8 +73,7 @@ module _ {c : Call} {after sizes : List ℕ} {m count : ℕ} (good : SomeGood c 
 
   module _ (t : Table) (made : Equations-before (point-count c) (c .modulus) (c .skeleton) (c .points) sizes after m (length (c .skeleton) + count) t) where
     pub ready-table : TableReady (c .modulus) t
-    ready-table = subst (TableReady p) (sym (made .adds)) (added-ready p _ (made .rows)
-        (empty-ready p _ listed columns) (made .ready))
+    ready-table = adds-ready p (made .adds) (empty-ready p _ listed columns)
 
     abbrev unknowns : ℕ
     unknowns = length (c .skeleton) + length ks
@@ -99,8 +98,8 @@ module _ {c : Call} {after sizes : List ℕ} {m count : ℕ} (good : SomeGood c 
         let a : length (c .skeleton) + count ≡ suc unknowns = omega arith in
         subst (λ (rs : List (List (Fp p))). Says p P unknowns rs (solved p t .kind) (solved p t .values)) means
         (subst (λ (u : Table). Says p P unknowns (rows-of p unknowns (made .rows)) (solved p u .kind) (solved p u .values))
-        (sym (made .adds ∙ ap (λ (x : ℕ). added p (empty-table x) (made .rows)) a))
-        (table-answers p P unknowns (omega arith) (made .rows) listed (made .ready)))
+        (sym (made .adds .is ∙ ap (λ (x : ℕ). added p (empty-table x) (made .rows)) a))
+        (table-answers p P unknowns (omega arith) (made .rows) listed (made .adds .ready)))
 
     module _ (s : Solved) (is-solved : s ≡ solved (c .modulus) t) where
       says-as : (x : Kind) → s .kind ≡ x → Says p P unknowns equations x (s .values)
@@ -135,7 +134,7 @@ module _ {c : Call} {after sizes : List ℕ} {m count : ℕ} (good : SomeGood c 
       -- what is settled is the rule's verdict
       settles : (number : ℕ) (terms : List ℕ) → Settles p (c .first-list) (c .second-list) (c .skeleton) s number terms
           → Candidate c (assembled.result c pass listed d (kept .at-least) k ks (kept .kept-is) number terms)
-      settles number terms (none e) = assembled.answer-none c pass listed d (kept .at-least) k ks (kept .kept-is) (says-as None e)
+      settles number terms (unsolvable e) = assembled.answer-none c pass listed d (kept .at-least) k ks (kept .kept-is) (says-as None e)
       settles number terms (several e) =
           let q = says-as Several e in assembled.answer-several c pass listed d (kept .at-least) k ks (kept .kept-is) (q .0) (q .1) (q .2)
       settles number terms (rejected e h) =
@@ -143,7 +142,7 @@ module _ {c : Call} {after sizes : List ℕ} {m count : ℕ} (good : SomeGood c 
       settles number terms (accepted e h) =
           assembled.answer-accepted c pass listed d (kept .at-least) k ks (kept .kept-is) (s .values) (says-as One e) long first-below (h P)
 
-      pub answered-so : (bad : ℕ) → bad ≡ alike 0 (take (point-count c) sizes) → {output work : List ℕ} (v : Verdict)
+      pub answered-so : (bad : ℕ) → bad ≡ alike 0 (take (point-count c) sizes) → {output work : List ℕ} (v : Ruling)
           → Settled (c .modulus) (c .first-list) (c .second-list) (c .skeleton) s (c .output) output after work v
           → (f : Fault) → f ≡ fault (v .number) 0
           → Candidate c (record {

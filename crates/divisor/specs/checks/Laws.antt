@@ -1,4 +1,4 @@
--- The checks of skeleton and points: what the searches settle, line by line. Assumes nothing.
+-- The checks of skeleton and points: what the searches settle, line by line.
 use mathlib.Core.Path.{_≡_, ap}
 use mathlib.Core.Logic.{_⊎_, inl, inr}
 use mathlib.Core.List.{List}

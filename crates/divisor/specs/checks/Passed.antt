@@ -1,4 +1,4 @@
--- Inputs that pass: what their lists, skeleton, points and rooms have, and that the images looked at are the rule's. Assumes nothing.
+-- Inputs that pass: what their lists, skeleton, points and rooms have, and that the images looked at are the rule's.
 use mathlib.Core.Path.{_≡_}
 use mathlib.Core.Logic.{_⊎_, inl, inr}
 use mathlib.Core.List.{List, _++_}

@@ -1,5 +1,5 @@
 -- Demand 3, second half, of the rule: where the kept points settle one solution, and A and B have a common divisor of degree d in x with only
--- proposed monomials, that one, made monic, is the answer. Assumes nothing.
+-- proposed monomials, that one, made monic, is the answer.
 use mathlib.Core.Path.{_≡_, sym, _∙_, ap, subst}
 use mathlib.Core.List.{List, [], _∷_, map}
 use lib.ListN.{length}
@@ -21,7 +21,7 @@ use Rattle.poly.specs.PointValue.{Point, value, x-degree}
 use Rattle.poly.specs.PointImage.{Image}
 use Rattle.poly.specs.image.Laws.{image-top}
 use Rattle.poly.specs.value.Laws.{polynomial-finite, value-finite, value-of-polynomial, WithinX}
-use Rattle.divisor.specs.Rule.{report, DividesBoth, Kept, Sorted, Unknowns, Equations, Solution, OnlySolution, without-zeros, divided-by, made-monic, divisor, Verdict, accepted, Answer, some-good}
+use Rattle.divisor.specs.Rule.{report, DividesBoth, Kept, Sorted, Unknowns, Equations, Solution, OnlySolution, without-zeros, divided-by, made-monic, divisor, Verdict, accepted, RuleAnswer, some-good}
 use Rattle.divisor.specs.Demands.{DegreeX}
 use Rattle.divisor.specs.monic.Value.{value-divided}
 use Rattle.divisor.specs.monic.Laws.{monic-of-multiple, monic-divides, divided-monomials}
@@ -82,7 +82,9 @@ module _ (K : Field) (A B : Polynomial K) (within : WithinX K (x-degree (K .ring
     pub common-divisor-found : (monomials : List Exponents) → map (λ (t : Term R). t .exponents) C ≡ monomials
         → (points : List (Point R)) (b u : ℕ) (k : Kept K) (kept : List (Kept K)) → Sorted K A B d points b u (k ∷ kept)
         → (s : Unknowns K) → OnlySolution K monomials (k ∷ kept) s
-        → Answer K A B monomials points (report 0 d b u (length (k ∷ kept)) (length (made-monic K (without-zeros K C)))) (made-monic K (without-zeros K C))
+        → RuleAnswer K A B monomials points
+        (report 0 (record { d = d; bad = b; unlucky = u; kept = length (k ∷ kept) }) (length (made-monic K (without-zeros K C))))
+        (made-monic K (without-zeros K C))
     unfolding solution-of
     common-divisor-found monomials e points b u k kept sorted s only =
         some-good d b u k kept sorted 0 _ (subst (Verdict K A B monomials (k ∷ kept) 0) same

@@ -1,4 +1,4 @@
--- Demand 3, first half, of the rule: an accepted G divides A and B, has the degree d in x, and no common divisor has a higher one. Assumes nothing.
+-- Demand 3, first half, of the rule: an accepted G divides A and B, has the degree d in x, and no common divisor has a higher one.
 use mathlib.Core.Path.{_≡_, sym, _∙_, ap, subst}
 use mathlib.Core.Logic.{_⊎_, inl, inr}
 use mathlib.Core.List.{List, [], _∷_}
@@ -24,7 +24,7 @@ use Rattle.poly.specs.PointImage.{Divides, DividesX, Bad, Image}
 use Rattle.poly.specs.image.Laws.{image-within}
 use Rattle.poly.specs.value.Laws.{polynomial-finite, valued, value-of-polynomial, WithinX, polynomial-ends}
 use Rattle.divisor.specs.declared.CandidateRecord.{CandidateRecord}
-use Rattle.divisor.specs.Rule.{DividesBoth, Kept, Sorted, done, bad, unlucky, keep, First, Equations, Unknowns, Solution, without-zeros, divisor, Verdict, none, several, rejected, accepted, Answer, all-bad, some-good}
+use Rattle.divisor.specs.Rule.{DividesBoth, Kept, Sorted, done, bad, unlucky, keep, First, Equations, Unknowns, Solution, without-zeros, divisor, Verdict, unsolvable, several, rejected, accepted, RuleAnswer, all-bad, some-good}
 use Rattle.divisor.specs.Demands.{DegreeX, IsPolynomial, GreatestInX}
 use Rattle.divisor.specs.monic.Value.{value-without-zeros, without-zeros-nonzero, made-monic-nonzero}
 
@@ -131,12 +131,12 @@ module _ (K : Field) where
 
   -- DEMAND 3, first half
   pub accepted-greatest : (A B : Polynomial K) (monomials : List Exponents) (points : List (Point R)) → WithinX K (x-degree R A) A → WithinX K 7 A
-      → (r : CandidateRecord) (G : Polynomial K) → Answer K A B monomials points r G → r .fault .number ≡ 0 → GreatestInX K A B G (r .degree)
+      → (r : CandidateRecord) (G : Polynomial K) → RuleAnswer K A B monomials points r G → r .fault .number ≡ 0 → GreatestInX K A B G (r .degree)
   accepted-greatest A B monomials points w small r G (all-bad all) e = absurd (omega arith)
   accepted-greatest A B monomials points w small r G (some-good d b u k kept sorted n H verdict) e = go n H verdict e
     where
       go : (n : ℕ) (H : Polynomial K) → Verdict K A B monomials (k ∷ kept) n H → n ≡ 0 → GreatestInX K A B H d
-      go n H (none z) e = absurd (omega arith)
+      go n H (unsolvable z) e = absurd (omega arith)
       go n H (several s) e = absurd (omega arith)
       go n H (rejected s only not-both) e = absurd (omega arith)
       go n H (accepted s only both) e = accepted-degree A B monomials points w small d b u k kept sorted s (only .0) both

@@ -1,4 +1,4 @@
--- DEMAND 3, both halves: proved of every result that meets the candidate call's promise. Assumes nothing.
+-- DEMAND 3, both halves: proved of every result that meets the candidate call's promise.
 use mathlib.Core.Path.{_≡_, refl, sym, _∙_, ap, subst}
 use mathlib.Core.List.{List, [], _∷_, map}
 use Prim.Native.Nat.{ℕ, _≤_, _<_}

@@ -1,4 +1,4 @@
--- A polynomial with only proposed monomials is a list of terms with these monomials. Assumes nothing.
+-- A polynomial with only proposed monomials is a list of terms with these monomials.
 use mathlib.Core.Path.{_≡_, refl, sym, _∙_, ap, ap₂, subst}
 use mathlib.Core.Logic.{inl, inr}
 use mathlib.Core.List.{List, [], _∷_, map}

@@ -1,4 +1,4 @@
--- The rows say what the equations of the rule say: numbers solve them exactly if the unknowns that they stand for meet the equations. Assumes nothing.
+-- The rows say what the equations of the rule say: numbers solve them exactly if the unknowns that they stand for meet the equations.
 use mathlib.Core.Path.{_≡_, refl, sym, _∙_, ap, subst}
 use mathlib.Core.List.{List, [], _∷_, _++_}
 use Prim.Native.Nat.{ℕ, suc, _<_}

@@ -14,8 +14,8 @@ use Rattle.poly.specs.ImageCall.{point-of}
 use Rattle.divisor.specs.declared.table.Row.{Row}
 use Rattle.divisor.specs.declared.table.Table.{Table}
 use Rattle.divisor.specs.Rule.{Kept}
-use Rattle.divisor.specs.table.Model.{COLUMNS, cell, TableReady}
-use Rattle.divisor.specs.table.Meaning.{added, rows-of, AllReady}
+use Rattle.divisor.specs.table.Model.{most-columns, cell, TableReady}
+use Rattle.divisor.specs.table.Meaning.{rows-of, Adds}
 use Rattle.divisor.specs.equations.Rows.{rows-at}
 
 -- the coefficient of x^i of the monomial with the key k, where the powers of y, z and w are given
@@ -34,12 +34,12 @@ pub record EquationReady (p : ℕ) (ys zs ws ks : List ℕ) (column u : ℕ) : T
   pub w-powers : Eight p ws
   pub small : (j : ℕ) → j < length ks → getD ks j 0 < keys
   pub behind : length ks ≤ column
-  pub within : column < COLUMNS
+  pub within : column < most-columns
   pub below : u < p
 
 -- the row: a number for each key, u in the column, and 0 elsewhere
 pub record IsEquation (p : ℕ) (ys zs ws ks : List ℕ) (i column u : ℕ) (r : Row) : Type 0 where
-  pub size : length (r .cells) ≡ COLUMNS
+  pub size : length (r .cells) ≡ most-columns
   pub monomials : (j : ℕ) → j < length ks → cell r j ≡ monomial-number p ys zs ws i (getD ks j 0)
   pub multiplier : cell r column ≡ u
   pub others : (j : ℕ) → length ks ≤ j → ¬ (j ≡ column) → cell r j ≡ 0
@@ -60,7 +60,6 @@ kept-numbers p P point image = record { point = point-of p P point; image = seri
 -- r is t with the equations of x^0 to x^(j - 1) at a point, whose multiplier stands in the given column
 pub record Equations-to (j p : ℕ) (t : Table) (ks point image : List ℕ) (column : ℕ) (r : Table) : Type 0 where
   pub rows : List Row
-  pub ready : AllReady p rows
-  pub adds : r ≡ added p t rows
+  pub adds : Adds p t rows r
   pub means : (P : Prime p) (c n m : ℕ) → suc c ≡ length ks + n → column ≡ length ks + m → m < n
       → rows-of p c rows ≡ rows-at (Modulo p P) (map exponents ks) n m (kept-numbers p P point image) 0 j

@@ -1,4 +1,4 @@
--- The turns of the loop that adds the equations of a point: one more power of x at the end. Assumes nothing.
+-- The turns of the loop that adds the equations of a point: one more power of x at the end.
 use mathlib.Core.Path.{_≡_, refl, sym, _∙_, ap, ap₂, subst}
 use mathlib.Core.List.{List, [], _∷_, _++_, map}
 use Prim.Native.Nat.{ℕ, zero, suc, _+_, _-_, _%_, _<_}
@@ -18,9 +18,8 @@ use Rattle.poly.specs.Coefficients.{series}
 use Rattle.divisor.specs.declared.table.Row.{Row}
 use Rattle.divisor.specs.declared.table.Table.{Table}
 use Rattle.divisor.specs.Rule.{Kept}
-use Rattle.divisor.specs.table.Model.{TableReady, with-row}
-use Rattle.divisor.specs.table.Meaning.{added}
-use Rattle.divisor.specs.table.Added.{added-append, added-ready, ready-append, rows-append}
+use Rattle.divisor.specs.table.Model.{with-row}
+use Rattle.divisor.specs.table.Added.{adds-none, adds-one, adds-more, rows-append}
 use Rattle.divisor.specs.equations.Rows.{row, rows-at}
 use Rattle.divisor.specs.equations.Model.{IsEquation, Equations-to, kept-numbers}
 use Rattle.divisor.specs.equations.RowLaws.{equation-ready, equation-row}
@@ -45,11 +44,7 @@ equation-with {p} {ks = ks} {i} {column} {u} {r} a b c h =
 
 module _ (p : ℕ) (t : Table) (ks point image : List ℕ) (column : ℕ) where
   pub point-start : Equations-to 0 p t ks point image column t
-  point-start = record { rows = []; ready = tt; adds = (unfold added in refl); means = λ P c n m a b d. refl }
-
-  -- the table is ready for the next equation
-  pub point-ready : (j : ℕ) (r : Table) → TableReady p t → Equations-to j p t ks point image column r → TableReady p r
-  point-ready j r ready h = subst (TableReady p) (sym (h .adds)) (added-ready p t (h .rows) ready (h .ready))
+  point-start = record { rows = []; adds = adds-none p t; means = λ P c n m a b d. refl }
 
   -- one more power of x
   pub point-next : (j : ℕ) (r : Table) (u : ℕ) (e : Row) (s : Table) → 0 < p → getD image j 0 < p → u ≡ (p - getD image j 0) % p
@@ -57,8 +52,7 @@ module _ (p : ℕ) (t : Table) (ks point image : List ℕ) (column : ℕ) where
       → Equations-to j p t ks point image column r → s ≡ with-row p r e → Equations-to (j + 1) p t ks point image column s
   point-next j r u e s pos below eu is h q = record {
     rows = h .rows ++ (e ∷ []);
-    ready = ready-append p (h .rows) (e ∷ []) (h .ready) (equation-ready p pos _ _ _ ks j column u e (subst (λ (n : ℕ). n < p) (sym eu) (mod-lt _ pos)) is, tt);
-    adds = q ∙ ap (λ (x : Table). with-row p x e) (h .adds) ∙ sym (added-append p t (h .rows) (e ∷ []) ∙ (unfold added in refl));
+    adds = adds-more p (h .adds) (rw q (adds-one p r e (equation-ready p pos _ _ _ ks j column u e (rw eu (mod-lt _ pos)) is)));
     means = λ P c n m l b d.
         rows-append p c (h .rows) (e ∷ [])
         ∙ ap₂ (λ xs x. xs ++ (x ∷ [])) (h .means P c n m l b d)

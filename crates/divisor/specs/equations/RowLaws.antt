@@ -1,4 +1,4 @@
--- The row of an equation in plain numbers is the row of the equation over the field, and its cells are below p. Assumes nothing.
+-- The row of an equation in plain numbers is the row of the equation over the field, and its cells are below p.
 use mathlib.Core.Path.{_≡_, refl, sym, _∙_, ap, ap₂, subst}
 use mathlib.Core.List.{List, [], _∷_, _++_, map, append-assoc}
 use Prim.Native.Nat.{ℕ, zero, suc, _+_, _*_, _%_, _≤_, _<_}

@@ -1,4 +1,4 @@
--- A row at numbers: it holds where its equation does, and so the rows of a point say the equations of that point. Assumes nothing.
+-- A row at numbers: it holds where its equation does, and so the rows of a point say the equations of that point.
 use mathlib.Core.Path.{_≡_, refl, sym, _∙_, ap, ap₂, subst}
 use mathlib.Core.List.{List, [], _∷_, _++_, map}
 use Prim.Native.Nat.{ℕ, zero, suc, _+_ as _+ₙ_, _<_}

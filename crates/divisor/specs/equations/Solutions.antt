@@ -1,4 +1,4 @@
--- The numbers that solve the rows and the unknowns that solve the equations are each other's: so none, one and several agree. Assumes nothing.
+-- The numbers that solve the rows and the unknowns that solve the equations are each other's: so none, one and several agree.
 use mathlib.Core.Path.{_≡_, refl, sym, _∙_, ap, ap₂, subst}
 use mathlib.Core.List.{List, [], _∷_, _++_, map, append-nil}
 use Prim.Native.Nat.{ℕ, suc, _+_ as _+ₙ_}

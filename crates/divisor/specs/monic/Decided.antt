@@ -1,4 +1,4 @@
--- A choice by a test whose outcome is known. Assumes nothing.
+-- A choice by a test whose outcome is known.
 use mathlib.Core.Path.{_≡_, refl}
 
 pub decided-yes : {A X : Type 0} (d : Dec X) (x y : A) → X → elim d [ yes e ↦ x | no e ↦ y ] ≡ x

@@ -1,5 +1,4 @@
 -- Dropping zero coefficients and dividing by a number: what they do to the polynomial; a polynomial and its monic form divide the same ones.
--- Assumes nothing.
 use mathlib.Core.Path.{_≡_, refl, sym, _∙_, ap, ap₂, subst}
 use mathlib.Core.List.{[], _∷_, map}
 use Prim.Native.Nat.{zero}

@@ -1,4 +1,4 @@
--- The divisor of a solution as a list of terms: it is not empty, it falls, and read again it is the divisor of the rule. Assumes nothing.
+-- The divisor of a solution as a list of terms: it is not empty, it falls, and read again it is the divisor of the rule.
 use mathlib.Core.Path.{_≡_, refl, sym, _∙_, ap, subst}
 use mathlib.Core.List.{List, [], _∷_, map}
 use Prim.Native.Nat.{ℕ, _*_, _%_, _≤_, _<_}

@@ -36,7 +36,7 @@ pub record Solvable (p : ℕ) (ks values : List ℕ) : Type 0 where
   pub led : 0 < leading (take (length ks) values)
 
 -- what it promises: the divisor's terms first
-pub record Monic (p : ℕ) (ks values : List ℕ) (r : Divisor) : Type 0 where
+pub record IsDivisor (p : ℕ) (ks values : List ℕ) (r : Divisor) : Type 0 where
   pub sized : length (r .terms) ≡ most-keys
   pub fits : r .count ≤ length ks
   pub terms : take (r .count) (r .terms) ≡ monic-terms p ks (take (length ks) values)

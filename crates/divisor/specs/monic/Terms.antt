@@ -1,4 +1,4 @@
--- The numbers that the code makes of a solution are the terms of its divisor. Assumes nothing.
+-- The numbers that the code makes of a solution are the terms of its divisor.
 use mathlib.Core.Path.{_≡_, refl, sym, _∙_, ap, ap₂, subst}
 use mathlib.Core.List.{List, [], _∷_, map}
 use Prim.Native.Nat.{ℕ, zero, suc, _*_, _%_, _<_}

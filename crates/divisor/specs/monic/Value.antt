@@ -1,4 +1,4 @@
--- Dropping zero coefficients and dividing by a number, at a point: what they do to the value. Assumes nothing.
+-- Dropping zero coefficients and dividing by a number, at a point: what they do to the value.
 use mathlib.Core.Path.{_≡_, refl, sym, _∙_, ap, ap₂}
 use mathlib.Core.List.{[], _∷_}
 use Prim.Native.Nat.{ℕ}

@@ -1,4 +1,4 @@
--- Looking at a point of inputs that pass: its coordinates are in order, what it gives is the rule's, and the image has eight numbers. Assumes nothing.
+-- Looking at a point of inputs that pass: its coordinates are in order, what it gives is the rule's, and the image has eight numbers.
 use mathlib.Core.Path.{sym, subst}
 use mathlib.Core.List.{List}
 use Prim.Native.Nat.{ℕ, _+_, _*_, _/_, _<_}

@@ -1,4 +1,4 @@
--- Parts of a list with as many numbers for each point: the a numbers of point i stand from the place a * i on. Assumes nothing.
+-- Parts of a list with as many numbers for each point: the a numbers of point i stand from the place a * i on.
 use mathlib.Core.Path.{_≡_, _∙_, ap}
 use mathlib.Core.List.{List}
 use Prim.Native.Nat.{ℕ, _+_, _-_, _*_, _≤_, _<_}

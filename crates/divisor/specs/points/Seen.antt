@@ -1,4 +1,4 @@
--- The points one after the other, with the records of their images: what the code has seen is what the rule speaks of. Assumes nothing.
+-- The points one after the other, with the records of their images: what the code has seen is what the rule speaks of.
 use mathlib.Core.Path.{_≡_, refl, sym, _∙_, ap, ap₂, subst}
 use mathlib.Core.Bool.{Bool, true, false}
 use mathlib.Core.List.{List, [], _∷_, _++_, append-assoc, append-nil}
@@ -18,7 +18,7 @@ use Rattle.divisor.specs.Candidate.{most-points, point-at, points-of}
 use Rattle.divisor.specs.sorting.Model.{sizes-of, kept-of}
 use Rattle.divisor.specs.equations.Model.{kept-numbers}
 use Rattle.divisor.specs.points.Model.{image-at, look-at, LookReady, Looks, kept-before}
-use Rattle.divisor.specs.sorting.Laws.{Looked, none, one}
+use Rattle.divisor.specs.sorting.Laws.{Looked, nowhere, one}
 use Rattle.divisor.specs.points.Looking.{look-answers}
 
 -- three numbers of the points are one point
@@ -68,7 +68,7 @@ module _ {p : ℕ} {A B points work : List ℕ} (ready : LookReady p A B points 
       → Looked P (terms-of p P A) (terms-of p P B) (points-of p P (left points i)) (looks-from p A B points i n)
   seen i zero e =
       subst (λ (l : List (Point (Modulo p P .ring))). Looked P (terms-of p P A) (terms-of p P B) l [])
-      (sym (no-point p P (left points i) (let q = left-length points i 0 e in omega arith))) none
+      (sym (no-point p P (left points i) (let q = left-length points i 0 e in omega arith))) nowhere
   seen i (suc n) e =
       subst (λ (l : List (Point (Modulo p P .ring))). Looked P (terms-of p P A) (terms-of p P B) l (looks-from p A B points i (suc n)))
       (sym (points-next P points i n e))

@@ -1,4 +1,4 @@
--- Storing numbers in the work room, and so the images of the points one after the other. Assumes nothing.
+-- Storing numbers in the work room, and so the images of the points one after the other.
 use mathlib.Core.Path.{_≡_, refl, sym, _∙_, ap}
 use mathlib.Core.Logic.{_⊎_, inl, inr}
 use mathlib.Core.List.{List}

@@ -1,4 +1,4 @@
--- The turns of the loop over the points that adds the equations of the kept ones. Assumes nothing.
+-- The turns of the loop over the points that adds the equations of the kept ones.
 use mathlib.Core.Path.{_≡_, refl, sym, _∙_, ap, ap₂, subst}
 use mathlib.Core.List.{List, [], _∷_, _++_, map, append-assoc, append-nil}
 use Prim.Native.Nat.{ℕ, zero, suc, _+_, _-_, _/_, _≤_, _<_}
@@ -14,9 +14,8 @@ use Rattle.poly.specs.Keys.{exponents}
 use Rattle.divisor.specs.declared.table.Table.{Table}
 use Rattle.divisor.specs.Rule.{Kept}
 use Rattle.divisor.specs.Candidate.{most-points, most-point-numbers, point-at}
-use Rattle.divisor.specs.table.Model.{TableReady, empty-table}
-use Rattle.divisor.specs.table.Meaning.{added}
-use Rattle.divisor.specs.table.Added.{added-append, added-ready, added-columns, ready-append, rows-append}
+use Rattle.divisor.specs.table.Model.{empty-table}
+use Rattle.divisor.specs.table.Added.{adds-none, adds-more, rows-append}
 use Rattle.divisor.specs.equations.Rows.{rows-at, rows-from, kept-rows}
 use Rattle.divisor.specs.sorting.Model.{alike}
 use Rattle.divisor.specs.equations.Model.{kept-numbers, Equations-to}
@@ -76,19 +75,12 @@ length-none P m points sizes work = refl
 
 module _ {p : ℕ} {ks points sizes work : List ℕ} {m columns : ℕ} where
   pub equations-start : Equations-before 0 p ks points sizes work m columns (empty-table columns)
-  equations-start = record { rows = []; ready = tt; adds = (unfold added in refl); means = λ P. (unfold kept-before in refl) }
+  equations-start = record { rows = []; adds = adds-none p (empty-table columns); means = λ P. (unfold kept-before in refl) }
 
   module _ {i : ℕ} {t : Table} (h : Equations-before i p ks points sizes work m columns t) where
-    pub equations-ready : TableReady p (empty-table columns) → TableReady p t
-    equations-ready ready = subst (TableReady p) (sym (h .adds)) (added-ready p (empty-table columns) (h .rows) ready (h .ready))
-
-    pub equations-columns : t .columns ≡ columns
-    equations-columns = ap (λ (s : Table). s .columns) (h .adds) ∙ added-columns p (empty-table columns) (h .rows) (h .ready)
-
     pub equations-other : ¬ (getD sizes i 0 ≡ m) → Equations-before (i + 1) p ks points sizes work m columns t
     equations-other n = record {
       rows = h .rows;
-      ready = h .ready;
       adds = h .adds;
       means = λ P. h .means P
           ∙ ap (kept-rows (Modulo p P) (map exponents ks) (alike m (take (length points / 3) sizes) - 1)) (sym (kept-other P m points sizes work i n));
@@ -99,8 +91,7 @@ module _ {p : ℕ} {ks points sizes work : List ℕ} {m columns : ℕ} where
         → Equations-to 8 p t ks (point-at points i) (image-at work i) column r → Equations-before (i + 1) p ks points sizes work m columns r
     equations-same e column kept n r counted total size col fits g = record {
       rows = h .rows ++ g .rows;
-      ready = ready-append p (h .rows) (g .rows) (h .ready) (g .ready);
-      adds = g .adds ∙ ap (λ (s : Table). added p s (g .rows)) (h .adds) ∙ sym (added-append p (empty-table columns) (h .rows) (g .rows));
+      adds = adds-more p (h .adds) (g .adds);
       means = λ P.
           let k = kept-numbers p P (point-at points i) (image-at work i) in
           let K = Modulo p P in

@@ -1,4 +1,4 @@
--- The points that are kept: as many as the sizes say, the rule's, and what the equations ask for. Assumes nothing.
+-- The points that are kept: as many as the sizes say, the rule's, and what the equations ask for.
 use mathlib.Core.Path.{_≡_, refl, sym, _∙_, ap, subst}
 use mathlib.Core.Logic.{inl, inr}
 use mathlib.Core.List.{List, [], _∷_}

@@ -1,4 +1,4 @@
--- Sorting by size is the sorting of the rule: sizes of 0 are bad points, the least size is that of the kept ones. Assumes nothing.
+-- Sorting by size is the sorting of the rule: sizes of 0 are bad points, the least size is that of the kept ones.
 use mathlib.Core.Path.{_≡_, refl, sym, _∙_, ap, subst}
 use mathlib.Core.Logic.{_⊎_, inl, inr}
 use mathlib.Core.Bool.{Bool, true, false}
@@ -111,14 +111,14 @@ least-is a (s ∷ sizes) = go (lesser a s) (lesser-is a s) (least-from (lesser a
 module _ {p : ℕ} (P : Prime p) (A B : Polynomial (Modulo p P)) where
   -- each point with the record of its image
   pub data Looked : List (Point (Modulo p P .ring)) → List PointImage → Type 0 where
-    none : Looked [] []
+    nowhere : Looked [] []
     one : {at : Point (Modulo p P .ring)} {points : List (Point (Modulo p P .ring))} {r : PointImage} {looks : List PointImage}
         → PointAnswer p P A B at r → Looked points looks → Looked (at ∷ points) (r ∷ looks)
 
   -- all sizes 0: all points bad
   pub all-bad : (points : List (Point (Modulo p P .ring))) (looks : List PointImage) → Looked points looks → AllZero (sizes-of looks)
       → AllBad (Modulo p P) A B points
-  all-bad points looks none h = tt
+  all-bad points looks nowhere h = tt
   all-bad points looks (one (bad x) rest) h = (x, all-bad _ _ rest (h .1))
   all-bad points looks (one (good degree cs e i) rest) h = absurd (let z : suc degree ≡ 0 = h .0 in omega arith)
 
@@ -145,7 +145,7 @@ module _ {p : ℕ} (P : Prime p) (A B : Polynomial (Modulo p P)) where
   -- the least size is that of the kept points
   pub sorted : (d : ℕ) (points : List (Point (Modulo p P .ring))) (looks : List PointImage) → Looked points looks → AtLeast (suc d) (sizes-of looks)
       → (u : ℕ) × Sorted (Modulo p P) A B d points (alike 0 (sizes-of looks)) u (kept-of P (suc d) points looks)
-  sorted d [] [] none h = (unfold alike kept-of in (0, done))
+  sorted d [] [] nowhere h = (unfold alike kept-of in (0, done))
   sorted d (at ∷ points) (r ∷ looks) (one (bad x) rest) h =
       let s = sorted d points looks rest (h .1) in
       sorted-by d at points r looks 0 refl
@@ -165,7 +165,7 @@ module _ {p : ℕ} (P : Prime p) (A B : Polynomial (Modulo p P)) where
   pub kept-count : (m : ℕ) (points : List (Point (Modulo p P .ring))) (looks : List PointImage) → Looked points looks
       → length (kept-of P m points looks) ≡ alike m (sizes-of looks)
   unfolding alike kept-of
-  kept-count m points looks none = refl
+  kept-count m points looks nowhere = refl
   kept-count m (at ∷ points) (r ∷ looks) (one a rest) = go (eqb (r .size) m) (kept-count m points looks rest)
     where
       go : (b : Bool) → length (kept-of P m points looks) ≡ alike m (sizes-of looks)

@@ -1,4 +1,4 @@
--- The turns of the loops that sort the points and that make the divisor, over the first n of a list. Assumes nothing.
+-- The turns of the loops that sort the points and that make the divisor, over the first n of a list.
 use mathlib.Core.Path.{_≡_, sym, _∙_, ap, ap₂}
 use mathlib.Core.List.{List, [], _∷_, _++_, append-assoc, append-nil}
 use Prim.Native.Nat.{ℕ, suc, _+_, _*_, _%_, _≤_, _<_}

@@ -1,5 +1,5 @@
 -- The table's answer is right: for equations of n unknowns, taken one after the other into the empty table, `None` says that there is no solution,
--- `One` that the values are the only one, and `Several` that there are two different ones. Assumes nothing.
+-- `One` that the values are the only one, and `Several` that there are two different ones.
 use mathlib.Core.Path.{_≡_, refl, sym, ap, _∙_, subst}
 use mathlib.Core.Bool.{Bool, true, false}
 use mathlib.Core.List.{List, [], _∷_}
@@ -7,7 +7,7 @@ use Prim.Native.Nat.{ℕ, zero, suc, _-_, _<_}
 use native.Mathlib.Omega.{arith}
 use lib.ListN.{length, getD, length-set}
 use Rattle.algebra.specs.Field.{Field}
-use Rattle.algebra.specs.Linear.{none, one, several, Meets, OnlySolution}
+use Rattle.algebra.specs.Linear.{unsolvable, one, several, Meets, OnlySolution}
 use Rattle.algebra.specs.Models.Elimination.{Table as Equations, fresh, has-failed, has-free, steps, solution, answer}
 use Rattle.algebra.specs.Laws.Linear.{solve-meets}
 use Rattle.field.specs.Moduli.{Listed}
@@ -20,7 +20,7 @@ use Rattle.divisor.specs.declared.table.Row.{Row}
 use Rattle.divisor.specs.declared.table.Table.{Table}
 use Rattle.divisor.specs.declared.table.Kind.{Kind}
 use Rattle.divisor.specs.declared.table.Kind.the-variants.{None, One, Several}
-use Rattle.divisor.specs.table.Model.{COLUMNS, empty-table, with-row, kind, back, zeros, solved-as, solved, TableReady}
+use Rattle.divisor.specs.table.Model.{most-columns, empty-table, with-row, kind, back, zeros, solved-as, solved, TableReady}
 use Rattle.divisor.specs.table.Meaning.{table-of, added, rows-of, AllReady, Says}
 use Rattle.divisor.specs.table.Added.{added-ready, added-columns}
 use Rattle.divisor.specs.table.Columns.{empty-columns, kind-as, full-columns, kind-by-columns}
@@ -44,7 +44,7 @@ module _ (p : ℕ) (P : Prime p) where
 
       go : (b f : Bool) → has-free T ≡ f
           → Meets K n (rows-of p n es)
-          (elim b [ true ↦ none | false ↦ elim f [ false ↦ one (solution K (el p 0) T) | true ↦ several (solution K (el p 0) T) (solution K (el p 1) T) ] ])
+          (elim b [ true ↦ unsolvable | false ↦ elim f [ false ↦ one (solution K (el p 0) T) | true ↦ several (solution K (el p 0) T) (solution K (el p 1) T) ] ])
           → Says p P n (rows-of p n es) (solved-as (kind-as b f) p t .kind) (solved-as (kind-as b f) p t .values)
       go true f e m = m
       go false true e m = (solution K (el p 0) T, solution K (el p 1) T, m)
@@ -61,7 +61,7 @@ module _ (p : ℕ) (P : Prime p) where
       ∙ ap (λ u. steps K u (rows-of p n es)) (table-step p P t ready n e (ok .0) size)
 
   -- equations of n unknowns, one after the other, and the answer
-  pub table-answers : (n : ℕ) → n < COLUMNS → (es : List Row) → Listed p → AllReady p es
+  pub table-answers : (n : ℕ) → n < most-columns → (es : List Row) → Listed p → AllReady p es
       → let s = solved p (added p (empty-table (suc n)) es) in Says p P n (rows-of p n es) (s .kind) (s .values)
   table-answers n most es listed ok =
       let ready = empty-ready p (suc n) listed (record { some = omega arith; most = omega arith }) in
@@ -74,7 +74,7 @@ pub solved-below : (p : ℕ) (t : Table) → TableReady p t → (k : ℕ) → ge
 solved-below p t ready k = go (kind t)
   where
     zero-below : getD zeros k 0 < p
-    zero-below = let h : 0 < p = listed-positive (ready .listed) in replicate-all (λ a. a < p) COLUMNS k 0 0 h h
+    zero-below = let h : 0 < p = listed-positive (ready .listed) in replicate-all (λ a. a < p) most-columns k 0 0 h h
 
     go : (x : Kind) → getD (solved-as x p t .values) k 0 < p
     go None = zero-below
@@ -87,10 +87,10 @@ unfolding back
 back-length p t zero v = refl
 back-length p t (suc j) v = back-length p t j _ ∙ length-set v j _
 
-pub solved-length : (p : ℕ) (t : Table) → length (solved p t .values) ≡ COLUMNS
+pub solved-length : (p : ℕ) (t : Table) → length (solved p t .values) ≡ most-columns
 solved-length p t = go (kind t)
   where
-    go : (x : Kind) → length (solved-as x p t .values) ≡ COLUMNS
+    go : (x : Kind) → length (solved-as x p t .values) ≡ most-columns
     go None = refl
     go One = back-length p t (t .columns - 1) zeros
     go Several = refl

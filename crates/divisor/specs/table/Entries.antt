@@ -1,4 +1,4 @@
--- The entries of rows: what subtracting, scaling and setting do to them in the field. Assumes nothing.
+-- The entries of rows: what subtracting, scaling and setting do to them in the field.
 use mathlib.Core.Path.{_≡_, refl, sym, ap, ap₂, _∙_}
 use mathlib.Core.List.{List, _∷_}
 use Prim.Native.Nat.{ℕ, zero, suc, _+_, _-_, _*_, _%_, _<_, _≤_}
@@ -15,7 +15,7 @@ use Rattle.field.specs.elements.Fp.{el-nonzero, el-val}
 use Rattle.field.specs.elements.Link.{product-el, plus-times-el, opposite-el}
 use Rattle.field.specs.Modulo.{Modulo}
 use Rattle.divisor.specs.declared.table.Row.{Row}
-use Rattle.divisor.specs.table.Model.{COLUMNS, cell, minus, scaled-row}
+use Rattle.divisor.specs.table.Model.{most-columns, cell, minus, scaled-row}
 use Rattle.divisor.specs.table.Rows.{altered-at}
 use Rattle.divisor.specs.table.Meaning.{entries}
 
@@ -39,7 +39,7 @@ module _ (p : ℕ) (P : Prime p) where
   el-times x a = product-el p (x .val) a ∙ ap (λ y. mul y (el p a)) (el-val x)
 
   -- rows that are altered from column j on
-  module _ (e : Row) (j columns : ℕ) (size : length (e .cells) ≡ COLUMNS) (most : columns ≤ COLUMNS) where
+  module _ (e : Row) (j columns : ℕ) (size : length (e .cells) ≡ most-columns) (most : columns ≤ most-columns) where
     pub minus-entries : (d : Row) → cell e j < p → (i n : ℕ) → j ≤ i → i + n ≤ columns
         → entries p (minus p e d j columns .cells) i n
         ≡ plus-times K (entries p (e .cells) i n) (neg (el p (cell e j))) (entries p (d .cells) i n)

@@ -1,4 +1,4 @@
--- The empty table is ready, and a step keeps the table ready for the next equation, with as many columns as it had. Assumes nothing.
+-- The empty table is ready, and a step keeps the table ready for the next equation, with as many columns as it had.
 use mathlib.Core.Path.{_≡_, refl, _∙_}
 use mathlib.Core.Bool.{Bool, true, false}
 use Prim.Native.Nat.{ℕ, zero, suc, _<_, _≤_}
@@ -10,13 +10,13 @@ use Rattle.field.specs.modulus.Laws.{listed-positive}
 use Rattle.poly.specs.loops.Places.{replicate-all, set-all}
 use Rattle.divisor.specs.declared.table.Row.{Row}
 use Rattle.divisor.specs.declared.table.Table.{Table}
-use Rattle.divisor.specs.table.Model.{COLUMNS, no-row, row-at, cell, diagonal, zeros, empty-table, minus, scaled-row, kept, insert, with-row, Columns, RowReady, TableReady}
+use Rattle.divisor.specs.table.Model.{most-columns, no-row, row-at, cell, diagonal, zeros, empty-table, minus, scaled-row, kept, insert, with-row, Columns, RowReady, TableReady}
 use Rattle.divisor.specs.table.Rows.{minus-ready, scaled-below}
 
 -- every cell of the empty table is 0
 pub empty-cell : (columns i k : ℕ) → cell (row-at (empty-table columns) i) k ≡ 0
 empty-cell columns i k =
-    replicate-all (λ r. cell r k ≡ 0) COLUMNS i (record { cells = zeros }) no-row (replicate-all (λ a. a ≡ 0) COLUMNS k 0 0 refl refl) refl
+    replicate-all (λ r. cell r k ≡ 0) most-columns i (record { cells = zeros }) no-row (replicate-all (λ a. a ≡ 0) most-columns k 0 0 refl refl) refl
 
 pub empty-ready : (p columns : ℕ) → Listed p → Columns columns → TableReady p (empty-table columns)
 empty-ready p columns listed fit =

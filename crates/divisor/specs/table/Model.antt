@@ -15,8 +15,8 @@ use Rattle.divisor.specs.declared.table.Solved.{Solved}
 use Rattle.divisor.specs.Candidate.{most-keys, most-points}
 
 -- an unknown for each key, and a multiplier for each point, of which the first is fixed
-abbrev pub COLUMNS : ℕ
-COLUMNS = most-keys + most-points
+abbrev pub most-columns : ℕ
+most-columns = most-keys + most-points
 
 abbrev pub no-row : Row
 no-row = record { cells = [] }
@@ -35,10 +35,10 @@ abbrev pub diagonal : Table → ℕ → ℕ
 diagonal t j = cell (row-at t j) j
 
 abbrev pub zeros : List ℕ
-zeros = replicate COLUMNS 0
+zeros = replicate most-columns 0
 
 abbrev pub empty-table : ℕ → Table
-empty-table columns = record { rows = replicate COLUMNS (record { cells = zeros }); columns = columns }
+empty-table columns = record { rows = replicate most-columns (record { cells = zeros }); columns = columns }
 
 -- n places from i on, each with what g makes of the place and of what stood there
 unfoldable pub altered : (ℕ → ℕ → ℕ) → ℕ → ℕ → List ℕ → List ℕ
@@ -113,22 +113,22 @@ solved p t = solved-as (kind t) p t
 -- at most 63 unknowns, and the last column
 pub record Columns (n : ℕ) : Type 0 where
   pub some : 0 < n
-  pub most : n ≤ COLUMNS
+  pub most : n ≤ most-columns
 
 -- an equation's row of numbers below p
 pub record RowReady (p : ℕ) (e : Row) : Type 0 where
-  pub size : length (e .cells) ≡ COLUMNS
+  pub size : length (e .cells) ≡ most-columns
   pub below : (k : ℕ) → cell e k < p
 
 -- a table of such rows modulo a listed prime
 pub record TableReady (p : ℕ) (t : Table) : Type 0 where
   pub listed : Listed p
   pub columns : Columns (t .columns)
-  pub size : length (t .rows) ≡ COLUMNS
+  pub size : length (t .rows) ≡ most-columns
   pub below : (i k : ℕ) → cell (row-at t i) k < p
 
 -- what a step asks for
-pub record Ready (p : ℕ) (t : Table) (e : Row) : Type 0 where
+pub record StepReady (p : ℕ) (t : Table) (e : Row) : Type 0 where
   pub table : TableReady p t
   pub row : RowReady p e
 
@@ -138,11 +138,11 @@ pub record Column (p : ℕ) (e : Row) (j columns : ℕ) : Type 0 where
   pub below : cell e j < p
   pub nonzero : 0 < cell e j
   pub within : j < columns
-  pub most : columns ≤ COLUMNS
+  pub most : columns ≤ most-columns
 
 -- what the value of an unknown asks for
 pub record Back (p : ℕ) (e : Row) (j last : ℕ) : Type 0 where
   pub listed : Listed p
   pub below : cell e last < p
   pub within : j < last
-  pub most : last < COLUMNS
+  pub most : last < most-columns

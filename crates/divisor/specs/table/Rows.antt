@@ -1,4 +1,4 @@
--- Rows that are altered from a column on, cell by cell: each altered place has its new number, and all numbers stay below p. Assumes nothing.
+-- Rows that are altered from a column on, cell by cell: each altered place has its new number, and all numbers stay below p.
 use mathlib.Core.Path.{_≡_, refl, sym, ap, _∙_}
 use mathlib.Core.List.{List}
 use Prim.Native.Nat.{ℕ, zero, suc, _+_, _-_, _<_, _≤_}

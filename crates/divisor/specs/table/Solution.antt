@@ -1,4 +1,4 @@
--- Where a row is kept in each column before the last, the values of back substitution are the solution over the field. Assumes nothing.
+-- Where a row is kept in each column before the last, the values of back substitution are the solution over the field.
 use mathlib.Core.Path.{_≡_, refl, sym, ap, ap₂, _∙_, subst}
 use mathlib.Core.Bool.{Bool, true, false}
 use mathlib.Core.List.{List, [], _∷_}
@@ -23,7 +23,7 @@ use Rattle.field.specs.Modulo.{Modulo}
 use Rattle.poly.specs.loops.Places.{replicate-all, set-all}
 use Rattle.divisor.specs.declared.table.Row.{Row}
 use Rattle.divisor.specs.declared.table.Table.{Table}
-use Rattle.divisor.specs.table.Model.{COLUMNS, row-at, cell, diagonal, total, value, back, values, zeros, TableReady}
+use Rattle.divisor.specs.table.Model.{most-columns, row-at, cell, diagonal, total, value, back, values, zeros, TableReady}
 use Rattle.divisor.specs.table.Entries.{entries-set}
 use Rattle.divisor.specs.table.Meaning.{entries, last-column, columns-of, table-of}
 use Rattle.divisor.specs.table.Columns.{column-pivot}
@@ -69,7 +69,7 @@ module _ (p : ℕ) (P : Prime p) where
         (ap₂ (λ m i. el p (total m i p (row-at t j) v (cell (row-at t j) n))) left (add-one j) ∙ total-is-value (row-at t j) v n k (suc j) h)
 
     -- one more unknown before those that are known
-    unknown-solves : (v : List ℕ) (j k : ℕ) → suc j + k ≡ n → length v ≡ COLUMNS → ¬ (diagonal t j ≡ 0)
+    unknown-solves : (v : List ℕ) (j k : ℕ) → suc j + k ≡ n → length v ≡ most-columns → ¬ (diagonal t j ≡ 0)
         → entries p v (suc j) k ≡ solution K (el p 0) (columns-of p t (suc j) k)
         → entries p (set v j (value p (row-at t j) v j (t .columns - 1))) j (suc k) ≡ solution K (el p 0) (columns-of p t j (suc k))
     unfolding entries
@@ -79,7 +79,7 @@ module _ (p : ℕ) (P : Prime p) where
         ∙ ap (before K (entries p (row-at t j .cells) (suc j) (suc k))) known
         ∙ sym (ap (solution K (el p 0)) (column-pivot p t j k full))
 
-    back-solves : ((i : ℕ) → i < n → ¬ (diagonal t i ≡ 0)) → (j k : ℕ) (v : List ℕ) → j + k ≡ n → length v ≡ COLUMNS
+    back-solves : ((i : ℕ) → i < n → ¬ (diagonal t i ≡ 0)) → (j k : ℕ) (v : List ℕ) → j + k ≡ n → length v ≡ most-columns
         → entries p v j k ≡ solution K (el p 0) (columns-of p t j k) → entries p (back j p t v) 0 n ≡ solution K (el p 0) (table-of p n t)
     unfolding back
     back-solves full zero k v h s known =
@@ -111,4 +111,4 @@ back-below p h t (suc j) v b k =
 pub values-below : (p : ℕ) (t : Table) → TableReady p t → (k : ℕ) → getD (values p t) k 0 < p
 values-below p t ready =
     let positive : 0 < p = listed-positive (ready .listed) in
-    back-below p positive t (t .columns - 1) zeros (λ k. replicate-all (λ a. a < p) COLUMNS k 0 0 positive positive)
+    back-below p positive t (t .columns - 1) zeros (λ k. replicate-all (λ a. a < p) most-columns k 0 0 positive positive)

@@ -1,4 +1,4 @@
--- A step of the model is a step of algebra's table. Assumes nothing.
+-- A step of the model is a step of algebra's table.
 use mathlib.Core.Path.{_≡_, refl, sym, ap, ap₂, _∙_}
 use mathlib.Core.Bool.{Bool, true, false}
 use mathlib.Core.List.{List, [], _∷_}
@@ -16,7 +16,7 @@ use Rattle.field.specs.elements.Fp.{el-nonzero}
 use Rattle.field.specs.Modulo.{Modulo}
 use Rattle.divisor.specs.declared.table.Row.{Row}
 use Rattle.divisor.specs.declared.table.Table.{Table}
-use Rattle.divisor.specs.table.Model.{COLUMNS, no-row, row-at, cell, diagonal, minus, scaled-row, kept, insert, with-row, RowReady, TableReady}
+use Rattle.divisor.specs.table.Model.{most-columns, no-row, row-at, cell, diagonal, minus, scaled-row, kept, insert, with-row, RowReady, TableReady}
 use Rattle.divisor.specs.monic.Decided.{decided-yes, decided-no}
 use Rattle.divisor.specs.table.Columns.{last-solvable, last-failed, column-free, column-pivot, same-row, columns-same}
 use Rattle.divisor.specs.table.Rows.{minus-ready}
@@ -60,7 +60,7 @@ module _ (p : ℕ) (P : Prime p) where
 
   module _ (t : Table) (ready : TableReady p t) where
     module _ (e : Row) (ok : RowReady p e) (i : ℕ) (within : i < t .columns) where
-      most : t .columns ≤ COLUMNS
+      most : t .columns ≤ most-columns
       most = ready .columns .most
 
       kept-row : row-at (kept p t i e) i ≡ scaled-row p e i (t .columns)

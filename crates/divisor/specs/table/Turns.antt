@@ -1,4 +1,4 @@
--- The table's models one turn at a time, as the loops of the code move. Assumes nothing.
+-- The table's models one turn at a time, as the loops of the code move.
 use mathlib.Core.Path.{_≡_, refl, sym, ap, _∙_}
 use mathlib.Core.Bool.{Bool, true, false}
 use mathlib.Core.List.{List}
@@ -13,7 +13,7 @@ use Rattle.poly.specs.Search.{Searched}
 use Rattle.divisor.specs.declared.table.Row.{Row}
 use Rattle.divisor.specs.declared.table.Table.{Table}
 use Rattle.divisor.specs.declared.table.Kind.the-variants.{None, One, Several}
-use Rattle.divisor.specs.table.Model.{COLUMNS, row-at, cell, Entry, diagonal, altered, minus, kept, insert, with-row, kind-from, kind, total, value, back}
+use Rattle.divisor.specs.table.Model.{most-columns, row-at, cell, Entry, diagonal, altered, minus, kept, insert, with-row, kind-from, kind, total, value, back}
 
 -- what is left of n turns at turn i
 turns-left : (i n : ℕ) → i < n → n - i ≡ suc (n - (i + 1))
@@ -84,7 +84,7 @@ insert-blank : (p : ℕ) (t : Table) (e : Row) (n j : ℕ) → ((k : ℕ) → k 
 insert-blank p t e zero j z = (unfold insert in refl)
 insert-blank p t e (suc n) j z = insert-at-zero p t e j n (z j (omega arith)) ∙ insert-blank p t e n (suc j) (λ k l. z k (omega arith))
 
-pub blank-adds-nothing : (p : ℕ) (t : Table) (e : Row) → t .columns ≤ COLUMNS → (place : ℕ) → COLUMNS ≤ place → Searched (Entry e) COLUMNS place
+pub blank-adds-nothing : (p : ℕ) (t : Table) (e : Row) → t .columns ≤ most-columns → (place : ℕ) → most-columns ≤ place → Searched (Entry e) most-columns place
     → with-row p t e ≡ t
 blank-adds-nothing p t e most place past searched =
     insert-blank p t e (t .columns) 0 (λ k l. elim (ℕ-discrete (cell e k) 0) [ yes q ↦ q | no q ↦ absurd (searched .before k (omega arith) q) ])

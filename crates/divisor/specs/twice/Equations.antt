@@ -1,5 +1,5 @@
 -- A point may occur twice: it then adds no knowledge and does no harm. A kept point that is kept once more, at any place behind, changes nothing in what
--- the equations settle. Assumes nothing.
+-- the equations settle.
 use mathlib.Core.Path.{_≡_, refl, sym, ap, _∙_, subst}
 use mathlib.Core.Logic.{_↔_}
 use mathlib.Core.List.{List, [], _∷_}
@@ -10,7 +10,7 @@ use Rattle.algebra.specs.Field.{Field}
 use Rattle.algebra.specs.Four.{Exponents}
 use Rattle.poly.specs.Terms.{Polynomial}
 use Rattle.poly.specs.PointValue.{value}
-use Rattle.divisor.specs.Rule.{DividesBoth, Kept, Unknowns, First, Equations, Solution, OnlySolution, divisor, Verdict, none, several, rejected, accepted}
+use Rattle.divisor.specs.Rule.{DividesBoth, Kept, Unknowns, First, Equations, Solution, OnlySolution, divisor, Verdict, unsolvable, several, rejected, accepted}
 
 -- ys is xs with x once more, at some place
 pub data Inserted {X : Type 0} (x : X) : List X → List X → Type 0 where
@@ -130,7 +130,7 @@ module _ (K : Field) where
     only-to s only = (solves-to s (only .0), λ t h. sym (to-from t h) ∙ ap to (only .1 (from t) (solves-from t h)))
 
     same-verdict : (n : ℕ) (G : Polynomial K) → Verdict K A B es ks n G → Verdict K A B es ls n G
-    same-verdict n G (none z) = none (λ t h. z (from t) (solves-from t h))
+    same-verdict n G (unsolvable z) = unsolvable (λ t h. z (from t) (solves-from t h))
     same-verdict n G (several q) = several (
       to (q .0),
       to (q .1),

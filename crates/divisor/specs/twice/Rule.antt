@@ -15,7 +15,7 @@ use Rattle.poly.specs.PointImage.{Bad, Image}
 use Rattle.poly.specs.value.Laws.{WithinX}
 use Rattle.poly.specs.image.Laws.{image-within}
 use Rattle.divisor.specs.declared.CandidateRecord.{CandidateRecord}
-use Rattle.divisor.specs.Rule.{report, Kept, Sorted, bad, unlucky, keep, AllBad, Answer, all-bad, some-good}
+use Rattle.divisor.specs.Rule.{none-good, report, Kept, Sorted, bad, unlucky, keep, AllBad, RuleAnswer, all-bad, some-good}
 use Rattle.divisor.specs.Repeated.{OneMore, one-bad, one-unlucky, one-kept}
 use Rattle.divisor.specs.twice.Equations.{Inserted, here, there, Again, behind, later, again-length, repeated-verdict}
 
@@ -91,30 +91,33 @@ module _ (K : Field) (A B : Polynomial K) where
   -- an answer that differs in one count of points alone
   pub record AnsweredAlike (es : List Exponents) (at : Point R) (points : List (Point R)) (r : CandidateRecord) (G : Polynomial K) : Type 0 where
     pub found : CandidateRecord
-    pub answer : Answer K A B es points found G
+    pub answer : RuleAnswer K A B es points found G
     pub one-more : OneMore K A B at r found
 
   pub repeated-point : WithinX K 7 A → (es : List Exponents) {at : Point R} {ps qs : List (Point R)} → Again at ps qs
-      → (r : CandidateRecord) (G : Polynomial K) → Answer K A B es ps r G → AnsweredAlike es at qs r G
+      → (r : CandidateRecord) (G : Polynomial K) → RuleAnswer K A B es ps r G → AnsweredAlike es at qs r G
   repeated-point small es {at} {ps} {qs} a r G (all-bad h) = record {
-    found = report NO_GOOD_POINT 0 (length qs) 0 0 0;
+    found = report NO_GOOD_POINT (none-good (length qs)) 0;
     answer = all-bad (bad-again a h);
-    one-more = subst (λ (n : ℕ). OneMore K A B at (report NO_GOOD_POINT 0 (length ps) 0 0 0) (report NO_GOOD_POINT 0 n 0 0 0))
+    one-more = subst (λ (n : ℕ). OneMore K A B at (report NO_GOOD_POINT (none-good (length ps)) 0) (report NO_GOOD_POINT (none-good n) 0))
         (sym (again-length a)) (one-bad (bad-there a h));
   }
   repeated-point small es {at} {ps} {qs} a r G (some-good d b u k kept s n H v) = let t = sorted-again d a s in go (t .0) (t .1) (t .2) (t .3) (t .4)
     where
+      told : ℕ → CandidateRecord
+      told m = report n (record { d = d; bad = b; unlucky = u; kept = m }) (length H)
+
       before : CandidateRecord
-      before = report n d b u (length (k ∷ kept)) (length H)
+      before = told (length (k ∷ kept))
 
       kept-once-more : (ls : List (Kept K)) (U : Seq R) → Image K A B at d U → Again (record { point = at; image = U }) (k ∷ kept) ls
           → Sorted K A B d qs b u ls → AnsweredAlike es at qs before H
       kept-once-more [] U i q t = absurd (let e = again-length q in omega arith)
       kept-once-more (l ∷ ls) U i q t = record {
-        found = report n d b u (length (l ∷ ls)) (length H);
+        found = told (length (l ∷ ls));
         answer = some-good d b u l ls t n H
             (repeated-verdict K A B es q d (omega (arith, image-within K A B at d U 7 small i)) (i .monic .leads) n H .0 v);
-        one-more = subst (λ (m : ℕ). OneMore K A B at before (report n d b u m (length H))) (sym (again-length q)) (one-kept U i);
+        one-more = subst (λ (m : ℕ). OneMore K A B at before (told m)) (sym (again-length q)) (one-kept U i);
       }
 
       go : (c w : ℕ) (ls : List (Kept K)) → Sorted K A B d qs c w ls → Counted d at b u (k ∷ kept) c w ls → AnsweredAlike es at qs before H

@@ -1,4 +1,4 @@
--- Two trial divisions one after the other, the terms written into the output one by one, and what a solution settles. Assumes nothing.
+-- Two trial divisions one after the other, the terms written into the output one by one, and what a solution settles.
 use mathlib.Core.Path.{_≡_, refl, sym, _∙_, ap, subst}
 use mathlib.Core.Bool.{Bool, true, false, not, true≢false}
 use mathlib.Core.List.{List, [], _∷_, _++_}
@@ -18,8 +18,8 @@ use Rattle.poly.specs.rooms.Laws.{zeroed-length, zeroed-beyond, zeroed-same}
 use Rattle.divisor.specs.declared.monic.Divisor.{Divisor}
 use Rattle.divisor.specs.declared.table.Kind.the-variants.{One}
 use Rattle.divisor.specs.declared.table.Solved.{Solved}
-use Rattle.divisor.specs.declared.verdict.Verdict.{Verdict}
-use Rattle.divisor.specs.monic.Model.{monic-terms, Monic}
+use Rattle.divisor.specs.declared.verdict.Ruling.{Ruling}
+use Rattle.divisor.specs.monic.Model.{monic-terms, IsDivisor}
 use Rattle.divisor.specs.verdict.Model.{Both, CanDivideBoth, BothDivided, VerdictReady, Settles, Settled, Refused, only, rejected, accepted}
 
 -- a room that is cleared is not shorter, and clearing it again changes nothing
@@ -71,7 +71,7 @@ pub copy-all : (i : ℕ) (new old : List ℕ) → i ≡ length new → take i ne
 copy-all i new old e = ap (λ (k : ℕ). take k new ++ drop k old) e ∙ ap (λ (l : List ℕ). l ++ drop (length new) old) (take-length new)
 
 -- the only solution makes a divisor, which is divided into both lists
-module _ {p : ℕ} {A B ks values output work : List ℕ} (ready : VerdictReady p A B ks (only values) output work) {r : Divisor} (made : Monic p ks values r)
+module _ {p : ℕ} {A B ks values output work : List ℕ} (ready : VerdictReady p A B ks (only values) output work) {r : Divisor} (made : IsDivisor p ks values r)
     {G : List ℕ} (list : G ≡ take (r .count) (r .terms)) where
   abbrev terms : List ℕ
   terms = monic-terms p ks (take (length ks) values)
@@ -127,7 +127,7 @@ module _ {p : ℕ} {A B ks values output work : List ℕ} (ready : VerdictReady 
     }
 
 -- a refusal is settled with its number
-pub settled-refused : {p : ℕ} {A B ks : List ℕ} {s : Solved} {output work work-after : List ℕ} {r : Verdict} {number : ℕ}
+pub settled-refused : {p : ℕ} {A B ks : List ℕ} {s : Solved} {output work work-after : List ℕ} {r : Ruling} {number : ℕ}
     → Settles p A B ks s number [] → Refused number work work-after r → Settled p A B ks s output output work work-after r
 settled-refused {p} {A} {B} {ks} {s} {output} {work} {work-after} e h =
     subst (Settled p A B ks s output output work work-after) (sym (h .is))
@@ -141,6 +141,6 @@ module _ {p : ℕ} {A B ks : List ℕ} (s : Solved) {output work : List ℕ} (e 
   pub only-ready : VerdictReady p A B ks s output work → VerdictReady p A B ks (only (s .values)) output work
   only-ready = subst (λ (v : Solved). VerdictReady p A B ks v output work) (sym (is-only s e))
 
-  pub settled-only : {output-after work-after : List ℕ} {r : Verdict} → Settled p A B ks (only (s .values)) output output-after work work-after r
+  pub settled-only : {output-after work-after : List ℕ} {r : Ruling} → Settled p A B ks (only (s .values)) output output-after work work-after r
       → Settled p A B ks s output output-after work work-after r
   settled-only {output-after} {work-after} {r} = subst (λ (v : Solved). Settled p A B ks v output output-after work work-after r) (is-only s e)

@@ -10,17 +10,16 @@ use Rattle.field.specs.Modulo.{Modulo}
 use Rattle.field.specs.Numbers.{NO_GOOD_POINT, NO_SOLUTION, SEVERAL_SOLUTIONS, DOES_NOT_DIVIDE}
 use Rattle.poly.specs.Keys.{keys}
 use Rattle.poly.specs.Terms.{terms-of}
-use Rattle.poly.specs.PointImage.{Divides}
 use Rattle.poly.specs.Room.{work-room, written, cleared}
 use Rattle.poly.specs.TrialDivision.{CanDivide}
 use Rattle.poly.specs.Lists.{Falling}
 use Rattle.poly.specs.list.Right.{RightLists}
 use Rattle.divisor.specs.declared.CandidateRecord.{CandidateRecord}
-use Rattle.divisor.specs.Rule.{report, DividesBoth}
+use Rattle.divisor.specs.Rule.{none-good, report, DividesBoth}
 use Rattle.divisor.specs.Candidate.{most-keys}
 use Rattle.divisor.specs.declared.table.Kind.the-variants.{None, One, Several}
 use Rattle.divisor.specs.declared.table.Solved.{Solved}
-use Rattle.divisor.specs.declared.verdict.Verdict.{Verdict}
+use Rattle.divisor.specs.declared.verdict.Ruling.{Ruling}
 use Rattle.divisor.specs.monic.Model.{leading, monic-terms}
 
 -- the list G divides the lists A and B, as polynomials
@@ -53,13 +52,13 @@ pub record VerdictReady (p : ℕ) (A B ks : List ℕ) (s : Solved) (output work 
 
 -- the number that the solution settles, and the terms that are handed out
 pub data Settles (p : ℕ) (A B ks : List ℕ) (s : Solved) : ℕ → List ℕ → Type 0 where
-  none : s .kind ≡ None → Settles p A B ks s NO_SOLUTION []
+  unsolvable : s .kind ≡ None → Settles p A B ks s NO_SOLUTION []
   several : s .kind ≡ Several → Settles p A B ks s SEVERAL_SOLUTIONS []
   rejected : s .kind ≡ One → ((P : Prime p) → ¬ Both p P A B (monic-terms p ks (take (length ks) (s .values)))) → Settles p A B ks s DOES_NOT_DIVIDE []
   accepted : s .kind ≡ One → ((P : Prime p) → Both p P A B (monic-terms p ks (take (length ks) (s .values))))
       → Settles p A B ks s 0 (monic-terms p ks (take (length ks) (s .values)))
 
-pub record Settled (p : ℕ) (A B ks : List ℕ) (s : Solved) (output output-after work work-after : List ℕ) (r : Verdict) : Type 0 where
+pub record Settled (p : ℕ) (A B ks : List ℕ) (s : Solved) (output output-after work work-after : List ℕ) (r : Ruling) : Type 0 where
   pub terms : List ℕ
   pub settles : Settles p A B ks s (r .number) terms
   pub count : r .terms ≡ length terms
@@ -67,7 +66,7 @@ pub record Settled (p : ℕ) (A B ks : List ℕ) (s : Solved) (output output-aft
   pub clears : work-after ≡ cleared work
 
 -- a refusal with its number: no term, and the work room cleared
-pub record Refused (number : ℕ) (work work-after : List ℕ) (r : Verdict) : Type 0 where
+pub record Refused (number : ℕ) (work work-after : List ℕ) (r : Ruling) : Type 0 where
   pub is : r ≡ record { number = number; terms = 0 }
   pub clears : work-after ≡ cleared work
 
@@ -77,5 +76,5 @@ only values = record { kind = One; values = values }
 
 -- what is answered where no point of n is good; the work room is cleared
 pub record NoGoodPoint (n : ℕ) (work work-after : List ℕ) (r : CandidateRecord) : Type 0 where
-  pub is : r ≡ report NO_GOOD_POINT 0 n 0 0 0
+  pub is : r ≡ report NO_GOOD_POINT (none-good n) 0
   pub clears : work-after ≡ cleared work

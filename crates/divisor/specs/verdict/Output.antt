@@ -1,4 +1,4 @@
--- What an answered call writes can be read again: the terms first in the output are the polynomial that is handed out. Assumes nothing.
+-- What an answered call writes can be read again: the terms first in the output are the polynomial that is handed out.
 use mathlib.Core.Path.{_≡_, refl, sym, _∙_, ap, ap₂, subst}
 use mathlib.Core.List.{List, [], _∷_, map}
 use lib.ListN.{length, take}
@@ -20,7 +20,7 @@ use Rattle.poly.specs.Room.{written}
 use Rattle.poly.specs.key.Laws.{Digits, digits-of, exponents-of-key}
 use Rattle.poly.specs.key.Terms.{key-of-term, coefficient-of-term}
 use Rattle.divisor.specs.declared.CandidateRecord.{CandidateRecord}
-use Rattle.divisor.specs.Rule.{Kept, Unknowns, Solution, without-zeros, divided-by, made-monic, divisor, Verdict, none, several, rejected, accepted, all-bad, some-good}
+use Rattle.divisor.specs.Rule.{Kept, Unknowns, Solution, without-zeros, divided-by, made-monic, divisor, Verdict, unsolvable, several, rejected, accepted, all-bad, some-good}
 use Rattle.divisor.specs.Candidate.{Call, prime, Numbers, A, B, monomials, handed-out}
 use Rattle.divisor.specs.answer.CandidateDetermined.{answer-of, result-of}
 
@@ -113,7 +113,7 @@ answer-counts c listed r G (some-good d b u k kept sorted n H v) = (go n H v, re
   where
     go : (n : ℕ) (H : Polynomial (Numbers c listed)) → Verdict (Numbers c listed) (A c listed) (B c listed) (monomials c listed) (k ∷ kept) n H
         → Keyed (Numbers c listed) H
-    go n H (none x) = tt
+    go n H (unsolvable x) = tt
     go n H (several x) = tt
     go n H (rejected s x y) = tt
     go n H (accepted s only x) = divisor-within (Numbers c listed) (c .skeleton) (k ∷ kept) s (only .0) .keyed

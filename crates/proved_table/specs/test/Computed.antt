@@ -2,7 +2,7 @@
 use mathlib.Core.List.{List, [], _∷_, map}
 use Prim.Native.Nat.{ℕ, zero, suc, _+_, _-_, _/_}
 use lib.ListN.{length, take}
-use Rattle.algebra.specs.Linear.{Answer, none, one, several}
+use Rattle.algebra.specs.Linear.{Solutions, unsolvable, one, several}
 use Rattle.algebra.specs.Models.Elimination.{solve}
 use Rattle.field.specs.Prime.{Prime}
 use Rattle.field.specs.Fp.{Fp}
@@ -11,7 +11,7 @@ use Rattle.field.specs.Numbers.{NO_GOOD_POINT, NO_SOLUTION, SEVERAL_SOLUTIONS, 
 use Rattle.poly.specs.declared.PointImage.{PointImage}
 use Rattle.poly.specs.Keys.{exponents}
 use Rattle.poly.specs.Terms.{terms-of}
-use Rattle.divisor.specs.Rule.{Kept}
+use Rattle.divisor.specs.Rule.{Counts, none-good, Kept}
 use Rattle.divisor.specs.Candidate.{points-of}
 use Rattle.divisor.specs.equations.Rows.{all-rows}
 use Rattle.divisor.specs.sorting.Model.{sizes-of, least, alike, kept-of}
@@ -20,17 +20,17 @@ use Rattle.divisor.specs.points.Seen.{looks-from}
 use Rattle.proved_table.specs.test.TermDivision.{Outcome, divides, does-not, open-still, division}
 
 -- what the kept points settle: the number, and the terms to be handed out
-pub data Verdict : Type 0 where
-  unsettled : Verdict
-  settled : ℕ → List ℕ → Verdict
+pub data ComputedVerdict : Type 0 where
+  unsettled : ComputedVerdict
+  settled : ℕ → List ℕ → ComputedVerdict
 
--- the record's numbers but the place, which is 0, and the count; and the terms
+-- the number, what is counted, and the terms
 pub data Computed : Type 0 where
   unanswered : Computed
-  answered : (number degree bad unlucky kept : ℕ) → List ℕ → Computed
+  answered : ℕ → Counts → List ℕ → Computed
 
 -- what the two divisions settle
-unfoldable pub tried : List ℕ → Outcome → Outcome → Verdict
+unfoldable pub tried : List ℕ → Outcome → Outcome → ComputedVerdict
 tried G divides divides = settled 0 G
 tried G divides does-not = settled DOES_NOT_DIVIDE []
 tried G divides open-still = unsettled
@@ -47,20 +47,27 @@ divided-by p P G f = division (Modulo p P) most-steps (terms-of p P f) (terms-of
 
 module _ (p : ℕ) (P : Prime p) (A B skeleton points : List ℕ) where
   -- by the divisions of A and B by the divisor
-  abbrev pub by-division : List ℕ → Verdict
+  abbrev pub by-division : List ℕ → ComputedVerdict
   by-division G = tried G (divided-by p P G A) (divided-by p P G B)
 
   -- by the solutions of the equations
-  unfoldable pub by-answer : Answer (Fp p) → Verdict
-  by-answer none = settled NO_SOLUTION []
+  unfoldable pub by-answer : Solutions (Fp p) → ComputedVerdict
+  by-answer unsolvable = settled NO_SOLUTION []
   by-answer (several v w) = settled SEVERAL_SOLUTIONS []
   by-answer (one v) = by-division (monic-terms p skeleton (take (length skeleton) (map (λ (x : Fp p). x .val) v)))
 
   -- a verdict with d and the counts of the points
-  unfoldable pub with-counts : ℕ → List ℕ → Verdict → Computed
+  unfoldable pub with-counts : ℕ → List ℕ → ComputedVerdict → Computed
   with-counts d sizes unsettled = unanswered
   with-counts d sizes (settled number terms) =
-      answered number d (alike 0 sizes) (length points / 3 - alike 0 sizes - alike (suc d) sizes) (alike (suc d) sizes) terms
+      answered number
+      (record {
+        d = d;
+        bad = alike 0 sizes;
+        unlucky = length points / 3 - alike 0 sizes - alike (suc d) sizes;
+        kept = alike (suc d) sizes;
+      })
+      terms
 
   -- by the kept points
   unfoldable pub by-kept : ℕ → List ℕ → List (Kept (Modulo p P)) → Computed
@@ -70,7 +77,7 @@ module _ (p : ℕ) (P : Prime p) (A B skeleton points : List ℕ) where
 
   -- by the least size of an image, which is 0 where all points are bad
   unfoldable pub by-least : List PointImage → ℕ → Computed
-  by-least looks zero = answered NO_GOOD_POINT 0 (length points / 3) 0 0 []
+  by-least looks zero = answered NO_GOOD_POINT (none-good (length points / 3)) []
   by-least looks (suc d) = by-kept d (sizes-of looks) (kept-of P (suc d) (points-of p P points) looks)
 
   unfoldable pub by-looks : List PointImage → Computed

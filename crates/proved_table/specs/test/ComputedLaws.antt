@@ -4,7 +4,7 @@ use mathlib.Core.List.{List, [], _∷_, map}
 use Prim.Native.Nat.{ℕ, zero, suc, _+_, _≤_, _<_}
 use native.Mathlib.Omega.{arith}
 use lib.ListN.{length, getD, take, length-map}
-use Rattle.algebra.specs.Linear.{Answer, none, one, several, Meets}
+use Rattle.algebra.specs.Linear.{Solutions, unsolvable, one, several, Meets}
 use Rattle.algebra.specs.Linear as linear
 use Rattle.algebra.specs.Laws.Linear.{solve-meets}
 use Rattle.field.specs.Prime.{Prime}
@@ -32,7 +32,7 @@ use Rattle.divisor.specs.checks.Passed.{looks-of}
 use Rattle.divisor.specs.answer.Assembled as assembled
 use Rattle.proved_table.specs.test.TermDivision.{Outcome, divides, does-not, open-still}
 use Rattle.proved_table.specs.test.TermDivisionLaws.{Means, division-means}
-use Rattle.proved_table.specs.test.Computed.{Verdict, unsettled, settled, Computed, unanswered, answered, tried, most-steps}
+use Rattle.proved_table.specs.test.Computed.{ComputedVerdict, unsettled, settled, Computed, unanswered, answered, tried, most-steps}
 use Rattle.proved_table.specs.test.Computed.{divided-by, by-division, by-answer, with-counts, by-kept, by-least, by-looks, computed}
 
 -- the numbers of field elements
@@ -71,15 +71,15 @@ module _ (c : Call) (pass : Passes (table c)) (listed : Listed (c .modulus)) whe
   -- the numbers and the terms are the candidate's
   abbrev pub Sound : Computed → Type 0
   Sound unanswered = Unit {0}
-  Sound (answered number degree bad unlucky kept terms) =
-      Candidate c (record { found = report number degree bad unlucky kept (length terms); output = written terms (c .output); work = cleared (c .work) })
+  Sound (answered number counts terms) =
+      Candidate c (record { found = report number counts (length terms); output = written terms (c .output); work = cleared (c .work) })
 
   abbrev looks : List PointImage
   looks = looks-of c
 
   module _ (d : ℕ) (at-least : AtLeast (suc d) (sizes-of looks)) (k : Kept (Numbers c listed)) (ks : List (Kept (Numbers c listed)))
       (kept : kept-of P (suc d) (lent-points c listed) looks ≡ k ∷ ks) where
-    abbrev Settled : Verdict → Type 0
+    abbrev Settled : ComputedVerdict → Type 0
     Settled unsettled = Unit {0}
     Settled (settled number terms) = Candidate c (assembled.result c pass listed d at-least k ks kept number terms)
 
@@ -120,14 +120,14 @@ module _ (c : Call) (pass : Passes (table c)) (listed : Listed (c .modulus)) whe
           tried-settles (divided-by p P G (c .first-list)) (divided-by p P G (c .second-list))
           (divided-by-means p P G (c .first-list) (g .some) (g .falls)) (divided-by-means p P G (c .second-list) (g .some) (g .falls))
 
-    answer-settles : (a : Answer (Fp (c .modulus))) → Meets (Numbers c listed) (length (c .skeleton) + length ks) rows a
+    answer-settles : (a : Solutions (Fp (c .modulus))) → Meets (Numbers c listed) (length (c .skeleton) + length ks) rows a
         → Settled (by-answer p P (c .first-list) (c .second-list) (c .skeleton) (c .points) a)
     unfolding by-answer
-    answer-settles none h = assembled.answer-none c pass listed d at-least k ks kept h
+    answer-settles unsolvable h = assembled.answer-none c pass listed d at-least k ks kept h
     answer-settles (one v) h = division-settles v h
     answer-settles (several v w) h = assembled.answer-several c pass listed d at-least k ks kept v w h
 
-    counts-sound : (v : Verdict) → Settled v → Sound (with-counts p P (c .first-list) (c .second-list) (c .skeleton) (c .points) d (sizes-of looks) v)
+    counts-sound : (v : ComputedVerdict) → Settled v → Sound (with-counts p P (c .first-list) (c .second-list) (c .skeleton) (c .points) d (sizes-of looks) v)
     unfolding with-counts
     counts-sound unsettled h = tt
     counts-sound (settled number terms) h = h

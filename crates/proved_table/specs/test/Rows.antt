@@ -37,8 +37,7 @@ numbers r terms = r .fault .number ∷ r .fault .place ∷ r .degree ∷ r .bad 
 
 unfoldable pub agrees : Computed → CandidateRecord → List ℕ → Bool
 agrees unanswered found terms = false
-agrees (answered number degree bad unlucky kept ts) found terms =
-    same-numbers (numbers (report number degree bad unlucky kept (length ts)) ts) (numbers found terms)
+agrees (answered number counts ts) found terms = same-numbers (numbers (report number counts (length ts)) ts) (numbers found terms)
 
 module _ (r : Row) where
   -- the lines of its inputs, and their checks

@@ -84,9 +84,9 @@ module _ (r : Row) (output work : List ℕ) (long : length (r .skeleton) ≤ len
       → Candidate c (result r output work)
   unfolding agrees
   agrees-holds pass listed unanswered s h = absurd (false≢true h)
-  agrees-holds pass listed (answered number degree bad unlucky kept ts) s h =
+  agrees-holds pass listed (answered number counts ts) s h =
       numbers-settle (λ (found : CandidateRecord) (terms : List ℕ). Candidate c (record { found = found; output = written terms output; work = cleared work }))
-      (report number degree bad unlucky kept (length ts)) (r .found) ts (r .terms) (same-is _ _ h) s
+      (report number counts (length ts)) (r .found) ts (r .terms) (same-is _ _ h) s
 
   tested-here : test r ≡ true → Candidate c (result r output work)
   unfolding test

@@ -1,4 +1,4 @@
--- `divisor::checks::candidate_fault` meets its contract: the table is tested part by part, and the first fault is given. Assumes nothing.
+-- `divisor::checks::candidate_fault` meets its contract: the table is tested part by part, and the first fault is given.
 use mathlib.Core.List.{List, _++_}
 use lib.ListN.{length}
 use Rattle.field.specs.Refusal.{Line, Tested}
@@ -83,13 +83,5 @@ returns-4 c =
 
 pub candidate-fault-spec : {M : Type 1} → statement M
 candidate-fault-spec =
-    tie.close
-    (tie.spec
-    lists-fault-requires
-    returns
-    skeleton-fault-requires
-    returns-2
-    points-fault-requires
-    returns-3
-    rooms-fault-requires
+    tie.close (tie.spec lists-fault-requires returns skeleton-fault-requires returns-2 points-fault-requires returns-3 rooms-fault-requires
     returns-4)

@@ -1,4 +1,4 @@
--- `divisor::checks::first_wrong_key` meets its contract. The invariant: no key before i is wrong, and the key before is at hand. Assumes nothing.
+-- `divisor::checks::first_wrong_key` meets its contract. The invariant: no key before i is wrong, and the key before is at hand.
 use Prim.Native.Nat.{_-_}
 use lib.ListN.{length}
 use Rattle.divisor.specs.checks.Laws.{KeysSo, keys-start, keys-stop, keys-next, keys-end}
@@ -44,17 +44,5 @@ returns-2 c = keys-end _ _ _ (c .before .loop .inv) (c .loop-test .left)
 
 pub first-wrong-key-spec : {M : Type 1} → statement M
 first-wrong-key-spec =
-    tie.close
-    (tie.spec
-    Inv-loop
-    μ-loop
-    loop-holds
-    mul-if1
-    shared-slice-read-if1
-    returns
-    mul-before
-    shared-slice-read-before
-    add-i
-    loop-less
-    loop-again
-    returns-2)
+    tie.close (tie.spec Inv-loop μ-loop loop-holds mul-if1 shared-slice-read-if1 returns mul-before shared-slice-read-before add-i loop-less
+    loop-again returns-2)

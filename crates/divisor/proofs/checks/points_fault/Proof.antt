@@ -1,4 +1,4 @@
--- `divisor::checks::points_fault` meets its contract: each way out is an answer of the check. Assumes nothing.
+-- `divisor::checks::points_fault` meets its contract: each way out is an answer of the check.
 use mathlib.Core.Path.{refl}
 use mathlib.Core.Logic.{inl, inr}
 use Rattle.field.specs.faults.Laws.{tested-line}
@@ -48,16 +48,5 @@ returns-5 c =
 
 pub points-fault-spec : {M : Type 1} → statement M
 points-fault-spec =
-    tie.close
-    (tie.spec
-    at-requires
-    returns
-    at-requires-2
-    returns-2
-    at-requires-3
-    returns-3
-    first-large-requires
-    at-requires-4
-    returns-4
-    none-requires
-    returns-5)
+    tie.close (tie.spec at-requires returns at-requires-2 returns-2 at-requires-3 returns-3 first-large-requires at-requires-4 returns-4
+    none-requires returns-5)

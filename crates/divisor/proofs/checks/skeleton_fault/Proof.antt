@@ -1,4 +1,4 @@
--- `divisor::checks::skeleton_fault` meets its contract: each way out is an answer of the check. Assumes nothing.
+-- `divisor::checks::skeleton_fault` meets its contract: each way out is an answer of the check.
 use mathlib.Core.Path.{refl}
 use mathlib.Core.Logic.{inl, inr}
 use Rattle.field.specs.faults.Laws.{tested-line}
@@ -40,14 +40,4 @@ returns-4 c =
 
 pub skeleton-fault-spec : {M : Type 1} → statement M
 skeleton-fault-spec =
-    tie.close
-    (tie.spec
-    at-requires
-    returns
-    at-requires-2
-    returns-2
-    first-wrong-key-requires
-    at-requires-3
-    returns-3
-    none-requires
-    returns-4)
+    tie.close (tie.spec at-requires returns at-requires-2 returns-2 first-wrong-key-requires at-requires-3 returns-3 none-requires returns-4)

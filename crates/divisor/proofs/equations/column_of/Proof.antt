@@ -1,4 +1,4 @@
--- `divisor::equations::column_of` meets its contract: the two cases of the definition. Assumes nothing.
+-- `divisor::equations::column_of` meets its contract: the two cases of the definition.
 use borrow.Author.Needs.{needs}
 use mathlib.Core.Path.{_≡_, refl, sym, _∙_, ap}
 use Prim.Native.Nat.{ℕ, zero, suc, _+_, _-_}

@@ -1,28 +1,33 @@
 -- `divisor::equations::equations` meets its contract. The invariant: the table has the equations of the kept points passed, and as many are kept as
--- were met and are left. Assumes nothing.
+-- were met and are left.
 use borrow.Author.Needs.{needs}
 use mathlib.Core.Path.{_≡_, sym, _∙_, ap, subst}
 use mathlib.Core.Logic.{⊎-elim}
+use mathlib.Core.List.{List}
 use Prim.Native.Nat.{ℕ, suc, _+_, _-_, _/_, _≤_, _<_}
 use native.Mathlib.Omega.{arith}
 use lib.ListN.{length, take, drop}
 use Rattle.field.specs.Prime.{Prime}
 use Rattle.poly.specs.Coefficients.{Eight}
+use Rattle.divisor.specs.declared.table.Table.{Table}
 use Rattle.divisor.specs.table.Kept.{empty-ready}
+use Rattle.divisor.specs.table.Added.{adds-ready, adds-columns}
 use Rattle.divisor.specs.sorting.Model.{alike}
 use Rattle.divisor.specs.points.Model.{kept-before, Equations-before}
 use Rattle.divisor.specs.sorting.Turns.{alike-same, alike-other}
 use Rattle.divisor.specs.points.Parts.{part-is, part-length}
-use Rattle.divisor.specs.points.Turns.{equations-start, equations-ready, equations-columns, equations-other, equations-same, points-sized, next-fits, equations-to-at, length-none, length-same, length-other}
+use Rattle.divisor.specs.points.Turns.{equations-start, equations-other, equations-same, points-sized, next-fits, equations-to-at, length-none, length-same, length-other}
 use Rattle.divisor.proofs.equations.equations.Statement.{statement}
 use Rattle.divisor.proofs.equations.equations.Tie as tie
 
+record Reached (p : ℕ) (ks points : List ℕ) (least columns : ℕ) (work sizes : List ℕ) (t : Table) (kept i : ℕ) : Type 0 where
+  within : i ≤ length points / 3
+  left : kept + alike least (drop i (take (length points / 3) sizes)) ≡ alike least (take (length points / 3) sizes)
+  added : Equations-before i p ks points sizes work least columns t
+  met : (P : Prime p) → length (kept-before P least points sizes work i) ≡ kept
+
 abbrev Inv-loop : tie.InvT-loop
-Inv-loop p skeleton points least columns work sizes t₀ kept₀ i₀ t kept i =
-    (i ≤ length points / 3)
-    × (kept + alike least (drop i (take (length points / 3) sizes)) ≡ alike least (take (length points / 3) sizes))
-    × Equations-before i p skeleton points sizes work least columns t
-    × ((P : Prime p) → length (kept-before P least points sizes work i) ≡ kept)
+Inv-loop p skeleton points least columns work sizes t₀ kept₀ i₀ t kept i = Reached p skeleton points least columns work sizes t kept i
 
 abbrev μ-loop : tie.MeasureT-loop
 μ-loop p skeleton points least columns work sizes t₀ kept₀ i₀ t kept i = length points / 3 - i
@@ -32,13 +37,13 @@ empty-requires c κs = search needs
 
 loop-holds : tie.Need-loop-holds Inv-loop μ-loop
 loop-holds c =
-    let a = c .before .before .before .before .args in (
-      omega arith,
-      omega arith,
-      subst (Equations-before 0 (a .p) (a .skeleton .now) (a .points .now) (a .t4) (a .work .now) (a .least) (a .columns)) (sym (c .empty .ensures))
-          equations-start,
-      λ P. length-none P (a .least) (a .points .now) (a .t4) (a .work .now),
-    )
+    let a = c .before .before .before .before .args in
+    record {
+      within = omega arith;
+      left = omega arith;
+      added = rw (c .empty .ensures) equations-start;
+      met = λ P. length-none P (a .least) (a .points .now) (a .t4) (a .work .now);
+    }
 
 mul-if1 : tie.Need-mul-if1 Inv-loop μ-loop
 mul-if1 c = search needs
@@ -46,12 +51,16 @@ mul-if1 c = search needs
 array-read-if1 : tie.Need-array-read-if1 Inv-loop μ-loop
 array-read-if1 c = search needs
 
+-- at the loop: where the function began
+abbrev start : tie.At-loop Inv-loop μ-loop → tie.Start Inv-loop μ-loop
+start l = l .before .before .before .before .before
+
 -- one more point is kept of those that are left
-one-kept : (c : tie.Then1 Inv-loop μ-loop)
-    → let a = c .before .before .before .before .before .before .before .args in let l = c .before .before .loop in let n = length (a .points .now) / 3 in
+one-kept : (c : tie.Then1 Inv-loop μ-loop) → let a = start (c .before .before) .args in let l = c .before .before .loop in
+    let n = length (a .points .now) / 3 in
     alike (a .least) (drop (l .i) (take n (a .t4))) ≡ suc (alike (a .least) (drop (l .i + 1) (take n (a .t4))))
 one-kept c =
-    let s = c .before .before .before .before .before .before .before in
+    let s = start (c .before .before) in
     let a = s .args in
     let n = length (a .points .now) in
     alike-same (a .t4) (n / 3) (c .before .before .loop .i) (a .least) (points-sized n (a .t4) (s .pre .few) (s .pre .count)) (c .before .loop-test .taken)
@@ -59,12 +68,12 @@ one-kept c =
 
 column-of-requires : tie.Need-column-of-requires Inv-loop μ-loop
 column-of-requires c κs =
-    let s = c .before .before .before .before .before .before .before in
+    let s = start (c .before .before) in
     let l = c .before .before .loop in
     record {
       behind = omega (arith, s .pre .columns-are, s .pre .some);
       most = s .pre .most;
-      left = omega (arith, s .pre .columns-are, l .inv .1, one-kept c);
+      left = omega (arith, s .pre .columns-are, l .inv .left, one-kept c);
     }
 
 mul-at : tie.Need-mul-at Inv-loop μ-loop
@@ -105,16 +114,18 @@ part-point-equations-end-2 c = search needs
 
 point-equations-requires : tie.Need-point-equations-requires Inv-loop μ-loop
 point-equations-requires c κs =
-    let s = c .before .before .before .before .before .before .before .before .before .before in
+    let column = c .before .before in
+    let test = column .before in
+    let s = start (test .before .before) in
     let a = s .args in
-    let l = c .before .before .before .before .before .loop in
-    let e = c .before .before .column-of .ensures in
-    let left = one-kept (c .before .before .before) in
-    let i : l .i < length (a .points .now) / 3 = c .before .before .before .before .loop-test .taken in
-    let fits = next-fits (a .columns - length (a .skeleton .now) - 1) (l .kept) (omega (arith, s .pre .columns-are, l .inv .1, left)) in
-    let columns = equations-columns (l .inv .2) in
+    let l = test .before .before .loop in
+    let e = column .column-of .ensures in
+    let left = one-kept test in
+    let i : l .i < length (a .points .now) / 3 = test .before .loop-test .taken in
+    let fits = next-fits (a .columns - length (a .skeleton .now) - 1) (l .kept) (omega (arith, s .pre .columns-are, l .inv .left, left)) in
+    let columns = adds-columns _ (l .inv .added .adds) in
     record {
-      table = equations-ready (l .inv .2)
+      table = adds-ready _ (l .inv .added .adds)
           (empty-ready (a .p) (a .columns) (s .pre .listed) (record { some = omega (arith, s .pre .columns-are, s .pre .some); most = s .pre .most }));
       small = s .pre .small;
       three = ap length (part-is 3 (l .i) (a .points .now)) ∙ part-length 3 (l .i) (a .points .now) (omega (arith, s .pre .threes));
@@ -134,7 +145,7 @@ loop-less c = search needs
 
 loop-again : tie.Need-loop-again Inv-loop μ-loop
 loop-again c =
-    let s = c .before .before .before .before .before .before .before in
+    let s = start (c .before .before) in
     let a = s .args in
     let l = c .before .before .loop in
     let n = length (a .points .now) / 3 in
@@ -143,62 +154,40 @@ loop-again c =
     ⊎-elim
     (λ w.
     let left = alike-same (a .t4) n (l .i) (a .least) within i (w .0 .taken) in
-    let k : c .if1 .kept ≡ l .kept + 1 = w .6 in (
-      omega arith,
-      omega (arith, k, l .inv .1, left),
-      subst (Equations-before (l .i + 1) (a .p) (a .skeleton .now) (a .points .now) (a .t4) (a .work .now) (a .least) (a .columns)) (sym (w .5))
-          (equations-same (l .inv .2) (w .0 .taken)
-          (w .1 .result) (l .kept) (a .columns - length (a .skeleton .now) - 1) (w .4 .result) (l .inv .3)
+    let k : c .if1 .kept ≡ l .kept + 1 = w .6 in
+    record {
+      within = omega arith;
+      left = omega (arith, k, l .inv .left, left);
+      added =
+          rw (w .5)
+          (equations-same (l .inv .added) (w .0 .taken)
+          (w .1 .result) (l .kept) (a .columns - length (a .skeleton .now) - 1) (w .4 .result) (l .inv .met)
           (omega (arith, s .pre .columns-are, s .pre .some)) (omega (arith, s .pre .columns-are, s .pre .some)) (w .1 .ensures)
-          (next-fits (a .columns - length (a .skeleton .now) - 1) (l .kept) (omega (arith, s .pre .columns-are, l .inv .1, left)))
-          (equations-to-at (part-is 3 (l .i) (a .points .now)) (part-is 8 (l .i) (a .work .now)) (w .4 .ensures))),
-      λ P. length-same P (a .least) (a .points .now) (a .t4) (a .work .now) (l .i) (l .kept) (l .inv .3 P) (w .0 .taken) ∙ sym k,
-    ))
+          (next-fits (a .columns - length (a .skeleton .now) - 1) (l .kept) (omega (arith, s .pre .columns-are, l .inv .left, left)))
+          (equations-to-at (part-is 3 (l .i) (a .points .now)) (part-is 8 (l .i) (a .work .now)) (w .4 .ensures)));
+      met = λ P. length-same P (a .least) (a .points .now) (a .t4) (a .work .now) (l .i) (l .kept) (l .inv .met P) (w .0 .taken) ∙ sym k;
+    })
     (λ w.
     let left = alike-other (a .t4) n (l .i) (a .least) within i (w .0 .left) in
-    let k : c .if1 .kept ≡ l .kept = w .2 in (
-      omega arith,
-      omega (arith, k, l .inv .1, left),
-      subst (Equations-before (l .i + 1) (a .p) (a .skeleton .now) (a .points .now) (a .t4) (a .work .now) (a .least) (a .columns)) (sym (w .1))
-          (equations-other (l .inv .2) (w .0 .left)),
-      λ P. length-other P (a .least) (a .points .now) (a .t4) (a .work .now) (l .i) (l .kept) (l .inv .3 P) (w .0 .left) ∙ sym k,
-    ))
+    let k : c .if1 .kept ≡ l .kept = w .2 in
+    record {
+      within = omega arith;
+      left = omega (arith, k, l .inv .left, left);
+      added = rw (w .1) (equations-other (l .inv .added) (w .0 .left));
+      met = λ P. length-other P (a .least) (a .points .now) (a .t4) (a .work .now) (l .i) (l .kept) (l .inv .met P) (w .0 .left) ∙ sym k;
+    })
     (c .if1 .came)
 
 returns : tie.Need-returns Inv-loop μ-loop
 returns c =
-    let s = c .before .before .before .before .before .before in
-    let a = s .args in
+    let a = start (c .before) .args in
     let l = c .before .loop in
     let e : l .i ≡ length (a .points .now) / 3 = omega arith in
-    subst (λ (j : ℕ). Equations-before j (a .p) (a .skeleton .now) (a .points .now) (a .t4) (a .work .now) (a .least) (a .columns) (l .t)) e (l .inv .2)
+    subst (λ (j : ℕ). Equations-before j (a .p) (a .skeleton .now) (a .points .now) (a .t4) (a .work .now) (a .least) (a .columns) (l .t)) e (l .inv .added)
 
 pub equations-spec : {M : Type 1} → statement M
 equations-spec =
-    tie.close
-    (tie.spec
-    Inv-loop
-    μ-loop
-    empty-requires
-    loop-holds
-    mul-if1
-    array-read-if1
-    column-of-requires
-    mul-at
-    mul-image
-    add-point-equations
-    mul-point-equations
-    sub-point-equations
-    part-point-equations-start
-    part-point-equations-end
-    add-point-equations-2
-    mul-point-equations-2
-    sub-point-equations-2
-    part-point-equations-start-2
-    part-point-equations-end-2
-    point-equations-requires
-    add-kept
-    add-i
-    loop-less
-    loop-again
+    tie.close (tie.spec Inv-loop μ-loop empty-requires loop-holds mul-if1 array-read-if1 column-of-requires mul-at mul-image add-point-equations
+    mul-point-equations sub-point-equations part-point-equations-start part-point-equations-end add-point-equations-2 mul-point-equations-2
+    sub-point-equations-2 part-point-equations-start-2 part-point-equations-end-2 point-equations-requires add-kept add-i loop-less loop-again
     returns)

@@ -1,20 +1,23 @@
--- `divisor::equations::point_equations` meets its contract. The invariant: the table has the equations of the powers passed. Assumes nothing.
+-- `divisor::equations::point_equations` meets its contract. The invariant: the table has the equations of the powers passed.
 use borrow.Author.Needs.{needs}
-use mathlib.Core.Path.{_≡_, refl, sym, _∙_, subst}
+use mathlib.Core.Path.{_≡_, refl, sym, _∙_, ap, subst}
 use mathlib.Core.Logic.{⊎-elim}
-use Prim.Native.Nat.{ℕ, _-_, _≤_}
+use mathlib.Core.List.{List}
+use Prim.Native.Nat.{ℕ, _-_, _%_, _<_, _≤_}
 use native.Mathlib.Omega.{arith}
-use native.Mathlib.Nat.{mod-lt}
+use native.Mathlib.Nat.{mod-lt, zero-add}
 use lib.ListN.{getD}
 use Rattle.field.specs.modulus.Laws.{listed-above, listed-positive}
+use Rattle.field.specs.Contract.{element, difference-of}
 use Rattle.poly.specs.Coefficients.{Eight}
 use Rattle.poly.specs.value.PowersModel.{powers}
 use Rattle.poly.specs.value.PowersLaws.{powers-eight, powers-model}
 use Rattle.divisor.specs.table.Model.{with-row, TableReady}
-use Rattle.divisor.specs.equations.Model.{Equations-to}
+use Rattle.divisor.specs.equations.Model.{EquationReady, IsEquation, Equations-to}
 use Rattle.divisor.specs.table.Turns.{blank-adds-nothing}
 use Rattle.divisor.specs.equations.RowLaws.{equation-ready}
-use Rattle.divisor.specs.equations.PointTurns.{equation-with, point-start, point-ready, point-next}
+use Rattle.divisor.specs.equations.PointTurns.{equation-with, point-start, point-next}
+use Rattle.divisor.specs.table.Added.{adds-ready}
 use Rattle.divisor.proofs.equations.point_equations.Statement.{statement}
 use Rattle.divisor.proofs.equations.point_equations.Tie as tie
 
@@ -33,13 +36,22 @@ module _ (l : tie.At-loop Inv-loop μ-loop) where
   abbrev coordinate : ℕ → ℕ
   coordinate k = getD (start l .args .point .now) k 0
 
-  y-table : l .before .before .before .before .before .powers .result ≡ powers (start l .args .p) (coordinate 0)
+  abbrev ys : List ℕ
+  ys = l .before .before .before .before .before .powers .result
+
+  abbrev zs : List ℕ
+  zs = l .before .before .before .powers2 .result
+
+  abbrev ws : List ℕ
+  ws = l .before .powers3 .result
+
+  y-table : ys ≡ powers (start l .args .p) (coordinate 0)
   y-table = powers-model _ _ _ (l .before .before .before .before .before .powers .ensures)
 
-  z-table : l .before .before .before .powers2 .result ≡ powers (start l .args .p) (coordinate 1)
+  z-table : zs ≡ powers (start l .args .p) (coordinate 1)
   z-table = powers-model _ _ _ (l .before .before .before .powers2 .ensures)
 
-  w-table : l .before .powers3 .result ≡ powers (start l .args .p) (coordinate 2)
+  w-table : ws ≡ powers (start l .args .p) (coordinate 2)
   w-table = powers-model _ _ _ (l .before .powers3 .ensures)
 
 shared-slice-read-powers : tie.Need-shared-slice-read-powers Inv-loop μ-loop
@@ -63,59 +75,91 @@ powers-requires-3 c κs = listed-positive (c .before .before .before .before .be
 loop-holds : tie.Need-loop-holds Inv-loop μ-loop
 loop-holds c = (omega arith, point-start _ _ _ _ _ _)
 
-mul-u : tie.Need-mul-u Inv-loop μ-loop
-mul-u c = search needs
+zero-requires : tie.Need-zero-requires Inv-loop μ-loop
+zero-requires c κs = search needs
 
-shared-slice-read-u : tie.Need-shared-slice-read-u Inv-loop μ-loop
-shared-slice-read-u c = search needs
+mul-of : tie.Need-mul-of Inv-loop μ-loop
+mul-of c = search needs
 
-sub-u : tie.Need-sub-u Inv-loop μ-loop
-sub-u c = let l = c .before .before in omega (arith, start l .pre .eight .below (l .loop .i))
+shared-slice-read-of : tie.Need-shared-slice-read-of Inv-loop μ-loop
+shared-slice-read-of c = search needs
 
-rem-u : tie.Need-rem-u Inv-loop μ-loop
-rem-u c = omega (arith, listed-positive (start (c .before .before) .pre .table .listed))
+of-requires : tie.Need-of-requires Inv-loop μ-loop
+of-requires c κs = search needs
+
+difference-requires : tie.Need-difference-requires Inv-loop μ-loop
+difference-requires c κs =
+    let zero = c .before .before in
+    let l = zero .before .before in
+    let m = ap (λ e. e .modulus) (zero .zero .ensures) in
+    record {
+      below = omega (arith, m, ap (λ e. e .value) (zero .zero .ensures), listed-positive (start l .pre .table .listed));
+      other-below = omega (arith, m, ap (λ e. e .value) (c .of .ensures), start l .pre .eight .below (l .loop .i));
+    }
+
+-- the multiplier's number
+module _ (c : tie.After-difference Inv-loop μ-loop) where
+  abbrev loop : tie.At-loop Inv-loop μ-loop
+  loop = c .before .before .before .before .before
+
+  abbrev opposite : ℕ
+  opposite = (start loop .args .p - getD (start loop .args .image .now) (loop .loop .i) 0) % start loop .args .p
+
+  u-is : c .difference .result ≡ element (start loop .args .p) opposite
+  u-is = c .difference .ensures ∙ (λ n. difference-of (c .before .before .before .zero .ensures n) (c .before .of .ensures n))
+      ∙ ap (λ (n : ℕ). element (start loop .args .p) (n % start loop .args .p)) (zero-add _)
+
+  opposite-below : opposite < start loop .args .p
+  opposite-below = mod-lt _ (listed-positive (start loop .pre .table .listed))
 
 cast-equation : tie.Need-cast-equation Inv-loop μ-loop
 cast-equation c = search needs
 
 equation-requires : tie.Need-equation-requires Inv-loop μ-loop
 equation-requires c κs =
-    let s = start (c .before .before) in
+    let s = start (loop c) in
     let a = s .args in
     let above = listed-above (s .pre .table .listed) in
+    subst (λ u. EquationReady (u .modulus) (ys (loop c)) (zs (loop c)) (ws (loop c)) (a .skeleton .now) (a .column) (u .value)) (sym (u-is c))
     record {
       listed = s .pre .table .listed;
-      y-powers = subst (Eight (a .p)) (sym (y-table (c .before .before))) (powers-eight (a .p) _ above);
-      z-powers = subst (Eight (a .p)) (sym (z-table (c .before .before))) (powers-eight (a .p) _ above);
-      w-powers = subst (Eight (a .p)) (sym (w-table (c .before .before))) (powers-eight (a .p) _ above);
+      y-powers = subst (Eight (a .p)) (sym (y-table (loop c))) (powers-eight (a .p) _ above);
+      z-powers = subst (Eight (a .p)) (sym (z-table (loop c))) (powers-eight (a .p) _ above);
+      w-powers = subst (Eight (a .p)) (sym (w-table (loop c))) (powers-eight (a .p) _ above);
       small = s .pre .small;
       behind = s .pre .behind;
       within = omega (arith, s .pre .within, s .pre .table .columns .most);
-      below = mod-lt _ (listed-positive (s .pre .table .listed));
+      below = opposite-below c;
     }
+
+-- the equation made is that of x^i at the point
+is-equation : (c : tie.After-equation Inv-loop μ-loop) → let a = start (loop (c .before)) .args in
+    IsEquation (a .p) (powers (a .p) (coordinate (loop (c .before)) 0)) (powers (a .p) (coordinate (loop (c .before)) 1))
+    (powers (a .p) (coordinate (loop (c .before)) 2)) (a .skeleton .now) (loop (c .before) .loop .i) (a .column) (opposite (c .before)) (c .equation .result)
+is-equation c =
+    let at = loop (c .before) in
+    let a = start at .args in
+    equation-with (y-table at) (z-table at) (w-table at)
+    (subst (λ u. IsEquation (u .modulus) (ys at) (zs at) (ws at) (a .skeleton .now) (at .loop .i) (a .column) (u .value) (c .equation .result))
+    (u-is (c .before)) (c .equation .ensures))
 
 first-entry-requires : tie.Need-first-entry-requires Inv-loop μ-loop
 first-entry-requires c κs = search needs
 
 -- the table so far is ready
 ready : (l : tie.At-loop Inv-loop μ-loop) → TableReady (start l .args .p) (l .loop .s)
-ready at =
-    let s = start at in
-    let a = s .args in
-    let l = at .loop in
-    point-ready (a .p) (a .t) (a .skeleton .now) (a .point .now) (a .image .now) (a .column) (l .i) (l .s) (s .pre .table) (l .inv .1)
+ready at = adds-ready _ (at .loop .inv .1 .adds) (start at .pre .table)
 
 with-added-requires : tie.Need-with-added-requires Inv-loop μ-loop
 with-added-requires c κs =
     let e = c .before .before in
-    let at = e .before .before .before in
+    let at = loop (e .before) in
     let s = start at in
     let a = s .args in
-    let l = at .loop in
     record {
       table = ready at;
-      row = equation-ready (a .p) (listed-positive (s .pre .table .listed)) _ _ _ (a .skeleton .now) (l .i) (a .column) _ (e .equation .result)
-          (mod-lt _ (listed-positive (s .pre .table .listed))) (e .equation .ensures);
+      row = equation-ready (a .p) (listed-positive (s .pre .table .listed)) _ _ _ (a .skeleton .now) (at .loop .i) (a .column) _ (e .equation .result)
+          (opposite-below (e .before)) (is-equation e);
     }
 
 add-i : tie.Need-add-i Inv-loop μ-loop
@@ -125,11 +169,11 @@ loop-less : tie.Need-loop-less Inv-loop μ-loop
 loop-less c = search needs
 
 -- either way the table has the equation
-added : (c : tie.Joined1 Inv-loop μ-loop) → let e = c .before .before in let l = e .before .before .before in
+added : (c : tie.Joined1 Inv-loop μ-loop) → let e = c .before .before in let l = loop (e .before) in
     c .if1 .s ≡ with-row (start l .args .p) (l .loop .s) (e .equation .result)
 added c =
     let e = c .before .before in
-    let most = ready (e .before .before .before) .columns .most in
+    let most = ready (loop (e .before)) .columns .most in
     ⊎-elim (λ w. w .2 ∙ w .1 .ensures)
     (λ w. w .1 ∙ sym (blank-adds-nothing _ _ (e .equation .result) most _ (w .0 .left) (c .before .first-entry .ensures)))
     (c .if1 .came)
@@ -137,15 +181,13 @@ added c =
 loop-again : tie.Need-loop-again Inv-loop μ-loop
 loop-again c =
     let e = c .before .before in
-    let at = e .before .before .before in
+    let at = loop (e .before) in
     let s = start at in
     let a = s .args in
     let l = at .loop in (
-      omega arith,
+      omega (arith, e .before .before .before .before .before .loop-test .taken),
       point-next (a .p) (a .t) (a .skeleton .now) (a .point .now) (a .image .now) (a .column) (l .i) (l .s) _ (e .equation .result) (c .if1 .s)
-          (listed-positive (s .pre .table .listed)) (s .pre .eight .below (l .i)) refl
-          (equation-with (y-table at) (z-table at) (w-table at) (e .equation .ensures))
-          (l .inv .1) (added c),
+          (listed-positive (s .pre .table .listed)) (s .pre .eight .below (l .i)) refl (is-equation e) (l .inv .1) (added c),
     )
 
 returns : tie.Need-returns Inv-loop μ-loop
@@ -158,26 +200,6 @@ returns c =
 
 pub point-equations-spec : {M : Type 1} → statement M
 point-equations-spec =
-    tie.close
-    (tie.spec
-    Inv-loop
-    μ-loop
-    shared-slice-read-powers
-    powers-requires
-    shared-slice-read-powers-2
-    powers-requires-2
-    shared-slice-read-powers-3
-    powers-requires-3
-    loop-holds
-    mul-u
-    shared-slice-read-u
-    sub-u
-    rem-u
-    cast-equation
-    equation-requires
-    first-entry-requires
-    with-added-requires
-    add-i
-    loop-less
-    loop-again
-    returns)
+    tie.close (tie.spec Inv-loop μ-loop shared-slice-read-powers powers-requires shared-slice-read-powers-2 powers-requires-2
+    shared-slice-read-powers-3 powers-requires-3 loop-holds zero-requires mul-of shared-slice-read-of of-requires difference-requires cast-equation
+    equation-requires first-entry-requires with-added-requires add-i loop-less loop-again returns)

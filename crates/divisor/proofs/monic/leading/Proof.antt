@@ -1,4 +1,4 @@
--- `divisor::monic::leading` meets its contract. The invariant: the coefficients passed are 0, so the leading one is that of those left. Assumes nothing.
+-- `divisor::monic::leading` meets its contract. The invariant: the coefficients passed are 0, so the leading one is that of those left.
 use borrow.Author.Needs.{needs}
 use mathlib.Core.Path.{_≡_, refl, sym, _∙_}
 use Prim.Native.Nat.{_-_, _≤_}
@@ -56,17 +56,4 @@ returns-2 c =
 
 pub leading-spec : {M : Type 1} → statement M
 leading-spec =
-    tie.close
-    (tie.spec
-    Inv-loop
-    μ-loop
-    loop-holds
-    mul-if1
-    array-read-if1
-    mul-result
-    array-read-result
-    returns
-    add-i
-    loop-less
-    loop-again
-    returns-2)
+    tie.close (tie.spec Inv-loop μ-loop loop-holds mul-if1 array-read-if1 mul-result array-read-result returns add-i loop-less loop-again returns-2)

@@ -1,4 +1,4 @@
--- `divisor::points::store` meets its contract. The invariant: the numbers passed are stored, and nothing else has changed. Assumes nothing.
+-- `divisor::points::store` meets its contract. The invariant: the numbers passed are stored, and nothing else has changed.
 use borrow.Author.Needs.{needs}
 use mathlib.Core.Path.{_≡_, subst}
 use Prim.Native.Nat.{ℕ, _-_, _≤_}

@@ -1,4 +1,4 @@
--- `divisor::sorting::alike` meets its contract. The invariant: as many are m as were met and are left. Assumes nothing.
+-- `divisor::sorting::alike` meets its contract. The invariant: as many are m as were met and are left.
 use borrow.Author.Needs.{needs}
 use mathlib.Core.Path.{_≡_}
 use mathlib.Core.Logic.{⊎-elim}
@@ -51,16 +51,4 @@ returns c =
     omega (arith, l .inv .2, alike-end (s .args .t1) (s .args .n) (l .i) (s .args .m) (s .pre .within) (c .loop-test .left))
 
 pub alike-spec : {M : Type 1} → statement M
-alike-spec =
-    tie.close
-    (tie.spec
-    Inv-loop
-    μ-loop
-    loop-holds
-    mul-if1
-    array-read-if1
-    add-count
-    add-i
-    loop-less
-    loop-again
-    returns)
+alike-spec = tie.close (tie.spec Inv-loop μ-loop loop-holds mul-if1 array-read-if1 add-count add-i loop-less loop-again returns)

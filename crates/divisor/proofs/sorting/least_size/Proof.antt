@@ -1,4 +1,4 @@
--- `divisor::sorting::least_size` meets its contract. The invariant: the least size is that of what was met and of the sizes that are left. Assumes nothing.
+-- `divisor::sorting::least_size` meets its contract. The invariant: the least size is that of what was met and of the sizes that are left.
 use borrow.Author.Needs.{needs}
 use mathlib.Core.Path.{_≡_, refl, sym, _∙_, ap}
 use Prim.Native.Nat.{ℕ, _+_, _-_, _≤_}
@@ -50,15 +50,4 @@ returns c =
 
 pub least-size-spec : {M : Type 1} → statement M
 least-size-spec =
-    tie.close
-    (tie.spec
-    Inv-loop
-    μ-loop
-    loop-holds
-    mul-lesser
-    array-read-lesser
-    lesser-requires
-    add-i
-    loop-less
-    loop-again
-    returns)
+    tie.close (tie.spec Inv-loop μ-loop loop-holds mul-lesser array-read-lesser lesser-requires add-i loop-less loop-again returns)

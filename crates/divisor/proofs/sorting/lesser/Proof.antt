@@ -1,4 +1,4 @@
--- `divisor::sorting::lesser` meets its contract: each way out is a case of the definition. Assumes nothing.
+-- `divisor::sorting::lesser` meets its contract: each way out is a case of the definition.
 use borrow.Author.Tests.{eq-eqb, ne-eqb, lt-ltb, le-ltb}
 use Rattle.divisor.specs.sorting.Model.{lesser}
 use Rattle.divisor.proofs.sorting.lesser.Statement.{statement}

@@ -1,17 +1,17 @@
--- `divisor::table::first_entry` meets its contract. The loop keeps that no cell before j is other than 0. Assumes nothing.
+-- `divisor::table::first_entry` meets its contract. The loop keeps that no cell before j is other than 0.
 use Prim.Native.Nat.{_-_}
 use Rattle.poly.specs.list.Searching.{Searching}
 use Rattle.poly.specs.list.Search.{search-begins, search-goes-on, search-stops, search-ends}
-use Rattle.divisor.specs.table.Model.{COLUMNS, Entry}
+use Rattle.divisor.specs.table.Model.{most-columns, Entry}
 use borrow.Author.Needs.{needs}
 use Rattle.divisor.proofs.table.first_entry.Statement.{statement}
 use Rattle.divisor.proofs.table.first_entry.Tie as tie
 
 abbrev Inv-loop : tie.InvT-loop
-Inv-loop row j₀ j = Searching (Entry row) COLUMNS j
+Inv-loop row j₀ j = Searching (Entry row) most-columns j
 
 abbrev μ-loop : tie.MeasureT-loop
-μ-loop row j₀ j = COLUMNS - j
+μ-loop row j₀ j = most-columns - j
 
 loop-holds : tie.Need-loop-holds Inv-loop μ-loop
 loop-holds c = search-begins
@@ -39,15 +39,4 @@ returns-2 c = search-ends (c .before .loop .inv) (c .loop-test .left)
 
 pub first-entry-spec : {M : Type 1} → statement M
 first-entry-spec =
-    tie.close
-    (tie.spec
-    Inv-loop
-    μ-loop
-    loop-holds
-    mul-if1
-    element-copy-out-if1
-    returns
-    add-j
-    loop-less
-    loop-again
-    returns-2)
+    tie.close (tie.spec Inv-loop μ-loop loop-holds mul-if1 element-copy-out-if1 returns add-j loop-less loop-again returns-2)

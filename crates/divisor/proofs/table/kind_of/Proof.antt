@@ -1,5 +1,5 @@
 -- `divisor::table::kind_of` meets its contract. The loop's invariant: the kind by the columns from j on is the table's. The measure is the number of columns
--- left before the last. Assumes nothing.
+-- left before the last.
 use native.Mathlib.Nat.{sub-zero}
 use mathlib.Core.Path.{_≡_, sym, ap, _∙_}
 use Prim.Native.Nat.{_-_, _≤_}
@@ -76,23 +76,5 @@ returns-3 c =
 
 pub kind-of-spec : {M : Type 1} → statement M
 kind-of-spec =
-    tie.close
-    (tie.spec
-    Inv-loop
-    μ-loop
-    sub-last
-    mul-end
-    element-copy-out-end
-    mul-if1
-    element-copy-out-if1
-    returns
-    loop-holds
-    mul-row
-    element-copy-out-row
-    mul-if2
-    element-copy-out-if2
-    returns-2
-    add-j
-    loop-less
-    loop-again
-    returns-3)
+    tie.close (tie.spec Inv-loop μ-loop sub-last mul-end element-copy-out-end mul-if1 element-copy-out-if1 returns loop-holds mul-row
+    element-copy-out-row mul-if2 element-copy-out-if2 returns-2 add-j loop-less loop-again returns-3)

@@ -1,10 +1,10 @@
 -- `divisor::table::scaled` meets its contract. The loop's invariant is that of `subtract`, with the row times the inverse, which is the field's by the
--- link of `field`. The measure is the number of columns left. Assumes nothing.
+-- link of `field`. The measure is the number of columns left.
 use lib.ListN.{set}
 use Rattle.field.specs.modulus.Laws.{listed-prime}
-use Rattle.field.specs.Fp.{el, inv}
+use Rattle.field.specs.Contract.{element, product-of, Invertible, Inverse}
 use Rattle.field.specs.elements.Link.{inverse-val}
-use mathlib.Core.Path.{_≡_, sym, ap, _∙_}
+use mathlib.Core.Path.{_≡_, sym, ap, _∙_, subst}
 use Prim.Native.Nat.{ℕ, _+_, _-_, _*_, _%_, _≤_}
 use Rattle.divisor.specs.table.Model.{cell, altered}
 use Rattle.divisor.specs.table.Turns.{altered-turn, altered-end}
@@ -13,33 +13,44 @@ use Rattle.divisor.proofs.table.scaled.Statement.{statement}
 use Rattle.divisor.proofs.table.scaled.Tie as tie
 
 abbrev Inv-loop : tie.InvT-loop
-Inv-loop j columns p r₀ factor i₀ r i =
-    let times : ℕ → ℕ → ℕ = λ k a. factor * a % p in
+Inv-loop j columns p r₀ inverse i₀ r i =
+    let times : ℕ → ℕ → ℕ = λ k a. inverse .value * a % p in
     (i ≤ columns) × (altered times i (columns - i) (r .cells) ≡ altered times j (columns - j) (r₀ .cells))
 
 abbrev μ-loop : tie.MeasureT-loop
-μ-loop j columns p r₀ factor i₀ r i = columns - i
+μ-loop j columns p r₀ inverse i₀ r i = columns - i
 
-mul-t10 : tie.Need-mul-t10 Inv-loop μ-loop
-mul-t10 c = search needs
+-- what the inverse is
+is-inverse : (c : tie.After-inverse Inv-loop μ-loop) → let a = c .before .before .before .args in
+    Inverse (element (a .p) (cell (a .row) (a .j))) (c .inverse .result)
+is-inverse c = subst (λ e. Inverse e (c .inverse .result)) (c .before .of .ensures) (c .inverse .ensures)
 
-element-copy-out-t13 : tie.Need-element-copy-out-t13 Inv-loop μ-loop
-element-copy-out-t13 c = search needs
+mul-of : tie.Need-mul-of Inv-loop μ-loop
+mul-of c = search needs
+
+element-copy-out-of : tie.Need-element-copy-out-of Inv-loop μ-loop
+element-copy-out-of c = search needs
+
+of-requires : tie.Need-of-requires Inv-loop μ-loop
+of-requires c κs = search needs
 
 inverse-requires : tie.Need-inverse-requires Inv-loop μ-loop
-inverse-requires c κs = search needs
+inverse-requires c κs = subst Invertible (sym (c .of .ensures)) (search needs)
 
 loop-holds : tie.Need-loop-holds Inv-loop μ-loop
 loop-holds c = search needs
 
-mul-times : tie.Need-mul-times Inv-loop μ-loop
-mul-times c = search needs
+mul-of-2 : tie.Need-mul-of-2 Inv-loop μ-loop
+mul-of-2 c = search needs
 
-element-copy-out-times : tie.Need-element-copy-out-times Inv-loop μ-loop
-element-copy-out-times c = search needs
+element-copy-out-of-2 : tie.Need-element-copy-out-of-2 Inv-loop μ-loop
+element-copy-out-of-2 c = search needs
 
-times-requires : tie.Need-times-requires Inv-loop μ-loop
-times-requires c κs = search needs
+of-requires-2 : tie.Need-of-requires-2 Inv-loop μ-loop
+of-requires-2 c κs = search needs
+
+product-requires : tie.Need-product-requires Inv-loop μ-loop
+product-requires c κs = search needs
 
 mul-r : tie.Need-mul-r Inv-loop μ-loop
 mul-r c = search needs
@@ -55,41 +66,29 @@ loop-less c = search needs
 
 loop-again : tie.Need-loop-again Inv-loop μ-loop
 loop-again c =
-    let at = c .before .before .before in
-    let a = at .before .before .before .args in
-    let g : ℕ → ℕ → ℕ = λ k x. at .before .inverse .result .value * x % a .p in (
+    let cell-made = c .before in
+    let loop = cell-made .before .before .before in
+    let inverse = loop .before in
+    let a = inverse .before .before .before .args in
+    let times : ℕ → ℕ → ℕ → ℕ = λ m k x. inverse .inverse .result .value * x % m in
+    let made = c .product .ensures ∙ ap (product-of (inverse .inverse .result)) (cell-made .of2 .ensures)
+    ∙ ap (λ m. element m (inverse .inverse .result .value * cell (loop .loop .r) (loop .loop .i) % m)) (is-inverse inverse .same) in (
       search needs,
-      ap (λ v. altered g (at .loop .i + 1) (a .columns - (at .loop .i + 1)) (set (at .loop .r .cells) (at .loop .i) v)) (c .times .ensures)
-          ∙ sym (altered-turn g (at .loop .i) (a .columns) (at .loop .r .cells) (c .before .before .loop-test .taken)) ∙ at .loop .inv .1,
+      ap (λ e. altered (times (a .p)) (loop .loop .i + 1) (a .columns - (loop .loop .i + 1)) (set (loop .loop .r .cells) (loop .loop .i) (e .value))) made
+          ∙ sym (altered-turn (times (a .p)) (loop .loop .i) (a .columns) (loop .loop .r .cells) (cell-made .before .before .loop-test .taken))
+          ∙ loop .loop .inv .1,
     )
 
 returns : tie.Need-returns Inv-loop μ-loop
 returns c =
-    let at = c .before in
-    let a = at .before .before .before .args in
-    let g : ℕ → ℕ → ℕ = λ k x. at .before .inverse .result .value * x % a .p in
-    let is : at .before .inverse .result .value ≡ inv (el (a .p) (cell (a .row) (a .j))) .val =
-    inverse-val (record { modulus = a .p; value = cell (a .row) (a .j) }) (at .before .inverse .result)
-    (listed-prime (at .before .before .before .pre .listed)) (at .before .inverse .ensures) in
-    ap (λ x. record { cells = x }) (sym (altered-end g (at .loop .i) (a .columns) (at .loop .r .cells) (c .loop-test .left)) ∙ at .loop .inv .1)
+    let loop = c .before in
+    let start = loop .before .before .before .before in
+    let a = start .args in
+    let is = inverse-val _ _ (listed-prime (start .pre .listed)) (is-inverse (loop .before)) in
+    ap (λ x. record { cells = x }) (sym (altered-end _ (loop .loop .i) (a .columns) (loop .loop .r .cells) (c .loop-test .left)) ∙ loop .loop .inv .1)
     ∙ ap (λ f. record { cells = altered (λ k x. f * x % a .p) (a .j) (a .columns - a .j) (a .row .cells) }) is
 
 pub scaled-spec : {M : Type 1} → statement M
 scaled-spec =
-    tie.close
-    (tie.spec
-    Inv-loop
-    μ-loop
-    mul-t10
-    element-copy-out-t13
-    inverse-requires
-    loop-holds
-    mul-times
-    element-copy-out-times
-    times-requires
-    mul-r
-    element-write-r
-    add-i
-    loop-less
-    loop-again
-    returns)
+    tie.close (tie.spec Inv-loop μ-loop mul-of element-copy-out-of of-requires inverse-requires loop-holds mul-of-2 element-copy-out-of-2
+    of-requires-2 product-requires mul-r element-write-r add-i loop-less loop-again returns)

@@ -1,8 +1,10 @@
 -- `divisor::table::subtract` meets its contract. The loop's invariant: altering the row as it is from column i on gives what altering the row that came
--- gives from column j on. The measure is the number of columns left. Assumes nothing.
+-- gives from column j on. The measure is the number of columns left.
 use lib.ListN.{getD, set}
 use mathlib.Core.Path.{_≡_, sym, ap, _∙_}
 use Prim.Native.Nat.{ℕ, _+_, _-_, _*_, _%_, _≤_}
+use native.Mathlib.Omega.{arith}
+use Rattle.field.specs.Contract.{minus-product-of}
 use Rattle.divisor.specs.table.Model.{cell, altered}
 use Rattle.divisor.specs.table.Turns.{altered-turn, altered-end}
 use borrow.Author.Needs.{needs}
@@ -11,38 +13,50 @@ use Rattle.divisor.proofs.table.subtract.Tie as tie
 
 abbrev Inv-loop : tie.InvT-loop
 Inv-loop row₀ j columns p pivot factor i₀ row i =
-    (i ≤ columns)
-    × (altered (λ k a. (a + factor * cell pivot k) % p) i (columns - i) row ≡ altered (λ k a. (a + factor * cell pivot k) % p) j (columns - j) row₀)
+    let less : ℕ → ℕ → ℕ = λ k a. (a + (p - getD row₀ j 0) * cell pivot k) % p in
+    (i ≤ columns) × (altered less i (columns - i) row ≡ altered less j (columns - j) row₀)
 
 abbrev μ-loop : tie.MeasureT-loop
 μ-loop row₀ j columns p pivot factor i₀ row i = columns - i
 
-mul-factor : tie.Need-mul-factor Inv-loop μ-loop
-mul-factor c = search needs
+mul-of : tie.Need-mul-of Inv-loop μ-loop
+mul-of c = search needs
 
-element-copy-out-factor : tie.Need-element-copy-out-factor Inv-loop μ-loop
-element-copy-out-factor c = search needs
+element-copy-out-of : tie.Need-element-copy-out-of Inv-loop μ-loop
+element-copy-out-of c = search needs
 
-sub-factor : tie.Need-sub-factor Inv-loop μ-loop
-sub-factor c = search needs
+of-requires : tie.Need-of-requires Inv-loop μ-loop
+of-requires c κs = search needs
 
 loop-holds : tie.Need-loop-holds Inv-loop μ-loop
 loop-holds c = search needs
 
-mul-plus-times : tie.Need-mul-plus-times Inv-loop μ-loop
-mul-plus-times c = search needs
+mul-of-2 : tie.Need-mul-of-2 Inv-loop μ-loop
+mul-of-2 c = search needs
 
-element-copy-out-plus-times : tie.Need-element-copy-out-plus-times Inv-loop μ-loop
-element-copy-out-plus-times c = search needs
+element-copy-out-of-2 : tie.Need-element-copy-out-of-2 Inv-loop μ-loop
+element-copy-out-of-2 c = search needs
 
-mul-plus-times-2 : tie.Need-mul-plus-times-2 Inv-loop μ-loop
-mul-plus-times-2 c = search needs
+of-requires-2 : tie.Need-of-requires-2 Inv-loop μ-loop
+of-requires-2 c κs = search needs
 
-element-copy-out-plus-times-2 : tie.Need-element-copy-out-plus-times-2 Inv-loop μ-loop
-element-copy-out-plus-times-2 c = search needs
+mul-of-3 : tie.Need-mul-of-3 Inv-loop μ-loop
+mul-of-3 c = search needs
 
-plus-times-requires : tie.Need-plus-times-requires Inv-loop μ-loop
-plus-times-requires c κs = search needs
+element-copy-out-of-3 : tie.Need-element-copy-out-of-3 Inv-loop μ-loop
+element-copy-out-of-3 c = search needs
+
+of-requires-3 : tie.Need-of-requires-3 Inv-loop μ-loop
+of-requires-3 c κs = search needs
+
+minus-product-requires : tie.Need-minus-product-requires Inv-loop μ-loop
+minus-product-requires c κs =
+    let cell-made = c .before .before in
+    let factor-made = cell-made .before .before .before .before in
+    record {
+      positive = omega (arith, ap (λ e. e .modulus) (cell-made .of2 .ensures));
+      within = omega (arith, ap (λ e. e .modulus) (cell-made .of2 .ensures), ap (λ e. e .value) (factor-made .of .ensures));
+    }
 
 mul-row : tie.Need-mul-row Inv-loop μ-loop
 mul-row c = search needs
@@ -58,39 +72,25 @@ loop-less c = search needs
 
 loop-again : tie.Need-loop-again Inv-loop μ-loop
 loop-again c =
-    let at = c .before .before .before .before in
-    let a = at .before .before .args in
-    let g : ℕ → ℕ → ℕ = λ k x. (x + (a .p - getD (a .row .now) (a .j) 0) * cell (a .t2) k) % a .p in (
+    let cell-made = c .before .before .before in
+    let loop = cell-made .before .before .before in
+    let factor-made = loop .before in
+    let a = factor-made .before .before .args in
+    let less : ℕ → ℕ → ℕ = λ k x. (x + (a .p - getD (a .row .now) (a .j) 0) * cell (a .t2) k) % a .p in
+    let made = c .minus-product .ensures
+    ∙ (λ n. minus-product-of (cell-made .of2 .ensures n) (factor-made .of .ensures n) (c .before .of3 .ensures n)) in (
       search needs,
-      ap (λ v. altered g (at .loop .i + 1) (a .columns - (at .loop .i + 1)) (set (at .loop .row) (at .loop .i) v)) (c .plus-times .ensures)
-          ∙ sym (altered-turn g (at .loop .i) (a .columns) (at .loop .row) (c .before .before .before .loop-test .taken)) ∙ at .loop .inv .1,
+      ap (λ e. altered less (loop .loop .i + 1) (a .columns - (loop .loop .i + 1)) (set (loop .loop .row) (loop .loop .i) (e .value))) made
+          ∙ sym (altered-turn less (loop .loop .i) (a .columns) (loop .loop .row) (cell-made .before .before .loop-test .taken)) ∙ loop .loop .inv .1,
     )
 
 returns : tie.Need-returns Inv-loop μ-loop
 returns c =
-    let at = c .before in
-    let a = at .before .before .args in
-    let g : ℕ → ℕ → ℕ = λ k x. (x + (a .p - getD (a .row .now) (a .j) 0) * cell (a .t2) k) % a .p in
-    ap (λ x. record { cells = x }) (sym (altered-end g (at .loop .i) (a .columns) (at .loop .row) (c .loop-test .left)) ∙ at .loop .inv .1)
+    let loop = c .before in
+    let a = loop .before .before .before .args in
+    ap (λ x. record { cells = x }) (sym (altered-end _ (loop .loop .i) (a .columns) (loop .loop .row) (c .loop-test .left)) ∙ loop .loop .inv .1)
 
 pub subtract-spec : {M : Type 1} → statement M
 subtract-spec =
-    tie.close
-    (tie.spec
-    Inv-loop
-    μ-loop
-    mul-factor
-    element-copy-out-factor
-    sub-factor
-    loop-holds
-    mul-plus-times
-    element-copy-out-plus-times
-    mul-plus-times-2
-    element-copy-out-plus-times-2
-    plus-times-requires
-    mul-row
-    element-write-row
-    add-i
-    loop-less
-    loop-again
-    returns)
+    tie.close (tie.spec Inv-loop μ-loop mul-of element-copy-out-of of-requires loop-holds mul-of-2 element-copy-out-of-2 of-requires-2 mul-of-3
+    element-copy-out-of-3 of-requires-3 minus-product-requires mul-row element-write-row add-i loop-less loop-again returns)

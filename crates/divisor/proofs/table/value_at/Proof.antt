@@ -1,48 +1,74 @@
--- `divisor::table::value_at` meets its contract. The loop's invariant: the sum is below p, and with the columns from k on it comes to the whole sum. The
--- measure is the number of columns left before the last. Assumes nothing.
-use native.Mathlib.Nat.{mod-lt}
-use mathlib.Core.Path.{_≡_, sym, ap, _∙_, subst}
-use Prim.Native.Nat.{_+_, _-_, _%_, _<_, _≤_}
+-- `divisor::table::value_at` meets its contract. The loop's invariant: the sum is a number below p, and with the columns from k on it comes to the whole
+-- sum. The measure is the number of columns left before the last.
+use native.Mathlib.Nat.{mod-lt, zero-add}
+use mathlib.Core.Path.{_≡_, sym, ap, _∙_}
+use mathlib.Core.List.{List}
+use Prim.Native.Nat.{ℕ, _+_, _-_, _*_, _%_, _<_, _≤_}
 use native.Mathlib.Omega.{arith}
+use lib.ListN.{getD}
+use Rattle.field.specs.declared.elements.Element.{Element}
+use Rattle.field.specs.Contract.{element, plus-product-of, difference-of}
+use Rattle.divisor.specs.declared.table.Row.{Row}
 use Rattle.divisor.specs.table.Model.{cell, total}
 use Rattle.divisor.specs.table.Turns.{total-turn, total-end}
 use borrow.Author.Needs.{needs}
 use Rattle.divisor.proofs.table.value_at.Statement.{statement}
 use Rattle.divisor.proofs.table.value_at.Tie as tie
 
+record Reached (j last p : ℕ) (row : Row) (values : List ℕ) (sum : Element) (k : ℕ) : Type 0 where
+  within : k ≤ last
+  modulus : sum .modulus ≡ p
+  below : sum .value < p
+  comes-to : total (last - k) k p row values (sum .value) ≡ total (last - (j + 1)) (j + 1) p row values (cell row last)
+
 abbrev Inv-loop : tie.InvT-loop
-Inv-loop j last p row values sum₀ k₀ sum k =
-    (k ≤ last) × ((sum < p) × (total (last - k) k p row values sum ≡ total (last - (j + 1)) (j + 1) p row values (cell row last)))
+Inv-loop j last p row values sum₀ k₀ sum k = Reached j last p row values sum k
 
 abbrev μ-loop : tie.MeasureT-loop
 μ-loop j last p row values sum₀ k₀ sum k = last - k
 
-mul-sum : tie.Need-mul-sum Inv-loop μ-loop
-mul-sum c = search needs
+mul-of : tie.Need-mul-of Inv-loop μ-loop
+mul-of c = search needs
 
-element-copy-out-sum : tie.Need-element-copy-out-sum Inv-loop μ-loop
-element-copy-out-sum c = search needs
+element-copy-out-of : tie.Need-element-copy-out-of Inv-loop μ-loop
+element-copy-out-of c = search needs
+
+of-requires : tie.Need-of-requires Inv-loop μ-loop
+of-requires c κs = search needs
 
 add-k : tie.Need-add-k Inv-loop μ-loop
 add-k c = search needs
 
 loop-holds : tie.Need-loop-holds Inv-loop μ-loop
-loop-holds c = search needs
+loop-holds c =
+    let a = c .before .before .args in
+    record {
+      within = omega (arith, c .before .before .pre .within);
+      modulus = ap (λ e. e .modulus) (c .of .ensures);
+      below = rw (c .of .ensures) (c .before .before .pre .below);
+      comes-to = ap (λ e. total (a .last - (a .j + 1)) (a .j + 1) (a .p) (a .t1) (a .t2) (e .value)) (c .of .ensures);
+    }
 
-mul-plus-times : tie.Need-mul-plus-times Inv-loop μ-loop
-mul-plus-times c = search needs
+mul-of-2 : tie.Need-mul-of-2 Inv-loop μ-loop
+mul-of-2 c = search needs
 
-element-copy-out-plus-times : tie.Need-element-copy-out-plus-times Inv-loop μ-loop
-element-copy-out-plus-times c = search needs
+element-copy-out-of-2 : tie.Need-element-copy-out-of-2 Inv-loop μ-loop
+element-copy-out-of-2 c = search needs
 
-mul-plus-times-2 : tie.Need-mul-plus-times-2 Inv-loop μ-loop
-mul-plus-times-2 c = search needs
+of-requires-2 : tie.Need-of-requires-2 Inv-loop μ-loop
+of-requires-2 c κs = search needs
 
-array-read-plus-times : tie.Need-array-read-plus-times Inv-loop μ-loop
-array-read-plus-times c = search needs
+mul-of-3 : tie.Need-mul-of-3 Inv-loop μ-loop
+mul-of-3 c = search needs
 
-plus-times-requires : tie.Need-plus-times-requires Inv-loop μ-loop
-plus-times-requires c κs = search needs
+array-read-of : tie.Need-array-read-of Inv-loop μ-loop
+array-read-of c = search needs
+
+of-requires-3 : tie.Need-of-requires-3 Inv-loop μ-loop
+of-requires-3 c κs = search needs
+
+plus-product-requires : tie.Need-plus-product-requires Inv-loop μ-loop
+plus-product-requires c κs = search needs
 
 add-k-2 : tie.Need-add-k-2 Inv-loop μ-loop
 add-k-2 c = search needs
@@ -52,47 +78,47 @@ loop-less c = search needs
 
 loop-again : tie.Need-loop-again Inv-loop μ-loop
 loop-again c =
-    let at = c .before .before .before in
-    let a = at .before .before .args in
-    let positive : 0 < a .p = omega arith in (
-      search needs,
-      (
-        subst (λ s. s < a .p) (sym (c .plus-times .ensures)) (mod-lt _ positive),
-        ap (λ s. total (a .last - (at .loop .k + 1)) (at .loop .k + 1) (a .p) (a .t1) (a .t2) s) (c .plus-times .ensures)
-            ∙ sym (total-turn (at .loop .k) (a .last) (a .p) (a .t1) (a .t2) (at .loop .sum) (c .before .before .loop-test .taken)) ∙ at .loop .inv .1 .1,
-      ),
-    )
+    let cell-made = c .before .before in
+    let loop = cell-made .before .before .before in
+    let a = loop .before .before .before .args in
+    let k = loop .loop .k in
+    let sum = loop .loop .sum in
+    let positive : 0 < a .p = omega (arith, loop .loop .inv .below) in
+    let made = c .plus-product .ensures ∙ (λ n. plus-product-of sum (cell-made .of2 .ensures n) (c .before .of3 .ensures n))
+    ∙ ap (λ (m : ℕ). element m ((sum .value + cell (a .t1) k * getD (a .t2) k 0) % m)) (loop .loop .inv .modulus) in
+    let test = cell-made .before .before .loop-test .taken in
+    record {
+      within = omega (arith, test);
+      modulus = ap (λ e. e .modulus) made;
+      below = rw made (mod-lt _ positive);
+      comes-to =
+          ap (λ e. total (a .last - (k + 1)) (k + 1) (a .p) (a .t1) (a .t2) (e .value)) made
+          ∙ sym (total-turn k (a .last) (a .p) (a .t1) (a .t2) (sum .value) test) ∙ loop .loop .inv .comes-to;
+    }
 
-sub-result : tie.Need-sub-result Inv-loop μ-loop
-sub-result c = search needs
+zero-requires : tie.Need-zero-requires Inv-loop μ-loop
+zero-requires c κs = search needs
 
-rem-result : tie.Need-rem-result Inv-loop μ-loop
-rem-result c = search needs
+difference-requires : tie.Need-difference-requires Inv-loop μ-loop
+difference-requires c κs =
+    let sum = c .before .before .loop .inv .below in
+    record {
+      below = omega (arith, sum, ap (λ e. e .modulus) (c .zero .ensures), ap (λ e. e .value) (c .zero .ensures));
+      other-below = omega (arith, sum, ap (λ e. e .modulus) (c .zero .ensures));
+    }
 
 returns : tie.Need-returns Inv-loop μ-loop
 returns c =
-    let at = c .before in
-    let a = at .before .before .args in
-    ap (λ s. (a .p - s) % a .p) (sym (total-end (at .loop .k) (a .last) (a .p) (a .t1) (a .t2) (at .loop .sum) (c .loop-test .left)) ∙ at .loop .inv .1 .1)
+    let left = c .before .before in
+    let loop = left .before in
+    let a = loop .before .before .before .args in
+    let sum = loop .loop .sum in
+    c .difference .ensures ∙ ap (λ e. difference-of e sum) (c .before .zero .ensures)
+    ∙ ap (λ (n : ℕ). element (a .p) (n % a .p)) (zero-add (a .p - sum .value))
+    ∙ ap (λ (n : ℕ). element (a .p) ((a .p - n) % a .p))
+    (sym (total-end (loop .loop .k) (a .last) (a .p) (a .t1) (a .t2) (sum .value) (left .loop-test .left)) ∙ loop .loop .inv .comes-to)
 
 pub value-at-spec : {M : Type 1} → statement M
 value-at-spec =
-    tie.close
-    (tie.spec
-    Inv-loop
-    μ-loop
-    mul-sum
-    element-copy-out-sum
-    add-k
-    loop-holds
-    mul-plus-times
-    element-copy-out-plus-times
-    mul-plus-times-2
-    array-read-plus-times
-    plus-times-requires
-    add-k-2
-    loop-less
-    loop-again
-    sub-result
-    rem-result
-    returns)
+    tie.close (tie.spec Inv-loop μ-loop mul-of element-copy-out-of of-requires add-k loop-holds mul-of-2 element-copy-out-of-2 of-requires-2
+    mul-of-3 array-read-of of-requires-3 plus-product-requires add-k-2 loop-less loop-again zero-requires difference-requires returns)

@@ -1,5 +1,5 @@
 -- `divisor::table::values_of` meets its contract. The loop's invariant: back substitution from column j on the values so far gives what it gives from the
--- last column on zeros. The measure is j. Assumes nothing.
+-- last column on zeros. The measure is j.
 use mathlib.Core.Path.{_≡_, sym, ap, _∙_}
 use Prim.Native.Nat.{_-_, _≤_}
 use native.Mathlib.Omega.{arith}
@@ -56,7 +56,7 @@ loop-again c =
     let at = c .before .before .before in
     let a = at .before .args in (
       search needs,
-      ap (λ v. back (at .loop .j - 1) (a .p) (a .t1) (set (at .loop .values) (at .loop .j - 1) v)) (c .value-at .ensures)
+      ap (λ e. back (at .loop .j - 1) (a .p) (a .t1) (set (at .loop .values) (at .loop .j - 1) (e .value))) (c .value-at .ensures)
           ∙ sym (back-turn (a .p) (a .t1) (at .loop .values) (at .loop .j) (c .before .before .loop-test .taken)) ∙ at .loop .inv .1,
     )
 
@@ -68,18 +68,5 @@ returns c =
 
 pub values-of-spec : {M : Type 1} → statement M
 values-of-spec =
-    tie.close
-    (tie.spec
-    Inv-loop
-    μ-loop
-    sub-last
-    loop-holds
-    sub-j
-    mul-row
-    element-copy-out-row
-    value-at-requires
-    mul-values
-    array-write-values
-    loop-less
-    loop-again
-    returns)
+    tie.close (tie.spec Inv-loop μ-loop sub-last loop-holds sub-j mul-row element-copy-out-row value-at-requires mul-values array-write-values
+    loop-less loop-again returns)

@@ -1,11 +1,12 @@
 -- `divisor::table::with_equation` meets its contract. The loop's invariant: the table is as it was, the row's cells are below p, and what the columns
--- from j on make of the row is what all columns make of the equation. The measure is the number of columns left. Assumes nothing.
+-- from j on make of the row is what all columns make of the equation. The measure is the number of columns left.
 use mathlib.Core.Path.{_≡_, refl, sym, ap, _∙_, subst}
 use mathlib.Core.Logic.{⊎-elim}
 use Prim.Native.Nat.{ℕ, _+_, _-_, _<_, _≤_}
 use native.Mathlib.Nat.{sub-zero}
 use native.Mathlib.Omega.{arith}
 use lib.ListN.{set}
+use Rattle.divisor.specs.declared.table.Row.{Row}
 use Rattle.divisor.specs.declared.table.Table.{Table}
 use Rattle.divisor.specs.table.Model.{cell, row-at, diagonal, insert, with-row, minus, scaled-row, Column}
 use Rattle.divisor.specs.table.Turns.{insert-skip, insert-kept, insert-minus, insert-end}
@@ -14,8 +15,14 @@ use borrow.Author.Needs.{needs}
 use Rattle.divisor.proofs.table.with_equation.Statement.{statement}
 use Rattle.divisor.proofs.table.with_equation.Tie as tie
 
+record Reached (p : ℕ) (t : Table) (e : Row) (s : Table) (row : Row) (j : ℕ) : Type 0 where
+  within : j ≤ t .columns
+  below : (k : ℕ) → cell row k < p
+  comes-to : insert (t .columns - j) j p t row ≡ with-row p t e
+  same : s ≡ t
+
 abbrev Inv-loop : tie.InvT-loop
-Inv-loop p columns t row₀ j₀ s row j = (j ≤ columns) × (((k : ℕ) → cell row k < p) × ((insert (t .columns - j) j p t row ≡ with-row p t row₀) × (s ≡ t)))
+Inv-loop p columns t row₀ j₀ s row j = Reached p t row₀ s row j
 
 abbrev μ-loop : tie.MeasureT-loop
 μ-loop p columns t row₀ j₀ s row j = columns - j
@@ -27,7 +34,7 @@ column c =
     let at = c .before .before .before in
     record {
       listed = at .before .pre .table .listed;
-      below = at .loop .inv .1 .0 (at .loop .j);
+      below = at .loop .inv .below (at .loop .j);
       nonzero = omega (arith, c .if1 .taken);
       within = c .before .before .loop-test .taken;
       most = at .before .pre .table .columns .most;
@@ -36,7 +43,12 @@ column c =
 loop-holds : tie.Need-loop-holds Inv-loop μ-loop
 loop-holds c =
     let a = c .args in
-    (search needs, (c .pre .row .below, (ap (λ n. insert n 0 (a .p) (a .t) (a .e)) (sub-zero (a .t .columns)), refl)))
+    record {
+      within = omega arith;
+      below = c .pre .row .below;
+      comes-to = ap (λ n. insert n 0 (a .p) (a .t) (a .e)) (sub-zero (a .t .columns));
+      same = refl;
+    }
 
 mul-if1 : tie.Need-mul-if1 Inv-loop μ-loop
 mul-if1 c = search needs
@@ -67,15 +79,15 @@ element-set-from-s c = search needs
 
 returns : tie.Need-returns Inv-loop μ-loop
 returns c =
-    let at = c .before .before .before .before .before .before .before in
-    let a = at .before .args in
-    let j = at .loop .j in
-    let same = at .loop .inv .1 .1 .1 in
-    ap (λ x. record { rows = set (at .loop .s .rows) j x; columns = at .loop .s .columns }) (c .scaled .ensures)
-    ∙ ap (λ (t : Table). record { rows = set (t .rows) j (scaled-row (a .p) (at .loop .row) j (a .t .columns)); columns = t .columns }) same
-    ∙ sym (insert-kept (a .p) (a .t) (at .loop .row) j (c .before .before .before .before .before .before .loop-test .taken)
-    (c .before .before .before .before .if1 .taken) (subst (λ (t : Table). diagonal t j ≡ 0) same (c .before .if2 .taken)))
-    ∙ at .loop .inv .1 .1 .0
+    let entry = c .before .before .before .before in
+    let loop = entry .before .before .before in
+    let l = loop .loop in
+    let a = loop .before .args in
+    ap (λ x. record { rows = set (l .s .rows) (l .j) x; columns = l .s .columns }) (c .scaled .ensures)
+    ∙ ap (λ (t : Table). record { rows = set (t .rows) (l .j) (scaled-row (a .p) (l .row) (l .j) (a .t .columns)); columns = t .columns }) (l .inv .same)
+    ∙ sym (insert-kept (a .p) (a .t) (l .row) (l .j) (entry .before .before .loop-test .taken) (entry .if1 .taken)
+    (subst (λ (t : Table). diagonal t (l .j) ≡ 0) (l .inv .same) (c .before .if2 .taken)))
+    ∙ l .inv .comes-to
 
 subtract-requires : tie.Need-subtract-requires Inv-loop μ-loop
 subtract-requires c κs = column (c .before .before .before .before)
@@ -88,61 +100,41 @@ loop-less c = search needs
 
 loop-again : tie.Need-loop-again Inv-loop μ-loop
 loop-again c =
-    let at = c .before .before .before in
-    let a = at .before .args in
-    let j = at .loop .j in
-    let within = c .before .before .loop-test .taken in
-    let left = a .t .columns - (j + 1) in
-    let same = at .loop .inv .1 .1 .1 in (
-      search needs,
-      ⊎-elim
-          (λ w.
-          let is : c .if1 .row ≡ minus (a .p) (at .loop .row) (row-at (a .t) j) j (a .t .columns) =
-          w .6 ∙ w .5 .ensures ∙ ap (λ (t : Table). minus (a .p) (at .loop .row) (row-at t j) j (a .t .columns)) same in (
-            λ k. subst (λ x. cell x k < a .p) (sym is) (minus-below (a .p) (at .loop .row) j (a .t .columns) (at .loop .inv .1 .0) (row-at (a .t) j) k),
-            (
-              ap (λ x. insert left (j + 1) (a .p) (a .t) x) is
-                  ∙ sym (insert-minus (a .p) (a .t) (at .loop .row) j within (w .0 .taken) (λ z. w .3 .left (ap (λ (t : Table). diagonal t j) same ∙ z)))
-                  ∙ at .loop .inv .1 .1 .0,
-              same,
-            ),
-          ))
-          (λ w. (
-            λ k. subst (λ x. cell x k < a .p) (sym (w .1)) (at .loop .inv .1 .0 k),
-            (
-              ap (λ x. insert left (j + 1) (a .p) (a .t) x) (w .1) ∙ sym (insert-skip (a .p) (a .t) (at .loop .row) j within (w .0 .left))
-                  ∙ at .loop .inv .1 .1 .0,
-              same,
-            ),
-          ))
-          (c .if1 .came),
-    )
+    let loop = c .before .before .before in
+    let l = loop .loop in
+    let a = loop .before .args in
+    let test = c .before .before .loop-test .taken in
+    let left = a .t .columns - (l .j + 1) in
+    let next = minus (a .p) (l .row) (row-at (a .t) (l .j)) (l .j) (a .t .columns) in
+    ⊎-elim
+    (λ w.
+    let is : c .if1 .row ≡ next =
+    w .6 ∙ w .5 .ensures ∙ ap (λ (t : Table). minus (a .p) (l .row) (row-at t (l .j)) (l .j) (a .t .columns)) (l .inv .same) in
+    record {
+      within = omega arith;
+      below = λ k. rw is (minus-below (a .p) (l .row) (l .j) (a .t .columns) (l .inv .below) (row-at (a .t) (l .j)) k);
+      comes-to =
+          ap (λ x. insert left (l .j + 1) (a .p) (a .t) x) is
+          ∙ sym (insert-minus (a .p) (a .t) (l .row) (l .j) test (w .0 .taken) (λ z. w .3 .left (ap (λ (t : Table). diagonal t (l .j)) (l .inv .same) ∙ z)))
+          ∙ l .inv .comes-to;
+      same = l .inv .same;
+    })
+    (λ w. record {
+      within = omega arith;
+      below = λ k. rw (w .1) (l .inv .below k);
+      comes-to =
+          ap (λ x. insert left (l .j + 1) (a .p) (a .t) x) (w .1) ∙ sym (insert-skip (a .p) (a .t) (l .row) (l .j) test (w .0 .left)) ∙ l .inv .comes-to;
+      same = l .inv .same;
+    })
+    (c .if1 .came)
 
 returns-2 : tie.Need-returns-2 Inv-loop μ-loop
 returns-2 c =
-    let at = c .before in
-    let a = at .before .args in
-    at .loop .inv .1 .1 .1 ∙ sym (insert-end (a .p) (a .t) (at .loop .row) (at .loop .j) (c .loop-test .left)) ∙ at .loop .inv .1 .1 .0
+    let l = c .before .loop in
+    let a = c .before .before .args in
+    l .inv .same ∙ sym (insert-end (a .p) (a .t) (l .row) (l .j) (c .loop-test .left)) ∙ l .inv .comes-to
 
 pub with-equation-spec : {M : Type 1} → statement M
 with-equation-spec =
-    tie.close
-    (tie.spec
-    Inv-loop
-    μ-loop
-    loop-holds
-    mul-if1
-    element-copy-out-if1
-    mul-pivot
-    element-copy-out-pivot
-    mul-if2
-    element-copy-out-if2
-    scaled-requires
-    mul-t24
-    element-set-from-s
-    returns
-    subtract-requires
-    add-j
-    loop-less
-    loop-again
-    returns-2)
+    tie.close (tie.spec Inv-loop μ-loop loop-holds mul-if1 element-copy-out-if1 mul-pivot element-copy-out-pivot mul-if2 element-copy-out-if2
+    scaled-requires mul-t24 element-set-from-s returns subtract-requires add-j loop-less loop-again returns-2)

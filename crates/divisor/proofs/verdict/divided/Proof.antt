@@ -1,4 +1,4 @@
--- `divisor::verdict::divided` meets its contract: the divisor of the only solution, and what the two divisions say of it. Assumes nothing.
+-- `divisor::verdict::divided` meets its contract: the divisor of the only solution, and what the two divisions say of it.
 use mathlib.Core.Path.{refl, sym}
 use native.Mathlib.Omega.{arith}
 use lib.Seq.{length-take-le}
@@ -6,6 +6,14 @@ use Rattle.divisor.specs.verdict.Laws.{can-divide, fits-output, settled-
 use borrow.Author.Needs.{needs}
 use Rattle.divisor.proofs.verdict.divided.Statement.{statement}
 use Rattle.divisor.proofs.verdict.divided.Tie as tie
+
+-- with the divisor made: where the routine began
+abbrev start : tie.After-made-monic → tie.Start
+start m = m .before .before .before .before .before .before
+
+-- with the divisions done: the divisor that was made
+abbrev made : tie.After-divides-both → tie.After-made-monic
+made d = d .before .before .before .before
 
 made-monic-requires : tie.Need-made-monic-requires
 made-monic-requires c κs =
@@ -19,38 +27,29 @@ made-monic-requires c κs =
     }
 
 array-share-prefix-terms : tie.Need-array-share-prefix-terms
-array-share-prefix-terms c =
-    let s = c .before .before .before .before .before .before .before in
-    let m = c .before .made-monic .ensures in
-    omega (arith, m .fits, s .pre .few)
+array-share-prefix-terms c = let m = c .before in omega (arith, m .made-monic .ensures .fits, start m .pre .few)
 
 slice-aggregate-list : tie.Need-slice-aggregate-list
 slice-aggregate-list c =
-    let s = c .before .before .before .before .before .before .before .before in
-    let m = c .before .before .made-monic in
-    sym (length-take-le (m .result .count) (m .result .terms) (omega (arith, m .ensures .sized, m .ensures .fits, s .pre .few)))
+    let m = c .before .before in
+    let made = m .made-monic .ensures in
+    sym (length-take-le (m .made-monic .result .count) (m .made-monic .result .terms) (omega (arith, made .sized, made .fits, start m .pre .few)))
 
 divides-both-requires : tie.Need-divides-both-requires
-divides-both-requires c κs =
-    let s = c .before .before .before .before .before .before .before .before .before in
-    let m = c .before .before .before .made-monic in
-    can-divide (s .pre) (m .ensures) refl
+divides-both-requires c κs = let m = c .before .before .before in can-divide (start m .pre) (m .made-monic .ensures) refl
 
 same-length : tie.Need-same-length
 same-length c = search needs
 
 returns : tie.Need-returns
 returns c =
-    let s = c .before .before .before .before .before .before .before .before .before .before .before .before .before in
-    let m = c .before .before .before .before .before .before .before .made-monic in
-    let d = c .before .before .before .divides-both in
-    settled-rejected (s .pre) (m .ensures) refl (d .ensures) (c .if1 .taken)
+    let d = c .before .before .before in
+    settled-rejected (start (made d) .pre) (made d .made-monic .ensures) refl (d .divides-both .ensures) (c .if1 .taken)
 
 write-requires : tie.Need-write-requires
 write-requires c κs =
-    let s = c .before .before .before .before .before .before .before .before .before .before .before .before .before .before in
-    let m = c .before .before .before .before .before .before .before .before .made-monic in
-    fits-output (s .pre) (m .ensures) refl
+    let d = c .before .before .before .before in
+    fits-output (start (made d) .pre) (made d .made-monic .ensures) refl
 
 same-length-2 : tie.Need-same-length-2
 same-length-2 c = search needs
@@ -60,22 +59,12 @@ same-length-3 c = search needs
 
 returns-2 : tie.Need-returns-2
 returns-2 c =
-    let s = c .before .before .before .before .before .before .before .before .before .before .before .before .before .before .before .before .before in
-    let m = c .before .before .before .before .before .before .before .before .before .before .before .made-monic in
-    let d = c .before .before .before .before .before .before .before .divides-both in
-    settled-accepted (s .pre) (m .ensures) refl (d .ensures) (c .before .before .before .before .if1 .left) (c .before .before .write .ensures)
+    let write = c .before .before in
+    let test = write .before .before in
+    let d = test .before .before .before in
+    settled-accepted (start (made d) .pre) (made d .made-monic .ensures) refl (d .divides-both .ensures) (test .if1 .left) (write .write .ensures)
 
 pub divided-spec : {M : Type 1} → statement M
 divided-spec =
-    tie.close
-    (tie.spec
-    made-monic-requires
-    array-share-prefix-terms
-    slice-aggregate-list
-    divides-both-requires
-    same-length
-    returns
-    write-requires
-    same-length-2
-    same-length-3
-    returns-2)
+    tie.close (tie.spec made-monic-requires array-share-prefix-terms slice-aggregate-list divides-both-requires same-length returns write-requires
+    same-length-2 same-length-3 returns-2)

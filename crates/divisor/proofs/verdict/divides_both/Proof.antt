@@ -1,4 +1,4 @@
--- `divisor::verdict::divides_both` meets its contract, from what the two trial divisions say. Assumes nothing.
+-- `divisor::verdict::divides_both` meets its contract, from what the two trial divisions say.
 use Rattle.divisor.specs.verdict.Laws.{divide-again, first-fails, then-second}
 use borrow.Author.Needs.{needs}
 use Rattle.divisor.proofs.verdict.divides_both.Statement.{statement}
@@ -27,6 +27,4 @@ returns-2 c =
     (c .before .before .divides2 .ensures)
 
 pub divides-both-spec : {M : Type 1} → statement M
-divides-both-spec =
-    tie.close
-    (tie.spec divides-requires same-length returns divides-requires-2 same-length-2 returns-2)
+divides-both-spec = tie.close (tie.spec divides-requires same-length returns divides-requires-2 same-length-2 returns-2)

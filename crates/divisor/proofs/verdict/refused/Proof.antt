@@ -1,4 +1,4 @@
--- `divisor::verdict::refused` meets its contract: the work room is long enough, so all of it is cleared. Assumes nothing.
+-- `divisor::verdict::refused` meets its contract: the work room is long enough, so all of it is cleared.
 use mathlib.Core.Path.{refl}
 use borrow.Author.Needs.{needs}
 use Rattle.poly.specs.Room.{work-room}

@@ -1,9 +1,13 @@
--- `divisor::verdict::settle` meets its contract, by the kind of the solution. Assumes nothing.
-use Rattle.divisor.specs.verdict.Model.{none, several}
+-- `divisor::verdict::settle` meets its contract, by the kind of the solution.
+use Rattle.divisor.specs.verdict.Model.{unsolvable, several}
 use Rattle.divisor.specs.verdict.Laws.{settled-refused, only-ready, settled-only}
 use borrow.Author.Needs.{needs}
 use Rattle.divisor.proofs.verdict.settle.Statement.{statement}
 use Rattle.divisor.proofs.verdict.settle.Tie as tie
+
+-- in the arm of one solution: where the routine began
+abbrev start : tie.After-enum-told3 → tie.Start
+start c = c .before .before .before .before .before .before .before .before
 
 enum-told : tie.Need-enum-told
 enum-told c = search needs
@@ -22,15 +26,15 @@ enum-told-3 c = search needs
 
 divided-requires : tie.Need-divided-requires
 divided-requires c κs =
-    let s = c .before .before .before .before .before .before .before .before .before .before in
-    only-ready (s .args .solved) (c .before .before .enum-told3 .given .1) (s .pre)
+    let told = c .before .before in
+    only-ready (start told .args .solved) (told .enum-told3 .given .1) (start told .pre)
 
 same-length : tie.Need-same-length
 same-length c = search needs
 
 returns : tie.Need-returns
 returns c =
-    settled-refused (none (c .before .before .before .before .enum-told .given .1)) (c .before .before .refused .ensures)
+    settled-refused (unsolvable (c .before .before .before .before .enum-told .given .1)) (c .before .before .refused .ensures)
 
 same-length-2 : tie.Need-same-length-2
 same-length-2 c = search needs
@@ -47,24 +51,11 @@ same-length-4 c = search needs
 
 returns-3 : tie.Need-returns-3
 returns-3 c =
-    let a = c .before .before .before .before .before .before .before .before .before .before .before .before .before .before .before .args in
-    settled-only (a .solved) (c .before .before .before .before .before .before .before .enum-told3 .given .1)
-    (c .before .before .before .before .divided .ensures)
+    let divided = c .before .before .before .before in
+    let told = divided .before .before .before in
+    settled-only (start told .args .solved) (told .enum-told3 .given .1) (divided .divided .ensures)
 
 pub settle-spec : {M : Type 1} → statement M
 settle-spec =
-    tie.close
-    (tie.spec
-    enum-told
-    refused-requires
-    enum-told-2
-    refused-requires-2
-    enum-told-3
-    divided-requires
-    same-length
-    returns
-    same-length-2
-    returns-2
-    same-length-3
-    same-length-4
-    returns-3)
+    tie.close (tie.spec enum-told refused-requires enum-told-2 refused-requires-2 enum-told-3 divided-requires same-length returns same-length-2
+    returns-2 same-length-3 same-length-4 returns-3)

@@ -1,4 +1,4 @@
--- `divisor::verdict::write` meets its contract. The invariant: the first i terms are written, the rest is left. Assumes nothing.
+-- `divisor::verdict::write` meets its contract. The invariant: the first i terms are written, the rest is left.
 use mathlib.Core.Path.{_≡_, refl, _∙_, ap}
 use mathlib.Core.List.{List, _++_}
 use Prim.Native.Nat.{ℕ, _-_, _≤_, _<_}
@@ -56,17 +56,5 @@ returns c =
 
 pub write-spec : {M : Type 1} → statement M
 write-spec =
-    tie.close
-    (tie.spec
-    Inv-loop
-    μ-loop
-    loop-holds
-    mul-output
-    shared-slice-read-output
-    mul-output-2
-    slice-write-output
-    add-i
-    loop-less
-    loop-again
-    same-length
-    returns)
+    tie.close (tie.spec Inv-loop μ-loop loop-holds mul-output shared-slice-read-output mul-output-2 slice-write-output add-i loop-less loop-again
+    same-length returns)
