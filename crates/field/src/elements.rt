@@ -1,6 +1,6 @@
 // A number with its modulus: they travel together, and each operation hands back a new one.
 ghost use mathlib.Core.Path.{_≡_};
-ghost use Prim.Native.Nat.{_+_, _*_, _%_, _≤_, _<_};
+ghost use Prim.Native.Nat.{_<_};
 ghost use Rattle.field.specs.Contract.{element, Fit, Invertible, sum-of, difference-of, product-of, plus-product-of, Subtracts, minus-product-of, Inverse};
 use crate::Residue;
 use crate::Wide;
@@ -129,19 +129,4 @@ impl Element {
             value: t as Residue,
         }
     }
-}
-
-// Two leaves on plain numbers for the loops of the layers above: a b and r + a b modulo p, each with one division.
-pub fn times(p: Residue, a: Residue, b: Residue) -> Residue
-    requires { ⌜ 0 < p ⌝ }
-    ensures { λ r. ⌜ r ≡ (a * b) % p ⌝ }
-{
-    ((a as Wide) * (b as Wide) % (p as Wide)) as Residue
-}
-
-pub fn plus_times(p: Residue, r: Residue, a: Residue, b: Residue) -> Residue
-    requires { ⌜ 0 < p ⌝ }
-    ensures { λ s. ⌜ s ≡ (r + a * b) % p ⌝ }
-{
-    (((r as Wide) + (a as Wide) * (b as Wide)) % (p as Wide)) as Residue
 }

@@ -6,8 +6,6 @@ mod services;
 mod sizes;
 
 pub use elements::Element;
-pub use elements::plus_times;
-pub use elements::times;
 pub use faults::Fault;
 pub use modulus::is_modulus;
 pub use services::Answer;
