@@ -15,6 +15,13 @@ use Rattle.divisor.proofs.checks.candidate_fault.Tie as tie
 abbrev start : tie.After-lists-fault → tie.Start
 start c = c .before .before .before .before .before
 
+-- so where the lists passed, and where the skeleton passed too
+abbrev at-lists : tie.Else1 → tie.Start
+at-lists c = start (c .before .before)
+
+abbrev at-keys : tie.Else2 → tie.Start
+at-keys c = at-lists (c .before .before .before)
+
 -- the lines of the table in parts
 abbrev of-both : tie.Start → List Line
 of-both s = of-lists (s .args .p) (s .args .first .now) (s .args .second .now)
@@ -29,18 +36,18 @@ abbrev of-last : tie.Start → List Line
 of-last s = of-rooms (s .args .output) (length (s .args .skeleton .now)) (s .args .work)
 
 -- the lists passed: what the lines behind say, all say
-past-lists : {f : Fault} (c : tie.Else1) → let s = start (c .before .before) in
+past-lists : {f : Fault} (c : tie.Else1) → let s = at-lists c in
     Tested (of-keys s ++ (of-numbers s ++ of-last s)) f → Tested (of-both s ++ (of-keys s ++ (of-numbers s ++ of-last s))) f
 past-lists c =
-    let s = start (c .before .before) in
+    let s = at-lists c in
     let r = c .before .before .lists-fault in
     tested-goes-on (of-both s) (of-keys s ++ (of-numbers s ++ of-last s)) (r .result) (r .ensures) tt (c .if1 .left)
 
 -- and so where the skeleton passed
-past-keys : {f : Fault} (c : tie.Else2) → let s = start (c .before .before .before .before .before) in
+past-keys : {f : Fault} (c : tie.Else2) → let s = at-keys c in
     Tested (of-numbers s ++ of-last s) f → Tested (of-both s ++ (of-keys s ++ (of-numbers s ++ of-last s))) f
 past-keys c t =
-    let s = start (c .before .before .before .before .before) in
+    let s = at-keys c in
     let r = c .before .before .skeleton-fault in
     past-lists (c .before .before .before) (tested-goes-on (of-keys s) (of-numbers s ++ of-last s) (r .result) (r .ensures) tt (c .if2 .left) t)
 
@@ -58,27 +65,30 @@ skeleton-fault-requires c κs = search needs
 
 returns-2 : tie.Need-returns-2
 returns-2 c =
-    let s = start (c .before .before .before .before .before) in
+    let passed = c .before .before .before in
+    let s = at-lists passed in
     let r = c .before .before .skeleton-fault in
-    past-lists (c .before .before .before) (tested-stops (of-keys s) (of-numbers s ++ of-last s) (r .result) (r .ensures) (c .if2 .taken))
+    past-lists passed (tested-stops (of-keys s) (of-numbers s ++ of-last s) (r .result) (r .ensures) (c .if2 .taken))
 
 points-fault-requires : tie.Need-points-fault-requires
 points-fault-requires c κs = search needs
 
 returns-3 : tie.Need-returns-3
 returns-3 c =
-    let s = start (c .before .before .before .before .before .before .before .before) in
+    let passed = c .before .before .before in
+    let s = at-keys passed in
     let r = c .before .before .points-fault in
-    past-keys (c .before .before .before) (tested-stops (of-numbers s) (of-last s) (r .result) (r .ensures) (c .if3 .taken))
+    past-keys passed (tested-stops (of-numbers s) (of-last s) (r .result) (r .ensures) (c .if3 .taken))
 
 rooms-fault-requires : tie.Need-rooms-fault-requires
 rooms-fault-requires c κs = search needs
 
 returns-4 : tie.Need-returns-4
 returns-4 c =
-    let s = start (c .before .before .before .before .before .before .before .before .before) in
+    let passed = c .before .before .before .before in
+    let s = at-keys passed in
     let r = c .before .before .before .points-fault in
-    past-keys (c .before .before .before .before)
+    past-keys passed
     (tested-goes-on (of-numbers s) (of-last s) (r .result) (r .ensures) tt (c .before .if3 .left) (c .rooms-fault .ensures))
 
 pub candidate-fault-spec : {M : Type 1} → statement M

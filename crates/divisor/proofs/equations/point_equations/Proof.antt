@@ -64,13 +64,17 @@ shared-slice-read-powers-2 : tie.Need-shared-slice-read-powers-2 Inv-loop μ-loo
 shared-slice-read-powers-2 c = search needs
 
 powers-requires-2 : tie.Need-powers-requires-2 Inv-loop μ-loop
-powers-requires-2 c κs = listed-positive (c .before .before .before .before .before .before .pre .table .listed)
+powers-requires-2 c κs =
+    let start = c .before .before .before .before .before .before in
+    listed-positive (start .pre .table .listed)
 
 shared-slice-read-powers-3 : tie.Need-shared-slice-read-powers-3 Inv-loop μ-loop
 shared-slice-read-powers-3 c = search needs
 
 powers-requires-3 : tie.Need-powers-requires-3 Inv-loop μ-loop
-powers-requires-3 c κs = listed-positive (c .before .before .before .before .before .before .before .before .pre .table .listed)
+powers-requires-3 c κs =
+    let start = c .before .before .before .before .before .before .before .before in
+    listed-positive (start .pre .table .listed)
 
 loop-holds : tie.Need-loop-holds Inv-loop μ-loop
 loop-holds c = (omega arith, point-start _ _ _ _ _ _)
