@@ -12,3 +12,4 @@ pub mod modulus
 pub mod elements
 pub mod faults
 pub mod services
+pub mod loops

@@ -7,7 +7,7 @@ use native.Mathlib.Omega.{arith}
 use lib.ListN.{length, getD, set, replicate, length-set, length-replicate}
 use lib.Seq.{getD-set-same, getD-set-other}
 use Rattle.poly.specs.Keys.{exponents}
-use Rattle.poly.specs.loops.Places.{replicate-all}
+use Rattle.field.specs.loops.Places.{replicate-all}
 use Rattle.divisor.specs.declared.table.Row.{Row}
 use Rattle.divisor.specs.table.Model.{COLUMNS, cell}
 use Rattle.divisor.specs.equations.Model.{monomial-number, IsEquation}
