@@ -13,7 +13,8 @@ use Rattle.field.specs.Moduli.{Listed}
 use Rattle.field.specs.Refusal.{Passes}
 use Rattle.poly.specs.Terms.{Polynomial}
 use Rattle.poly.specs.PointValue.{Point}
-use Rattle.poly.specs.PointImage.{Divides, Bad}
+use Rattle.poly.specs.Divides.{Divides}
+use Rattle.poly.specs.PointImage.{Bad}
 use Rattle.divisor.specs.Rule.{DividesBoth, Kept, Sorted, Unknowns, OnlySolution}
 use Rattle.divisor.specs.Candidate.{Call, table, Numbers, A, B, monomials, lent-points, handed-out, Result}
 

@@ -12,7 +12,8 @@ use Rattle.field.specs.Numbers.{NO_GOOD_POINT, NO_SOLUTION, SEVERAL_SOLUTIONS, 
 use Rattle.field.specs.Refusal.{fault}
 use Rattle.poly.specs.Terms.{Polynomial}
 use Rattle.poly.specs.PointValue.{Point, value}
-use Rattle.poly.specs.PointImage.{Divides, Bad, Image}
+use Rattle.poly.specs.Divides.{Divides}
+use Rattle.poly.specs.PointImage.{Bad, Image}
 use Rattle.divisor.specs.declared.CandidateRecord.{CandidateRecord}
 
 -- what is counted: d, and the points that are bad, unlucky and kept

@@ -13,3 +13,4 @@ pub mod modulus
 pub mod elements
 pub mod faults
 pub mod services
+pub mod loops

@@ -6,7 +6,7 @@ ghost use lib.ListN.{length};
 ghost use Rattle.field.specs.Refusal.{Tested};
 ghost use Rattle.field.specs.Contract.{element};
 ghost use Rattle.field.specs.Arithmetic.{AskSum, AskDifference, AskProduct, AskInverse};
-ghost use Rattle.poly.specs.LeadingPart.{of-list, Leading};
+ghost use Rattle.poly.specs.LeadingPart.{of-list, LeadingTerms};
 ghost use Rattle.poly.specs.QuotientCall.{quotient-call, Quotient};
 ghost use Rattle.poly.specs.ImageCall.{image-call, ImageAnswer};
 ghost use Rattle.divisor.specs.Candidate.{candidate-call, Candidate};
@@ -90,7 +90,7 @@ pub extern "C" fn balungkiro_image(
 // How many terms the leading part has, which is the head of the caller's own list; 0 on refusal.
 #[no_mangle]
 pub extern "C" fn balungkiro_leading_part(terms: &[Term]) -> usize
-    ensures { λ r. ⌜ Laid length (Leading (now (terms .entry))) r ⌝ }
+    ensures { λ r. ⌜ Laid length (LeadingTerms (now (terms .entry))) r ⌝ }
 {
     let head = poly::list::leading_part(terms);
     head.len()

@@ -2,6 +2,7 @@
 pub mod Keys
 pub mod Terms
 pub mod PointValue
+pub mod Divides
 pub mod PointImage
 pub mod Lists
 pub mod Search
@@ -21,4 +22,3 @@ pub mod image
 pub mod division
 pub mod rooms
 pub mod quotient
-pub mod loops

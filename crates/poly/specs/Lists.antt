@@ -1,7 +1,7 @@
 -- What can be wrong with a list of terms, of keys or of point numbers, and the lines 1 to 5 of the table, with which every service begins.
 use mathlib.Core.Path.{_≡_}
 use mathlib.Core.Logic.{_⊎_}
-use mathlib.Core.List.{List, [], _∷_, map}
+use mathlib.Core.List.{List, [], _∷_, _++_, map}
 use lib.ListN.{length, getD}
 use Prim.Native.Nat.{ℕ, suc, _≤_, _<_}
 use Rattle.field.specs.Moduli.{Listed}
@@ -43,12 +43,12 @@ pub record WrongNumber (p : ℕ) (numbers : List ℕ) (i : ℕ) : Type 0 where
   pub there : i < length numbers
   pub large : p ≤ getD numbers i 0
 
+-- the lines of one list, by their two numbers and what is wrong with a term
+abbrev pub of-terms : ℕ → ℕ → (ℕ → Type 0) → List ℕ → List Line
+of-terms count term Wrong terms = line count (whole (Count most-terms terms)) ∷ line term (first Wrong) ∷ []
+
 -- the lines of the modulus and the two lists
 abbrev pub of-lists : ℕ → List ℕ → List ℕ → List Line
 of-lists p A B =
     line MODULUS (whole (¬ Listed p))
-    ∷ line FIRST_COUNT (whole (Count most-terms A))
-    ∷ line FIRST_TERM (first (WrongModulo p A))
-    ∷ line SECOND_COUNT (whole (Count most-terms B))
-    ∷ line SECOND_TERM (first (WrongModulo p B))
-    ∷ []
+    ∷ of-terms FIRST_COUNT FIRST_TERM (WrongModulo p A) A ++ of-terms SECOND_COUNT SECOND_TERM (WrongModulo p B) B

@@ -3,31 +3,21 @@ use mathlib.Core.Path.{_≡_}
 use Prim.Native.Nat.{ℕ}
 use Rattle.algebra.specs.Field.{Field}
 use Rattle.algebra.specs.Series.{Seq}
-use Rattle.algebra.specs.SeriesRing.{SeriesR, S4}
-use Rattle.algebra.specs.Polynomials.{SeriesD, D4, domain}
-use Rattle.algebra.specs.Divides.{Div}
+use Rattle.algebra.specs.SeriesRing.{SeriesR}
+use Rattle.algebra.specs.Polynomials.{SeriesD, domain}
 use Rattle.algebra.specs.GreatestCommon.{GreatestCommon}
 use Rattle.algebra.specs.Univariate.{Monic}
 use Rattle.poly.specs.Terms.{Polynomial}
 use Rattle.poly.specs.PointValue.{Point, value, x-degree}
 
-module _ (K : Field) where
-  -- g divides f as a polynomial: some polynomial q, of whatever exponents, has f = g q
-  abbrev pub Divides : S4 (K .ring) .Car → S4 (K .ring) .Car → Type 0
-  Divides = Div (S4 (K .ring)) (D4 (K .ring) (domain K))
+module _ (K : Field) (A B : Polynomial K) where
+  -- 1. A point is bad if the x-leading coefficient of A is 0 there.
+  abbrev pub Bad : Point (K .ring) → Type 0
+  Bad at = value (K .ring) A at (x-degree (K .ring) A) ≡ K .ring .𝟘
 
-  -- the same of polynomials in x alone
-  abbrev pub DividesX : Seq (K .ring) → Seq (K .ring) → Type 0
-  DividesX = Div (SeriesR (K .ring)) (SeriesD (K .ring) (domain K))
-
-  module _ (A B : Polynomial K) where
-    -- 1. A point is bad if the x-leading coefficient of A is 0 there.
-    abbrev pub Bad : Point (K .ring) → Type 0
-    Bad at = value (K .ring) A at (x-degree (K .ring) A) ≡ K .ring .𝟘
-
-    -- 2. At a good point the image is the monic greatest common divisor of A and B at that point, as polynomials in x.
-    -- (If B is 0 there, that is A's value made monic.)
-    pub record Image (at : Point (K .ring)) (degree : ℕ) (U : Seq (K .ring)) : Type 0 where
-      pub good : ¬ Bad at
-      pub monic : Monic (K .ring) degree U
-      pub greatest : GreatestCommon (SeriesR (K .ring)) (SeriesD (K .ring) (domain K)) (value (K .ring) A at) (value (K .ring) B at) U
+  -- 2. At a good point the image is the monic greatest common divisor of A and B at that point, as polynomials in x.
+  -- (If B is 0 there, that is A's value made monic.)
+  pub record Image (at : Point (K .ring)) (degree : ℕ) (U : Seq (K .ring)) : Type 0 where
+    pub good : ¬ Bad at
+    pub monic : Monic (K .ring) degree U
+    pub greatest : GreatestCommon (SeriesR (K .ring)) (SeriesD (K .ring) (domain K)) (value (K .ring) A at) (value (K .ring) B at) U

@@ -14,7 +14,7 @@ use Rattle.field.specs.declared.faults.Fault.{Fault}
 use Rattle.poly.specs.declared.QuotientRecord.{QuotientRecord}
 use Rattle.poly.specs.Keys.{keys}
 use Rattle.poly.specs.Terms.{poly}
-use Rattle.poly.specs.PointImage.{Divides}
+use Rattle.poly.specs.Divides.{Divides}
 use Rattle.poly.specs.Lists.{WrongModulo, of-lists}
 use Rattle.poly.specs.Room.{of-rooms, written, cleared}
 

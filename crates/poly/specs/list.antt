@@ -7,3 +7,4 @@ pub mod Check
 pub mod Leading
 pub mod Searching
 pub mod Search
+pub mod Counted

@@ -2,10 +2,10 @@
 ghost use Prim.Native.Nat.{_<_};
 ghost use lib.ListN.{length};
 ghost use Rattle.field.specs.Refusal.{Tested};
-ghost use Rattle.poly.specs.Lists.{WrongModulo, of-lists};
+ghost use Rattle.poly.specs.Lists.{WrongModulo, of-terms, of-lists};
 ghost use Rattle.poly.specs.LeadingPart.{of-list, LeadingPart};
 ghost use Rattle.poly.specs.Search.{Searched};
-ghost use Rattle.poly.specs.list.Model.{of-terms, Lower};
+ghost use Rattle.poly.specs.list.Model.{Lower};
 use crate::key::Key;
 use field::Fault;
 use field::MOST_TERMS;
@@ -35,7 +35,7 @@ fn first_wrong(bound: u32, terms: &[Term]) -> usize
 
 // The check of one list, whose two refusal numbers are given.
 fn list_fault(count: RefusalNumber, term: RefusalNumber, bound: u32, terms: &[Term]) -> Fault
-    ensures { λ r. ⌜ Tested (of-terms count term bound (now (terms .entry))) r ⌝ }
+    ensures { λ r. ⌜ Tested (of-terms count term (WrongModulo bound (now (terms .entry))) (now (terms .entry))) r ⌝ }
 {
     if terms.len() == 0 {
         return Fault::at(count, 0);

@@ -2,7 +2,7 @@
 ghost use mathlib.Core.Path.{_≡_};
 ghost use Prim.Native.Nat.{_<_};
 ghost use Rattle.poly.specs.Powers.{Powers};
-ghost use Rattle.poly.specs.value.Model.{Ready, value-of};
+ghost use Rattle.poly.specs.value.Model.{CanEvaluate, value-of};
 use crate::Eight;
 use crate::POWERS;
 use crate::key::Key;
@@ -26,7 +26,7 @@ pub fn powers(p: Residue, y: Residue) -> Eight
 
 // The value of a list where the powers of y, z and w are given: eight coefficients in x.
 pub(crate) fn value(p: Residue, ys: Eight, zs: Eight, ws: Eight, terms: &[Term]) -> Eight
-    requires { ⌜ Ready p ys zs ws (now terms) ⌝ }
+    requires { ⌜ CanEvaluate p ys zs ws (now terms) ⌝ }
     ensures { λ r. ⌜ r ≡ value-of p ys zs ws (now (terms .entry)) ⌝ }
 {
     let mut r: Eight = [Element::ZERO; POWERS];

@@ -19,7 +19,8 @@ use Rattle.field.specs.Numbers.{NO_GOOD_POINT, NO_SOLUTION, SEVERAL_SOLUTIONS, 
 use Rattle.field.specs.Refusal.{Passes}
 use Rattle.poly.specs.Keys.{exponents}
 use Rattle.poly.specs.Terms.{Polynomial, numbers-of, poly, coefficient-limit}
-use Rattle.poly.specs.PointImage.{Divides, Image}
+use Rattle.poly.specs.Divides.{Divides}
+use Rattle.poly.specs.PointImage.{Image}
 use Rattle.poly.specs.Room.{written, cleared}
 use Rattle.poly.specs.image.Laws.{image-within}
 use Rattle.divisor.specs.Rule.{Counts, none-good, report, Kept, Sorted, Unknowns, Solution, OnlySolution, without-zeros, made-monic, divisor, Verdict, unsolvable, several, rejected, accepted, all-bad, some-good}

@@ -20,7 +20,8 @@ use Rattle.algebra.specs.Laws.Divides.{div-top, div-to, top-le}
 use Rattle.algebra.specs.Laws.Evaluation.{value-null}
 use Rattle.poly.specs.Terms.{Polynomial}
 use Rattle.poly.specs.PointValue.{Point, value, x-degree}
-use Rattle.poly.specs.PointImage.{Divides, DividesX, Bad, Image}
+use Rattle.poly.specs.Divides.{Divides, DividesX}
+use Rattle.poly.specs.PointImage.{Bad, Image}
 use Rattle.poly.specs.image.Laws.{image-within}
 use Rattle.poly.specs.value.Laws.{polynomial-finite, valued, value-of-polynomial, WithinX, polynomial-ends}
 use Rattle.divisor.specs.declared.CandidateRecord.{CandidateRecord}

@@ -12,7 +12,7 @@ use Rattle.field.specs.faults.Laws.{refuses-numbered}
 use Rattle.poly.specs.Keys.{exponents, keys}
 use Rattle.poly.specs.Terms.{Polynomial}
 use Rattle.poly.specs.PointValue.{x-degree}
-use Rattle.poly.specs.PointImage.{Divides}
+use Rattle.poly.specs.Divides.{Divides}
 use Rattle.poly.specs.key.Laws.{exponents-order}
 use Rattle.poly.specs.list.Laws.{FallFrom, falling-within}
 use Rattle.poly.specs.value.Laws.{WithinX}

@@ -7,9 +7,9 @@ use native.Mathlib.Omega.{arith}
 use lib.ListN.{length, getD, set, length-set, length-replicate}
 use lib.Seq.{getD-set-same, getD-set-other}
 use Rattle.poly.specs.Keys.{exponents}
-use Rattle.poly.specs.loops.Places.{replicate-all}
-use Rattle.poly.specs.loops.CellsModel.{Filled}
-use Rattle.poly.specs.loops.Cells.{filled-start, filled-next}
+use Rattle.field.specs.loops.Places.{replicate-all}
+use Rattle.field.specs.loops.Filled.{Filled}
+use Rattle.field.specs.loops.Cells.{filled-start, filled-next}
 use Rattle.divisor.specs.declared.table.Row.{Row}
 use Rattle.divisor.specs.table.Model.{most-columns, cell, zeros}
 use Rattle.divisor.specs.equations.Model.{monomial-number, IsEquation}
@@ -22,19 +22,17 @@ module _ (p : ℕ) (ys zs ws ks : List ℕ) (i : ℕ) where
   abbrev pub number-at : ℕ → ℕ
   number-at k = monomial-number p ys zs ws i (getD ks k 0)
 
-  pub equation-start : Filled number-at zeros 0 zeros
-  equation-start = filled-start number-at zeros 0 (λ k l. absurd (omega arith))
+  pub equation-start : Filled number-at most-columns zeros 0 zeros
+  equation-start = filled-start (omega arith) (length-replicate {A = ℕ} most-columns 0) (λ k l. absurd (omega arith))
 
-  module _ (j : ℕ) (r : Row) (h : Filled number-at zeros j (r .cells)) where
+  module _ (j : ℕ) (r : Row) (h : Filled number-at most-columns zeros j (r .cells)) where
     left-zero : (k : ℕ) → j ≤ k → cell r k ≡ 0
     left-zero k l = h .left k l ∙ replicate-all (λ a. a ≡ 0) most-columns k 0 0 refl refl
 
-    size : length (r .cells) ≡ most-columns
-    size = h .same-length ∙ length-replicate {A = ℕ} most-columns 0
-
-    pub equation-passed : ¬ (exponents (getD ks j 0) .x ≡ i) → Filled number-at zeros (j + 1) (r .cells)
-    equation-passed n = record {
-      same-length = h .same-length;
+    pub equation-passed : j < most-columns → ¬ (exponents (getD ks j 0) .x ≡ i) → Filled number-at most-columns zeros (j + 1) (r .cells)
+    equation-passed b n = record {
+      within = omega arith;
+      long = h .long;
       done = λ k l. go k l (ℕ-discrete k j);
       left = λ k l. h .left k (omega arith);
     }
@@ -45,16 +43,15 @@ module _ (p : ℕ) (ys zs ws ks : List ℕ) (i : ℕ) where
 
     pub equation-taken : (v : ℕ) → exponents (getD ks j 0) .x ≡ i → j < most-columns
         → v ≡ (getD ys (exponents (getD ks j 0) .y) 0 * getD zs (exponents (getD ks j 0) .z) 0) % p * getD ws (exponents (getD ks j 0) .w) 0 % p
-        → Filled number-at zeros (j + 1) (with-cell r j v .cells)
+        → Filled number-at most-columns zeros (j + 1) (with-cell r j v .cells)
     equation-taken v e b q =
-        filled-next number-at zeros j (r .cells) v h (omega (arith, length-replicate {A = ℕ} most-columns 0))
-        (q ∙ sym (number-here p ys zs ws i (getD ks j 0) e))
+        filled-next h b (q ∙ sym (number-here p ys zs ws i (getD ks j 0) e))
 
     pub equation-end : (column u : ℕ) → length ks ≤ j → j ≤ length ks → length ks ≤ column → column < most-columns
         → IsEquation p ys zs ws ks i column u (with-cell r column u)
     equation-end column u l m b c = record {
-      size = length-set (r .cells) column u ∙ size;
+      size = length-set (r .cells) column u ∙ h .long;
       monomials = λ k a. getD-set-other (r .cells) column k u 0 (λ z. omega arith) ∙ h .done k (omega arith);
-      multiplier = getD-set-same (r .cells) column u 0 (omega (arith, size));
+      multiplier = getD-set-same (r .cells) column u 0 (omega (arith, h .long));
       others = λ k a n. getD-set-other (r .cells) column k u 0 n ∙ left-zero k (omega arith);
     }

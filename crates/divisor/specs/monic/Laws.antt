@@ -18,7 +18,7 @@ use Rattle.algebra.specs.Laws.Divides.{div-from}
 use Rattle.algebra.specs.Laws.Four.{exponents-path}
 use Rattle.algebra.specs.Laws.Monomial.{monomial-mul, monomial-zero, monomial-fin}
 use Rattle.poly.specs.Terms.{Polynomial}
-use Rattle.poly.specs.PointImage.{Divides}
+use Rattle.poly.specs.Divides.{Divides}
 use Rattle.divisor.specs.Rule.{without-zeros, divided-by, made-monic}
 use Rattle.divisor.specs.Demands.{MadeMonic, constant}
 use Rattle.divisor.specs.monic.Value.{NonZero, without-zeros-nonzero}

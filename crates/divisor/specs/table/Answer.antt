@@ -15,7 +15,7 @@ use Rattle.field.specs.modulus.Laws.{listed-positive}
 use Rattle.field.specs.Prime.{Prime}
 use Rattle.field.specs.Fp.{Fp, el}
 use Rattle.field.specs.Modulo.{Modulo}
-use Rattle.poly.specs.loops.Places.{replicate-all}
+use Rattle.field.specs.loops.Places.{replicate-all}
 use Rattle.divisor.specs.declared.table.Row.{Row}
 use Rattle.divisor.specs.declared.table.Table.{Table}
 use Rattle.divisor.specs.declared.table.Kind.{Kind}

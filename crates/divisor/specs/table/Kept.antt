@@ -7,7 +7,7 @@ use lib.Dec.{eqb}
 use lib.ListN.{length-set}
 use Rattle.field.specs.Moduli.{Listed}
 use Rattle.field.specs.modulus.Laws.{listed-positive}
-use Rattle.poly.specs.loops.Places.{replicate-all, set-all}
+use Rattle.field.specs.loops.Places.{replicate-all, set-all}
 use Rattle.divisor.specs.declared.table.Row.{Row}
 use Rattle.divisor.specs.declared.table.Table.{Table}
 use Rattle.divisor.specs.table.Model.{most-columns, no-row, row-at, cell, diagonal, zeros, empty-table, minus, scaled-row, kept, insert, with-row, Columns, RowReady, TableReady}

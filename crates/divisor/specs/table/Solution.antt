@@ -20,7 +20,7 @@ use Rattle.field.specs.Fp.{el, add, neg}
 use Rattle.field.specs.elements.Fp.{el-mod}
 use Rattle.field.specs.elements.Link.{plus-times-el, opposite-el}
 use Rattle.field.specs.Modulo.{Modulo}
-use Rattle.poly.specs.loops.Places.{replicate-all, set-all}
+use Rattle.field.specs.loops.Places.{replicate-all, set-all}
 use Rattle.divisor.specs.declared.table.Row.{Row}
 use Rattle.divisor.specs.declared.table.Table.{Table}
 use Rattle.divisor.specs.table.Model.{most-columns, row-at, cell, diagonal, total, value, back, values, zeros, TableReady}

@@ -7,7 +7,7 @@ use Rattle.field.specs.declared.elements.Element.{Element}
 use Rattle.field.specs.Refusal.{Tested}
 use Rattle.field.specs.Arithmetic.{AskSum, AskDifference, AskProduct, AskInverse}
 use Rattle.field.specs.services.Laws.{sum-determined, difference-determined, product-determined, inverse-determined}
-use Rattle.poly.specs.LeadingPart.{of-list, Leading}
+use Rattle.poly.specs.LeadingPart.{of-list, LeadingTerms}
 use Rattle.poly.specs.QuotientCall.{QuotientCall, Quotient}
 use Rattle.poly.specs.ImageCall.{ImageCall, ImageAnswer}
 use Rattle.poly.specs.list.Check.{list-check-determined}
@@ -37,8 +37,8 @@ quotient-left-determined c = laid-determined of-quotient (Quotient c) (quotient-
 pub image-left-determined : (c : ImageCall) → Determined of-image (ImageAnswer c)
 image-left-determined c = laid-determined of-image (ImageAnswer c) (image-determined c)
 
-pub leading-length-determined : (terms : List ℕ) → Determined length (Leading terms)
-leading-length-determined terms = laid-determined length (Leading terms) (leading-terms-determined terms)
+pub leading-length-determined : (terms : List ℕ) → Determined length (LeadingTerms terms)
+leading-length-determined terms = laid-determined length (LeadingTerms terms) (leading-terms-determined terms)
 
 pub check-numbers-determined : (terms : List ℕ) → Determined of-fault (Tested (of-list terms))
 check-numbers-determined terms = laid-determined of-fault (Tested (of-list terms)) (list-check-determined terms)

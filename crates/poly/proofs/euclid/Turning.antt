@@ -1,5 +1,5 @@
 -- What the loop of Euclid's algorithm keeps: the model's answer from where it began is its answer from here, with fuel that is at least the
--- size of g. Assumes nothing.
+-- size of g.
 use mathlib.Core.Path.{_≡_, refl, sym, ap, ap₂, _∙_, subst}
 use mathlib.Core.List.{List}
 use Prim.Native.Nat.{ℕ, _-_, _≤_, _<_}

@@ -1,4 +1,4 @@
--- Fields of a word: `|` of a shifted number and one below the shift adds, at any width; so four exponents make the key. Assumes nothing.
+-- Fields of a word: `|` of a shifted number and one below the shift adds, at any width; so four exponents make the key.
 use mathlib.Core.Path.{_≡_, refl}
 use Prim.Native.Nat.{ℕ, _+_, _*_, _%_, _^_, _<_}
 use native.Mathlib.Omega.{arith}

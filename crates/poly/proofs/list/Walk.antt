@@ -1,4 +1,4 @@
--- What the search of the first wrong term keeps: no term before i is wrong, and the key before is at hand. Assumes nothing.
+-- What the search of the first wrong term keeps: no term before i is wrong, and the key before is at hand.
 use mathlib.Core.Path.{_≡_, refl, sym, _∙_}
 use mathlib.Core.Bool.{Bool, true, false, _&&_, true≢false}
 use mathlib.Core.List.{List}

@@ -1,4 +1,4 @@
--- Cells as a polynomial: the cell at a key is the coefficient of that monomial. What a store, and the subtraction of a product, mean. Assumes nothing.
+-- Cells as a polynomial: the cell at a key is the coefficient of that monomial. What a store, and the subtraction of a product, mean.
 use mathlib.Core.Path.{_≡_, refl, sym, _∙_, ap, ap₂, subst}
 use mathlib.Core.List.{List, [], _∷_}
 use Prim.Native.Nat.{ℕ, zero, suc, _+_, _-_, _*_, _%_, _≤_, _<_}
@@ -14,6 +14,7 @@ use Rattle.algebra.specs.Lead.{Lead, Upto}
 use Rattle.algebra.specs.Laws.Ring.{zero-add}
 use Rattle.algebra.specs.Laws.Solver.{_⊕_, _⊗_, _⊖_, ⊝, _≗_, k0, ring1, ring2, ring3, ring4}
 use Rattle.algebra.specs.Laws.Monomial.{monomial-at, monomial-off, monomial-add, monomial-zero, monomial-neg, monomial-mul}
+use Rattle.field.specs.loops.Fold.{fold}
 use Rattle.field.specs.Fp.{Fp, el, add, neg, mul}
 use Rattle.field.specs.elements.Fp.{el-nonzero}
 use Rattle.field.specs.Prime.{Prime}
@@ -22,7 +23,7 @@ use Rattle.field.specs.Modulo.{Modulo}
 use Rattle.field.specs.elements.Link.{minus-times-el}
 use Rattle.poly.specs.Keys.{exponents}
 use Rattle.poly.specs.Terms.{key-of, coefficient-of, term-of, poly}
-use Rattle.poly.specs.loops.Places.{set-all}
+use Rattle.field.specs.loops.Places.{set-all}
 use Rattle.poly.specs.key.Laws.{exponents-injective, key-order-of}
 use Rattle.poly.specs.division.Model.{less-term, less-product}
 
@@ -42,7 +43,7 @@ MovesUp s n [] = Unit {0}
 MovesUp s n (t ∷ ts) = (key-of t + s < n) × (exponents (key-of t + s) ≡ exponents s ⊞ exponents (key-of t)) × MovesUp s n ts
 
 pub less-length : (p s q : ℕ) (ts l : List ℕ) → length (less-product p s q ts l) ≡ length l
-unfolding less-product
+unfolding fold
 less-length p s q [] l = refl
 less-length p s q (t ∷ ts) l = less-length p s q ts (less-term p s q t l) ∙ length-set l _ _
 
@@ -159,7 +160,7 @@ module _ (p : ℕ) (P : Prime p) where
   -- the remainder less the quotient's term times the divisor
   pub less-dense : (s q : ℕ) (ts l : List ℕ) → q ≤ p → MovesUp s (length l) ts
       → dense (less-product p s q ts l) ≡ S4 R .add (dense l) (S4 R .neg (S4 R .mul (monomial R (exponents s) (el p q)) (poly p P ts)))
-  unfolding less-product polynomial
+  unfolding fold polynomial
   less-dense s q [] l hq f = ring2 (S4 R) (λ d m. d ≗ d ⊖ m ⊗ k0) tt (dense l) (monomial R (exponents s) (el p q))
   less-dense s q (t ∷ ts) l hq f =
       less-dense s q ts (less-term p s q t l) hq (subst (λ (n : ℕ). MovesUp s n ts) (sym (length-set l _ _)) (f .2))
@@ -167,7 +168,7 @@ module _ (p : ℕ) (P : Prime p) where
       ∙ ring4 (S4 R) (λ d m a b. (d ⊖ m ⊗ a) ⊖ m ⊗ b ≗ d ⊖ m ⊗ (a ⊕ b)) tt (dense l) (monomial R (exponents s) (el p q)) (term R (term-of p P t)) (poly p P ts)
 
   pub less-reduced : (s q : ℕ) (ts l : List ℕ) → Reduced p l → Reduced p (less-product p s q ts l)
-  unfolding less-product
+  unfolding fold
   less-reduced s q [] l red = red
   less-reduced s q (t ∷ ts) l red =
       less-reduced s q ts (less-term p s q t l) (set-reduced p l (key-of t + s) _ (mod-lt _ (prime-positive P)) red)

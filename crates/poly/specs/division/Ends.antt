@@ -21,7 +21,7 @@ use Rattle.field.specs.Modulo.{Modulo}
 use Rattle.poly.specs.Keys.{exponents, keys}
 use Rattle.poly.specs.Terms.{key-of, coefficient-of, term-of, terms-of, poly, coefficient-limit}
 use Rattle.poly.specs.TrialDivision.{CanDivide}
-use Rattle.poly.specs.loops.Places.{replicate-all}
+use Rattle.field.specs.loops.Places.{replicate-all}
 use Rattle.poly.specs.key.Difference.{at-most-says, at-most-of, exponents-difference}
 use Rattle.poly.specs.Lists.{Falling}
 use Rattle.poly.specs.list.Falling.{falling-keys}
@@ -31,7 +31,7 @@ use Rattle.poly.specs.division.Dense.{Reduced, zeros-reduced, dense, den
 use Rattle.poly.specs.division.Spread.{spread-length, spread-reduced, spread-dense}
 use Rattle.poly.specs.division.Steps.{by-lists, found-few}
 use Rattle.poly.specs.division.ModelLaws.{model-division}
-use Rattle.poly.specs.loops.Cells.{past-end}
+use Rattle.field.specs.loops.Cells.{past-end}
 use Rattle.poly.specs.division.SpreadModel.{spread}
 use Rattle.poly.specs.division.Model.{most-of, most-key, at-most, setting, divided, found}
 

@@ -1,4 +1,4 @@
--- The test of a cell is the rule's, and a divisor moved up within the bound stays among the cells. Assumes nothing.
+-- The test of a cell is the rule's, and a divisor moved up within the bound stays among the cells.
 use mathlib.Core.Path.{_≡_, sym, _∙_, ap, subst}
 use mathlib.Core.Bool.{true}
 use mathlib.Core.List.{List, [], _∷_}

@@ -1,5 +1,4 @@
 -- A division under way in the work room: what is left of it, from the cell k down, ends as the whole does. It starts, passes cells, takes steps, and ends.
--- Assumes nothing.
 use mathlib.Core.Path.{_≡_, refl, sym, _∙_, ap, ap₂}
 use mathlib.Core.Bool.{true, false}
 use mathlib.Core.List.{List}

@@ -1,4 +1,4 @@
--- The greatest exponents of a list of terms, computed, are those of its polynomial. Assumes nothing.
+-- The greatest exponents of a list of terms, computed, are those of its polynomial.
 use mathlib.Core.Path.{_≡_, refl, sym, _∙_, ap, ap₂, subst}
 use mathlib.Core.List.{List, [], _∷_}
 use Prim.Native.Nat.{ℕ, suc, _+_, _≤_, _<_}

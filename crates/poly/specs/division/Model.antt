@@ -7,6 +7,7 @@ use lib.ListN.{length, getD, set}
 use Rattle.algebra.specs.Four.{Exponents}
 use Rattle.algebra.specs.GreatestExponent.{Variable, in-x, in-y, in-z, in-w, exponent}
 use Rattle.field.specs.Fp.{el, inv}
+use Rattle.field.specs.loops.Fold.{fold}
 use Rattle.poly.specs.Keys.{key, exponents, keys}
 use Rattle.poly.specs.Terms.{key-of, coefficient-of, keyed}
 use Rattle.poly.specs.division.SpreadModel.{spread}
@@ -47,9 +48,8 @@ abbrev pub less-term : ℕ → ℕ → ℕ → ℕ → List ℕ → List ℕ
 less-term p s q t l = set l (key-of t + s) ((getD l (key-of t + s) 0 + (p - q) * coefficient-of t) % p)
 
 -- the remainder less the quotient's term times the divisor
-unfoldable pub less-product : ℕ → ℕ → ℕ → List ℕ → List ℕ → List ℕ
-less-product p s q [] l = l
-less-product p s q (t ∷ ts) l = less-product p s q ts (less-term p s q t l)
+abbrev pub less-product : ℕ → ℕ → ℕ → List ℕ → List ℕ → List ℕ
+less-product p s q ts l = fold (less-term p s q) ts l
 
 -- the monomial at k can be divided by the one at lead: no exponent of the quotient is negative, none above the bound's
 unfoldable pub fits-in : ℕ → ℕ → ℕ → Bool

@@ -1,4 +1,4 @@
--- The division on cells goes by the rule: a cell that is not 0 is one step. Assumes nothing.
+-- The division on cells goes by the rule: a cell that is not 0 is one step.
 use mathlib.Core.Path.{_≡_, sym, _∙_, ap, ap₂, subst}
 use mathlib.Core.Logic.{_⊎_, inl, inr}
 use mathlib.Core.Bool.{Bool, true, false, true≢false}
@@ -25,7 +25,7 @@ use Rattle.field.specs.elements.Link.{product-el}
 use Rattle.poly.specs.Keys.{exponents, keys}
 use Rattle.poly.specs.Terms.{key-of, coefficient-of, term-of, terms-of, poly, coefficient-limit, keyed}
 use Rattle.poly.specs.Lists.{Falling}
-use Rattle.poly.specs.loops.Places.{Clear, clear-one-less}
+use Rattle.field.specs.loops.Places.{Clear, clear-one-less}
 use Rattle.poly.specs.key.Laws.{exponents-order}
 use Rattle.poly.specs.list.Falling.{falling-keys}
 use Rattle.poly.specs.key.Terms.{key-of-term, coefficient-of-term, poly-head}
@@ -33,7 +33,7 @@ use Rattle.poly.specs.division.Dense.{Reduced, MovesUp, dense, dense-at,
 use Rattle.poly.specs.division.GreatestExponents.{exponent-most, most-small, sizes}
 use Rattle.poly.specs.division.Steps.{by-cells}
 use Rattle.poly.specs.division.Fitting.{Fits, fits-says, fits-of, moves-up}
-use Rattle.poly.specs.loops.Cells.{past-end}
+use Rattle.field.specs.loops.Cells.{past-end}
 use Rattle.poly.specs.division.Model.{most-of, Setting, fits, factor, less, divide-from, found-from}
 
 module _ (p : ℕ) (P : Prime p) (word : p ≤ coefficient-limit) (t : ℕ) (ts : List ℕ) (u : ℕ) (us : List ℕ) (hf : Falling p keys (t ∷ ts))

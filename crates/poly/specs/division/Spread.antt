@@ -1,4 +1,4 @@
--- Spreading a falling list over cells that are 0, and gathering cells again, keep the polynomial. Assumes nothing.
+-- Spreading a falling list over cells that are 0, and gathering cells again, keep the polynomial.
 use mathlib.Core.Path.{_≡_, refl, sym, _∙_, ap, ap₂, subst}
 use mathlib.Core.List.{List, [], _∷_}
 use Prim.Native.Nat.{ℕ, zero, suc, _≤_, _<_}
@@ -12,6 +12,7 @@ use Rattle.algebra.specs.SeriesRing.{S4}
 use Rattle.algebra.specs.Monomial.{monomial, polynomial}
 use Rattle.algebra.specs.Laws.Solver.{_⊕_, _⊖_, ⊝, _≗_, k0, ring1, ring2}
 use Rattle.algebra.specs.Laws.Monomial.{monomial-neg}
+use Rattle.field.specs.loops.Fold.{fold}
 use Rattle.field.specs.Fp.{Fp, el}
 use Rattle.field.specs.Prime.{Prime}
 use Rattle.field.specs.modulus.Prime.{prime-positive}
@@ -20,18 +21,18 @@ use Rattle.poly.specs.Keys.{exponents}
 use Rattle.poly.specs.Terms.{key-of, coefficient-of, poly, coefficient-limit, keyed}
 use Rattle.poly.specs.Lists.{Falling}
 use Rattle.poly.specs.key.Terms.{key-of-term, coefficient-of-term}
-use Rattle.poly.specs.loops.Places.{set-all, Clear, clear-one-less}
+use Rattle.field.specs.loops.Places.{set-all, Clear, clear-one-less}
 use Rattle.poly.specs.division.Dense.{Reduced, dense, dense-set, dense-store, dense-zero, set-reduced}
 use Rattle.poly.specs.division.SpreadModel.{spread, gathered}
 
 pub spread-length : (ts l : List ℕ) → length (spread ts l) ≡ length l
-unfolding spread
+unfolding fold
 spread-length [] l = refl
 spread-length (t ∷ ts) l = spread-length ts (set l (key-of t) (coefficient-of t)) ∙ length-set l _ _
 
 -- a cell above every key stays as it is
 pub spread-above : (ts l : List ℕ) (i : ℕ) → ((j : ℕ) → j < length ts → key-of (getD ts j 0) < i) → getD (spread ts l) i 0 ≡ getD l i 0
-unfolding spread
+unfolding fold
 spread-above [] l i h = refl
 spread-above (t ∷ ts) l i h =
     let first : key-of t < i = h 0 (omega arith) in
@@ -59,7 +60,7 @@ gather-set (suc k) j v l h =
     (ℕ-discrete (getD (set l j v) k 0) 0)
 
 pub spread-reduced : (p : ℕ) (ts l : List ℕ) (b : ℕ) → Falling p b ts → Reduced p l → Reduced p (spread ts l)
-unfolding spread
+unfolding fold
 spread-reduced p [] l b h red = red
 spread-reduced p (t ∷ ts) l b h red =
     spread-reduced p ts (set l (key-of t) (coefficient-of t)) (key-of t) (h .3) (set-reduced p l (key-of t) (coefficient-of t) (h .2) red)
@@ -83,7 +84,7 @@ module _ (p : ℕ) (P : Prime p) where
 
   pub spread-dense : (ts l : List ℕ) (b : ℕ) → Falling p b ts → b ≤ length l → ((i : ℕ) → i < b → getD l i 0 ≡ 0)
       → dense p P (spread ts l) ≡ S4 R .add (dense p P l) (poly p P ts)
-  unfolding spread polynomial
+  unfolding fold polynomial
   spread-dense [] l b h m z = sym (S4 R .add-zero (dense p P l))
   spread-dense (t ∷ ts) l b h m z =
       let lt : key-of t < length l = let a = h .0 in omega arith in

@@ -4,12 +4,15 @@ use mathlib.Core.Bool.{true, false}
 use Prim.Native.Nat.{ℕ, zero, suc}
 use lib.Dec.{eqb}
 use lib.ListN.{getD, set}
+use Rattle.field.specs.loops.Fold.{fold}
 use Rattle.poly.specs.Terms.{key-of, coefficient-of, keyed}
 
 -- each term's coefficient stored at its key
-unfoldable pub spread : List ℕ → List ℕ → List ℕ
-spread [] l = l
-spread (t ∷ ts) l = spread ts (set l (key-of t) (coefficient-of t))
+abbrev pub store : ℕ → List ℕ → List ℕ
+store t l = set l (key-of t) (coefficient-of t)
+
+abbrev pub spread : List ℕ → List ℕ → List ℕ
+spread ts l = fold store ts l
 
 -- the terms of the cells below k that are not 0, the highest key first
 unfoldable pub gathered : ℕ → List ℕ → List ℕ

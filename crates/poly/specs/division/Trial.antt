@@ -13,7 +13,7 @@ use Rattle.field.specs.Moduli.{Listed}
 use Rattle.field.specs.modulus.Laws.{listed-prime}
 use Rattle.field.specs.Modulo.{Modulo}
 use Rattle.poly.specs.Terms.{terms-of, poly}
-use Rattle.poly.specs.PointImage.{Divides}
+use Rattle.poly.specs.Divides.{Divides}
 use Rattle.poly.specs.TrialDivision.{TrialDivision}
 use Rattle.poly.specs.key.Terms.{poly-finite}
 

@@ -1,4 +1,4 @@
--- How the models of a division go on by one term of a list or by one cell, as the loops do. Assumes nothing.
+-- How the models of a division go on by one term of a list or by one cell, as the loops do.
 use mathlib.Core.Path.{_≡_, refl, sym, _∙_, ap, ap₂}
 use mathlib.Core.List.{List, [], _∷_, _++_, append-nil, append-assoc}
 use Prim.Native.Nat.{ℕ, suc, _+_, _-_, _*_, _%_, _≤_, _<_, max}
@@ -11,8 +11,8 @@ use Rattle.poly.specs.Keys.{exponents}
 use Rattle.poly.specs.Terms.{key-of, coefficient-of, keyed}
 use Rattle.poly.specs.Room.{written}
 use Rattle.poly.specs.division.Spread.{gather-passed, gather-taken}
-use Rattle.poly.specs.division.SpreadModel.{spread, gathered}
-use Rattle.poly.specs.division.Model.{most, less-product}
+use Rattle.poly.specs.division.SpreadModel.{gathered}
+use Rattle.poly.specs.division.Model.{most, less-term}
 
 -- the greatest exponents: m so far
 module _ (v : Variable) (ts : List ℕ) (i m : ℕ) (e : max m (most v (drop i ts)) ≡ most v ts) where
@@ -35,26 +35,10 @@ module _ (v : Variable) (ts : List ℕ) (i m : ℕ) (e : max m (most v (drop i t
       alone : {a s : ℕ} → a ≡ 0 → max m a ≡ s → m ≡ s
       alone p q = omega arith
 
--- spreading: the key k, the coefficient v
-pub spread-turn : (ts l : List ℕ) (i : ℕ) {k v : ℕ} → i < length ts → k ≡ key-of (getD ts i 0) → v ≡ coefficient-of (getD ts i 0)
-    → spread (drop i ts) l ≡ spread (drop (i + 1) ts) (set l k v)
-unfolding spread
-spread-turn ts l i h ek ev = rw (ek, ev, drop-cons ts i 0 h, add-one)
-
-pub spread-end : (ts l : List ℕ) (i : ℕ) → length ts ≤ i → spread (drop i ts) l ≡ l
-unfolding spread
-spread-end ts l i h = rw (drop-of-length-le ts h)
-
 -- the subtraction of a product: the key k, the coefficient c, the cell's new value v
-module _ (p s q : ℕ) (ts l : List ℕ) (i : ℕ) where
-  pub less-turn : {k c v : ℕ} → i < length ts → k ≡ key-of (getD ts i 0) → c ≡ coefficient-of (getD ts i 0)
-      → v ≡ (getD l (k + s) 0 + (p - q) * c) % p → less-product p s q (drop i ts) l ≡ less-product p s q (drop (i + 1) ts) (set l (k + s) v)
-  unfolding less-product
-  less-turn h ek ec ev = rw (ev, ec, ek, drop-cons ts i 0 h, add-one)
-
-  pub less-end : length ts ≤ i → less-product p s q (drop i ts) l ≡ l
-  unfolding less-product
-  less-end h = rw (drop-of-length-le ts h)
+pub less-is : (p s q : ℕ) (l : List ℕ) (t : ℕ) {k c v : ℕ} → k ≡ key-of t → c ≡ coefficient-of t → v ≡ (getD l (k + s) 0 + (p - q) * c) % p
+    → set l (k + s) v ≡ less-term p s q t l
+less-is p s q l t ek ec ev = rw (ev, ec, ek)
 
 -- gathering from the cells below k: n terms stand in the output
 module _ (l out : List ℕ) (k n : ℕ) (G : List ℕ) (e : G ≡ take n out ++ gathered k l) where

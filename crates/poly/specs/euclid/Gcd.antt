@@ -1,4 +1,4 @@
--- The model of Euclid's algorithm gives the monic greatest common divisor of what the numbers mean. Assumes nothing.
+-- The model of Euclid's algorithm gives the monic greatest common divisor of what the numbers mean.
 use mathlib.Core.Path.{_≡_, sym, _∙_, subst, fun-ext}
 use mathlib.Core.List.{List}
 use Prim.Native.Nat.{ℕ, zero, suc, _-_, _≤_, _<_}

@@ -1,4 +1,4 @@
--- What eight numbers mean, `series`, and what the model's steps mean: a subtraction, the remainder, and division by the highest number. Assumes nothing.
+-- What eight numbers mean, `series`, and what the model's steps mean: a subtraction, the remainder, and division by the highest number.
 use mathlib.Core.Path.{_≡_, refl, sym, ap, _∙_, subst, fun-ext}
 use mathlib.Core.List.{List}
 use Prim.Native.Nat.{ℕ, zero, suc, _+_, _-_, _*_, _%_, _≤_, _<_}
@@ -26,9 +26,9 @@ use Rattle.field.specs.Residues.{Residues}
 use Rattle.field.specs.Modulo.{Modulo}
 use Rattle.field.specs.elements.Link.{minus-times-el}
 use Rattle.poly.specs.Coefficients.{Eight, series}
-use Rattle.poly.specs.loops.Cells.{cells-at, cells-all, past-end}
+use Rattle.field.specs.loops.Cells.{cells-at, cells-all, past-end}
 use Rattle.poly.specs.euclid.Model.{size, scaled, monic, less-at, subtract, remainder}
-use Rattle.poly.specs.loops.Places.{Clear}
+use Rattle.field.specs.loops.Places.{Clear}
 use Rattle.poly.specs.euclid.Numbers.{Leads, eight-clear, size-clear, size-lead, scaled-eight, less-low, less-high, subtract-eight}
 
 pub clear-ends : (p : ℕ) (h : 0 < p) (n : ℕ) (f : List ℕ) → Clear n f → Ends (Residues p h) n (series p f)

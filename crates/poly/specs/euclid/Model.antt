@@ -5,7 +5,7 @@ use Prim.Native.Nat.{ℕ, zero, suc, _+_, _-_, _*_, _%_}
 use lib.Dec.{eqb, ltb}
 use lib.ListN.{getD}
 use Rattle.field.specs.Fp.{el, inv}
-use Rattle.poly.specs.loops.CellsModel.{cells}
+use Rattle.field.specs.loops.Filled.{cells}
 
 -- the place after the highest number that is not 0, among the first n; 0 where all are 0
 unfoldable pub size-to : ℕ → List ℕ → ℕ

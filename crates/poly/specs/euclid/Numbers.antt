@@ -1,4 +1,4 @@
--- The model on eight numbers, as numbers: what stays below p, what is clear, and how sizes fall. Assumes nothing.
+-- The model on eight numbers, as numbers: what stays below p, what is clear, and how sizes fall.
 use mathlib.Core.Path.{_≡_, refl, sym, ap, ap₂, _∙_, subst}
 use mathlib.Core.List.{List}
 use Prim.Native.Nat.{ℕ, zero, suc, _+_, _-_, _*_, _%_, _≤_, _<_}
@@ -8,9 +8,9 @@ use native.Mathlib.Omega.{arith}
 use borrow.Author.Tests.{eq-eqb, ne-eqb, lt-ltb, le-ltb}
 use lib.ListN.{getD}
 use Rattle.poly.specs.Coefficients.{Eight}
-use Rattle.poly.specs.loops.CellsModel.{cells}
-use Rattle.poly.specs.loops.Cells.{cells-length, cells-all, past-end}
-use Rattle.poly.specs.loops.Places.{Clear, clear-one-less}
+use Rattle.field.specs.loops.Filled.{cells}
+use Rattle.field.specs.loops.Cells.{cells-length, cells-all, past-end}
+use Rattle.field.specs.loops.Places.{Clear, clear-one-less}
 use Rattle.poly.specs.euclid.Model.{size-to, scaled, less-at, subtract, remainder}
 
 -- the highest number is 1, and stands at n

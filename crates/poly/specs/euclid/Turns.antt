@@ -1,4 +1,4 @@
--- How the model goes on: one step of the remainder, one turn of Euclid's algorithm, and what a turn makes. Assumes nothing.
+-- How the model goes on: one step of the remainder, one turn of Euclid's algorithm, and what a turn makes.
 use mathlib.Core.Path.{_≡_, refl, sym, ap, _∙_, subst}
 use mathlib.Core.List.{List}
 use Prim.Native.Nat.{ℕ, zero, suc, _+_, _-_, _≤_, _<_}

@@ -98,6 +98,6 @@ image-determined c r q (answered pass listed s x) (answered pass′ listed′ s�
     (point-determined (c .modulus) (listed-prime listed) _ _ _ s s′ x
     (subst
     (λ (l : Listed (c .modulus)).
-    PointAnswer (c .modulus) (listed-prime l) (terms-of (c .modulus) (listed-prime l) (c .first-list)) (terms-of (c .modulus) (listed-prime l) (c .second-list))
-    (point-of (c .modulus) (listed-prime l) (c .point)) s′)
+    PointAnswer (c .modulus) (listed-prime l) (terms-of (c .modulus) (listed-prime l) (c .first-list))
+    (terms-of (c .modulus) (listed-prime l) (c .second-list)) (point-of (c .modulus) (listed-prime l) (c .point)) s′)
     (listed-unique _ listed′ listed) y))

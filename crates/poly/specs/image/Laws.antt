@@ -1,5 +1,5 @@
 -- The image of two polynomials at a point, over any field: it has the degree that it says, which is not above the first one's powers of x; there is
--- one at most; and where the second polynomial's value is 0 it is the first one's value made monic. Assumes nothing.
+-- one at most; and where the second polynomial's value is 0 it is the first one's value made monic.
 use mathlib.Core.Path.{_≡_, ap}
 use Prim.Native.Nat.{ℕ, suc, _≤_}
 use native.Mathlib.Omega.{arith}

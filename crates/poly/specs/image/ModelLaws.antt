@@ -19,7 +19,7 @@ use Rattle.poly.specs.LeadingPart.{x-of}
 use Rattle.poly.specs.Coefficients.{Eight, series}
 use Rattle.poly.specs.ImageCall.{point-of, PointAnswer, bad, good}
 use Rattle.poly.specs.value.PowersModel.{powers}
-use Rattle.poly.specs.value.Model.{Ready, value-of}
+use Rattle.poly.specs.value.Model.{CanEvaluate, value-of}
 use Rattle.poly.specs.euclid.Model.{size, gcd}
 use Rattle.poly.specs.image.Model.{value-at, no-image, sized, image-of-values, image-of}
 use Rattle.poly.specs.value.PowersLaws.{powers-eight}
@@ -48,7 +48,7 @@ size-positive p x a h n =
 -- with the tables that the code has worked
 module _ (p : ℕ) (point ys zs ws : List ℕ) (y : ys ≡ powers p (getD point 0 0)) (z : zs ≡ powers p (getD point 1 0))
     (w : ws ≡ powers p (getD point 2 0)) where
-  pub tables-ready : 1 < p → (ts : List ℕ) → RightList p ts → Ready p ys zs ws ts
+  pub tables-ready : 1 < p → (ts : List ℕ) → RightList p ts → CanEvaluate p ys zs ws ts
   tables-ready h ts r =
       record {
         y-powers = subst (Eight p) (sym y) (powers-eight p (getD point 0 0) h);

@@ -1,4 +1,4 @@
--- Where each exponent of a key is at most that of another, the keys' difference has the exponents' differences; the test of it. Assumes nothing.
+-- Where each exponent of a key is at most that of another, the keys' difference has the exponents' differences; the test of it.
 use mathlib.Core.Path.{_≡_, refl, sym, _∙_, ap, subst}
 use mathlib.Core.Bool.{Bool, true, false, _&&_}
 use mathlib.Mathlib.Data.Bool.Basic.{and-elim-left, and-elim-right, and-intro}

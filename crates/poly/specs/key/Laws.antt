@@ -1,4 +1,4 @@
--- The key of a monomial and its exponents are each other's; the order of keys is that of the exponents; keys add where no exponent passes 7. Assumes nothing.
+-- The key of a monomial and its exponents are each other's; the order of keys is that of the exponents; keys add where no exponent passes 7.
 use mathlib.Core.Path.{_≡_, sym, _∙_, ap, ap₂}
 use Prim.Native.Nat.{ℕ, _+_, _*_, _/_, _%_, _<_}
 use native.Mathlib.Omega.{arith}

@@ -1,5 +1,5 @@
 -- The parts of a term; the polynomial of a list of terms: which coefficients it has, its leading term, and that a list that passes the
--- check is known by it. Assumes nothing.
+-- check is known by it.
 use mathlib.Core.Path.{_≡_, refl, sym, _∙_, ap, ap₂, subst}
 use mathlib.Core.List.{List, [], _∷_}
 use Prim.Native.Nat.{ℕ, suc, _≤_, _<_}

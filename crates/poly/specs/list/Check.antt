@@ -1,5 +1,4 @@
--- The check of one list: what a term's test says, and what the search of the first wrong term settles; without a modulus the bound is one
--- that no coefficient reaches. Assumes nothing.
+-- The check of one list: what a term's test says; without a modulus the bound is one that no coefficient reaches.
 use mathlib.Core.Path.{_≡_, refl, ap}
 use mathlib.Core.Logic.{inl, inr}
 use mathlib.Core.List.{List, map}
@@ -7,16 +6,14 @@ use Prim.Native.Nat.{ℕ, zero, suc, _+_, _≤_, _<_}
 use native.Mathlib.Omega.{arith}
 use lib.ListN.{length, getD, length-map, List·getD-map}
 use Rattle.field.specs.Numbers.{FIRST_COUNT, FIRST_TERM}
-use Rattle.field.specs.Refusal.{fault, none, Tested, refused, passed}
-use Rattle.field.specs.faults.Laws.{OnePlaceEach, whole-one-place, first-one-place, placed-never, tested-line, tested-past, tested-end, tested-determined}
+use Rattle.field.specs.Refusal.{Tested, refused, passed}
+use Rattle.field.specs.faults.Laws.{OnePlaceEach, whole-one-place, first-one-place, tested-determined}
 use Rattle.field.specs.declared.faults.Fault.{Fault}
 use Rattle.poly.specs.Keys.{keys}
 use Rattle.poly.specs.Terms.{key-of, coefficient-of, coefficient-limit}
-use Rattle.poly.specs.Lists.{most-terms, Count, WrongKey, above, not-below, WrongTerm, wrong-key, coefficient-zero, WrongModulo, wrong-term, coefficient-large, of-lists}
+use Rattle.poly.specs.Lists.{WrongKey, above, not-below, WrongTerm, wrong-key, coefficient-zero, WrongModulo, wrong-term, coefficient-large, of-terms, of-lists}
 use Rattle.poly.specs.LeadingPart.{of-list}
-use Rattle.poly.specs.Search.{Searched}
-use Rattle.poly.specs.list.Model.{of-terms, key-before}
-use Rattle.poly.specs.list.Search.{searched-first, searched-none}
+use Rattle.poly.specs.list.Model.{key-before}
 
 key-at : (ts : List ℕ) (i : ℕ) → getD (map key-of ts) i 0 ≡ key-of (getD ts i 0)
 key-at ts i = List·getD-map key-of ts i 0
@@ -27,6 +24,9 @@ wrong-within p ts i (wrong-term (wrong-key (above l m))) = omega (arith, length-
 wrong-within p ts i (wrong-term (wrong-key (not-below j e l m))) = omega (arith, length-map ts key-of)
 wrong-within p ts i (wrong-term (coefficient-zero l e)) = l
 wrong-within p ts i (coefficient-large l m) = l
+
+pub wrong-beyond : (p : ℕ) (ts : List ℕ) (i : ℕ) → length ts ≤ i → ¬ WrongModulo p ts i
+wrong-beyond p ts i l w = omega (arith, wrong-within p ts i w)
 
 -- how the code carries the key before along
 pub key-before-first : (ts : List ℕ) → key-before ts 0 ≡ keys
@@ -62,32 +62,13 @@ module _ (ts : List ℕ) where
   small-coefficient i (wrong-term w) = w
   small-coefficient i (coefficient-large l m) = absurd (omega arith)
 
-  pub tested-without-modulus : {f : Fault} → Tested (of-terms FIRST_COUNT FIRST_TERM coefficient-limit ts) f → Tested (of-list ts) f
+  pub tested-without-modulus : {f : Fault} → Tested (of-terms FIRST_COUNT FIRST_TERM (WrongModulo coefficient-limit ts) ts) f → Tested (of-list ts) f
   tested-without-modulus (refused (inl h)) = refused (inl h)
   tested-without-modulus (refused (inr (n, inl h))) =
       refused (inr (n, inl (h .0, h .1, (small-coefficient (h .0) (h .2 .0), λ j l v. h .2 .1 j l (wrong-term v)))))
   tested-without-modulus (refused (inr (n, inr h))) = absurd (h .1)
   tested-without-modulus (passed h e) =
       passed (h .0, ((λ i w. h .1 .0 i (wrong-term (w .0), λ j l v. w .1 j l (small-coefficient j v))), tt)) e
-
--- the answers of the check of one list
-module _ (count term bound : ℕ) (ts : List ℕ) where
-  pub list-miscounted : Count most-terms ts → {f : Fault} → f ≡ fault count 0 → Tested (of-terms count term bound ts) f
-  list-miscounted n e = tested-line 0 (n, refl) e
-
-  module _ (n : ¬ (length ts ≡ 0)) (m : length ts ≤ most-terms) (place : ℕ) (s : Searched (WrongModulo bound ts) (length ts) place) where
-    counted : ¬ Count most-terms ts
-    counted (inl e) = n e
-    counted (inr l) = omega arith
-
-    beyond : (i : ℕ) → length ts ≤ i → ¬ WrongModulo bound ts i
-    beyond i l w = omega (arith, wrong-within bound ts i w)
-
-    pub list-wrong : place < length ts → {f : Fault} → f ≡ fault term place → Tested (of-terms count term bound ts) f
-    list-wrong l e = tested-past (placed-never counted) (tested-line place (searched-first (WrongModulo bound ts) (length ts) beyond place s l) e)
-
-    pub list-right : length ts ≤ place → {f : Fault} → f ≡ none → Tested (of-terms count term bound ts) f
-    list-right l e = tested-past (placed-never counted) (tested-past (searched-none (WrongModulo bound ts) (length ts) beyond place s l) (tested-end e))
 
 -- each line has one place
 pub lists-one-place : (p : ℕ) (A B : List ℕ) → OnePlaceEach (of-lists p A B)

@@ -1,4 +1,4 @@
--- A list that falls: where its keys and coefficients are, and that no term is wrong. Assumes nothing.
+-- A list that falls: where its keys and coefficients are, and that no term is wrong.
 use mathlib.Core.List.{List, [], _∷_}
 use Prim.Native.Nat.{ℕ, zero, suc, _≤_, _<_}
 use native.Mathlib.Omega.{arith}

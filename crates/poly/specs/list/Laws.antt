@@ -1,5 +1,5 @@
 -- What the tests of a list give: where no place is the first wrong one none is wrong, keys of which none is wrong fall,
--- and then no power of x is above the first term's. Assumes nothing.
+-- and then no power of x is above the first term's.
 use mathlib.Core.Path.{refl, ap}
 use mathlib.Core.List.{List, [], _∷_, map}
 use Prim.Native.Nat.{ℕ, zero, suc, _≤_, _<_}

@@ -1,4 +1,4 @@
--- The terms before the first with a lower power of x are the leading part, and a list has one leading part. Assumes nothing.
+-- The terms before the first with a lower power of x are the leading part, and a list has one leading part.
 use mathlib.Core.Path.{_≡_, refl, sym, ap, ap₂, _∙_, subst}
 use mathlib.Core.Logic.{inl}
 use mathlib.Core.List.{List, [], _∷_, map}
@@ -14,7 +14,7 @@ use Rattle.field.specs.declared.faults.Fault.{Fault}
 use Rattle.poly.specs.Keys.{keys}
 use Rattle.poly.specs.Terms.{key-of}
 use Rattle.poly.specs.Lists.{WrongTerm, wrong-key}
-use Rattle.poly.specs.LeadingPart.{of-list, x-of, IsLeading, Leading, refused, answered, LeadingPart}
+use Rattle.poly.specs.LeadingPart.{of-list, x-of, IsLeading, LeadingTerms, refused, answered, LeadingPart}
 use Rattle.poly.specs.Search.{Searched}
 use Rattle.poly.specs.list.Model.{Lower}
 use Rattle.poly.specs.list.Laws.{none-wrong, FallFrom, keys-fall}
@@ -63,7 +63,7 @@ module _ (ts : List ℕ) (pass : Passes (of-list ts)) where
 
 -- the service: refused, the empty head; else the leading part
 module _ (ts : List ℕ) (f : Fault) (t : Tested (of-list ts) f) where
-  pub leading-refused : ¬ (f .number ≡ 0) → Leading ts []
+  pub leading-refused : ¬ (f .number ≡ 0) → LeadingTerms ts []
   leading-refused n = refused f (tested-refuses (of-list ts) f t n)
 
   leading-passes : f .number ≡ 0 → Passes (of-list ts)
@@ -72,7 +72,7 @@ module _ (ts : List ℕ) (f : Fault) (t : Tested (of-list ts) f) where
   pub leading-some : f .number ≡ 0 → 0 < length ts
   leading-some z = let n : ¬ (length ts ≡ 0) = λ e. never-placed (leading-passes z .0) (inl e) in omega arith
 
-  pub leading-answered : f .number ≡ 0 → (n : ℕ) → Searched (Lower ts) (length ts) n → Leading ts (take n ts)
+  pub leading-answered : f .number ≡ 0 → (n : ℕ) → Searched (Lower ts) (length ts) n → LeadingTerms ts (take n ts)
   leading-answered z n s = answered (take n ts) (leading-passes z) (leading-found ts (leading-passes z) n s)
 
 -- a head is as long as the other: where it ended before, the other's next term would be lower and not
@@ -103,7 +103,7 @@ leading-part-unique ts head other h o =
     ∙ take-append-seam other (o .rest)
 
 -- the terms that come back are settled
-pub leading-terms-determined : (ts head other : List ℕ) → Leading ts head → Leading ts other → head ≡ other
+pub leading-terms-determined : (ts head other : List ℕ) → LeadingTerms ts head → LeadingTerms ts other → head ≡ other
 leading-terms-determined ts head other (refused f h) (refused g k) = refl
 leading-terms-determined ts head other (refused f h) (answered u k o) = absurd (not-passes-and-refuses (of-list ts) f k h)
 leading-terms-determined ts head other (answered u h o) (refused g k) = absurd (not-passes-and-refuses (of-list ts) g h k)

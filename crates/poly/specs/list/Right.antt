@@ -1,4 +1,4 @@
--- What is known of lists that pass the check: they have terms, not too many, and these fall. Assumes nothing.
+-- What is known of lists that pass the check: they have terms, not too many, and these fall.
 use mathlib.Core.Path.{_≡_}
 use mathlib.Core.Logic.{inl, inr}
 use mathlib.Core.List.{List}
@@ -11,8 +11,7 @@ use Rattle.field.specs.Numbers.{FIRST_COUNT, FIRST_TERM, SECOND_COUNT, SECOND_T
 use Rattle.field.specs.Refusal.{Passes}
 use Rattle.field.specs.faults.Laws.{never-placed}
 use Rattle.poly.specs.Keys.{keys}
-use Rattle.poly.specs.Lists.{most-terms, of-lists, Falling}
-use Rattle.poly.specs.list.Model.{of-terms}
+use Rattle.poly.specs.Lists.{most-terms, WrongModulo, of-terms, of-lists, Falling}
 use Rattle.poly.specs.list.Laws.{terms-fall}
 
 pub record RightList (p : ℕ) (ts : List ℕ) : Type 0 where
@@ -20,7 +19,7 @@ pub record RightList (p : ℕ) (ts : List ℕ) : Type 0 where
   pub most : length ts ≤ most-terms
   pub falls : Falling p keys ts
 
-list-is-right : (count term p : ℕ) (ts : List ℕ) → Passes (of-terms count term p ts) → RightList p ts
+list-is-right : (count term p : ℕ) (ts : List ℕ) → Passes (of-terms count term (WrongModulo p ts) ts) → RightList p ts
 list-is-right count term p ts h =
     let counted = never-placed (h .0) in
     record {

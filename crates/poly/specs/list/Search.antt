@@ -1,4 +1,4 @@
--- How a search goes on, and what it leaves as a line of a table: the first wrong place, or that there is none. Assumes nothing.
+-- How a search goes on, and what it leaves as a line of a table: the first wrong place, or that there is none.
 use mathlib.Core.Path.{_≡_}
 use Prim.Native.Nat.{ℕ, _+_, _≤_, _<_}
 use native.Mathlib.Decide.{decLt}

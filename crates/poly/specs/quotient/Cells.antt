@@ -1,4 +1,4 @@
--- The quotient's cells hold the terms that the division on cells finds. Assumes nothing.
+-- The quotient's cells hold the terms that the division on cells finds.
 use mathlib.Core.Path.{_≡_, sym, _∙_, ap, ap₂, subst}
 use mathlib.Core.List.{List, [], _∷_}
 use Prim.Native.Nat.{ℕ, _+_, _-_, _≤_, _<_}

@@ -1,4 +1,4 @@
--- The terms that a division finds fall, and are those gathered from the quotient's cells; where it says yes they are the quotient. Assumes nothing.
+-- The terms that a division finds fall, and are those gathered from the quotient's cells; where it says yes they are the quotient.
 use mathlib.Core.Path.{_≡_, sym, _∙_, ap, subst}
 use mathlib.Core.Bool.{true}
 use mathlib.Core.List.{List, [], _∷_}
@@ -27,7 +27,7 @@ use Rattle.poly.specs.division.Spread.{gather-falling, gather-dense}
 use Rattle.poly.specs.division.Steps.{by-cells, by-lists}
 use Rattle.poly.specs.quotient.Cells.{Stored, nothing-stored, quotient-stored, stored-means}
 use Rattle.poly.specs.division.Ends.{Empty, no-cells, no-cells-empty, Dividing, divided-division}
-use Rattle.poly.specs.loops.Cells.{past-end}
+use Rattle.field.specs.loops.Cells.{past-end}
 use Rattle.poly.specs.division.SpreadModel.{spread, gathered}
 use Rattle.poly.specs.division.Model.{Setting, setting, factor, found-from, divided, found}
 

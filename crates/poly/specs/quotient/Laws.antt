@@ -1,4 +1,4 @@
--- A list over another has one quotient at most, so the promise of the quotient service settles record, output and work room. Assumes nothing.
+-- A list over another has one quotient at most, so the promise of the quotient service settles record, output and work room.
 use mathlib.Core.Path.{_≡_, refl, sym, _∙_, ap, subst}
 use mathlib.Core.List.{List, [], _∷_}
 use Prim.Native.Nat.{ℕ, _≤_, _<_}
@@ -16,7 +16,7 @@ use Rattle.field.specs.Refusal.{Line, none, Passes}
 use Rattle.field.specs.faults.Laws.{OnePlaceEach, whole-one-place, one-place-append, never-placed, refuses-determined, not-passes-and-refuses, passes-front, passes-back}
 use Rattle.poly.specs.Keys.{exponents, keys}
 use Rattle.poly.specs.Terms.{key-of, poly}
-use Rattle.poly.specs.PointImage.{Divides}
+use Rattle.poly.specs.Divides.{Divides}
 use Rattle.poly.specs.Lists.{of-lists, Falling}
 use Rattle.poly.specs.Room.{of-rooms, written, cleared}
 use Rattle.poly.specs.QuotientCall.{QuotientCall, quotient-table, IsQuotient, QuotientResult, Quotient, refused, no-quotient, quotient}

@@ -1,4 +1,4 @@
--- The check of the rooms settles its fault; the first n numbers of a list set to 0, one after the other, and what stands where then. Assumes nothing.
+-- The check of the rooms settles its fault; the first n numbers of a list set to 0, one after the other, and what stands where then.
 use mathlib.Core.Path.{_≡_, sym, _∙_, ap}
 use mathlib.Core.List.{List, _++_}
 use Prim.Native.Nat.{ℕ, _+_, _-_, _≤_, _<_, min}

@@ -1,4 +1,4 @@
--- The value of a list of terms is the value of its polynomial, so the value of a product is the product of the values; where it ends. Assumes nothing.
+-- The value of a list of terms is the value of its polynomial, so the value of a product is the product of the values; where it ends.
 use mathlib.Core.Path.{_≡_, refl, _∙_, ap₂}
 use mathlib.Core.List.{[], _∷_}
 use Prim.Native.Nat.{ℕ, suc, _≤_}

@@ -1,4 +1,4 @@
--- The model of the value means the value: the numbers that the code sums up are the coefficients of the value at the point. Assumes nothing.
+-- The model of the value means the value: the numbers that the code sums up are the coefficients of the value at the point.
 use mathlib.Core.Path.{_≡_, refl, sym, ap, ap₂, _∙_, fun-ext}
 use mathlib.Core.List.{List, [], _∷_}
 use Prim.Native.Nat.{ℕ, zero, suc, _+_, _*_, _%_, _<_}
@@ -10,6 +10,7 @@ use Rattle.algebra.specs.Ring.{CommRing}
 use Rattle.algebra.specs.Mono.{mono}
 use Rattle.algebra.specs.Laws.Ring.{zero-add}
 use Rattle.algebra.specs.Laws.Mono.{mono-at, mono-off}
+use Rattle.field.specs.loops.Fold.{fold}
 use Rattle.field.specs.Prime.{Prime}
 use Rattle.field.specs.modulus.Prime.{prime-positive}
 use Rattle.field.specs.Fp.{Fp, el, add, mul}
@@ -22,7 +23,7 @@ use Rattle.poly.specs.Coefficients.{series}
 use Rattle.poly.specs.value.PowersModel.{powers}
 use Rattle.poly.specs.value.Model.{plus-term, value-from, value-of}
 use Rattle.poly.specs.key.Laws.{digits-of}
-use Rattle.poly.specs.loops.Places.{replicate-all}
+use Rattle.field.specs.loops.Places.{replicate-all}
 use Rattle.poly.specs.value.PowersLaws.{powers-el}
 
 module _ (p : ℕ) (P : Prime p) (y z w : ℕ) where
@@ -73,7 +74,7 @@ module _ (p : ℕ) (P : Prime p) (y z w : ℕ) where
 
   value-from-series : (ts r : List ℕ) → length r ≡ 8 → ((j : ℕ) → j < length ts → key-of (getD ts j 0) < keys) → (i : ℕ)
       → series p (value-from p ys zs ws ts r) i ≡ add (series p r i) (value R (terms-of p P ts) at-numbers i)
-  unfolding value-from value
+  unfolding fold value
   value-from-series [] r e h i = sym (R .add-zero (series p r i))
   value-from-series (t ∷ ts) r e h i =
       let x = exponents (key-of t) .x in

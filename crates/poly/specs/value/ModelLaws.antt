@@ -1,13 +1,12 @@
--- How the model of the value goes on from term to term, on eight numbers below p. Assumes nothing.
-use mathlib.Core.Path.{_≡_, refl, sym, ap, _∙_}
+-- How the model of the value goes on from term to term, on eight numbers below p.
+use mathlib.Core.Path.{refl, _∙_}
 use mathlib.Core.List.{List, [], _∷_}
-use Prim.Native.Nat.{ℕ, _+_, _≤_, _<_}
+use Prim.Native.Nat.{ℕ, _<_}
 use native.Mathlib.Nat.{mod-lt}
-use native.Mathlib.Numerals.{add-one}
-use lib.ListN.{length, getD, set, drop, replicate, length-set, drop-of-length-le}
-use lib.Seq.{drop-cons}
+use lib.ListN.{getD, set, replicate, length-set}
+use Rattle.field.specs.loops.Fold.{fold}
 use Rattle.poly.specs.Coefficients.{Eight}
-use Rattle.poly.specs.loops.Places.{set-all, replicate-all}
+use Rattle.field.specs.loops.Places.{set-all, replicate-all}
 use Rattle.poly.specs.Keys.{exponents}
 use Rattle.poly.specs.Terms.{key-of}
 use Rattle.poly.specs.value.Model.{plus-term, value-from, value-of}
@@ -23,25 +22,8 @@ module _ (p : ℕ) (ys zs ws : List ℕ) where
   unfolding plus-term
   plus-term-below h t r = mod-lt _ h
 
-  pub value-next : (ts : List ℕ) (i : ℕ) (r : List ℕ) → i < length ts
-      → value-from p ys zs ws (drop i ts) r
-      ≡ value-from p ys zs ws (drop (i + 1) ts)
-      (set r (exponents (key-of (getD ts i 0)) .x) (plus-term p ys zs ws (getD ts i 0) (getD r (exponents (key-of (getD ts i 0)) .x) 0)))
-  unfolding value-from
-  value-next ts i r l =
-      ap (λ (u : List ℕ). value-from p ys zs ws u r) (drop-cons ts i 0 l)
-      ∙ ap
-      (λ (n : ℕ).
-      value-from p ys zs ws (drop n ts)
-      (set r (exponents (key-of (getD ts i 0)) .x) (plus-term p ys zs ws (getD ts i 0) (getD r (exponents (key-of (getD ts i 0)) .x) 0))))
-      (sym (add-one i))
-
-  pub value-end : (ts : List ℕ) (i : ℕ) (r : List ℕ) → length ts ≤ i → value-from p ys zs ws (drop i ts) r ≡ r
-  unfolding value-from
-  value-end ts i r l = ap (λ (u : List ℕ). value-from p ys zs ws u r) (drop-of-length-le ts l)
-
   value-from-eight : 0 < p → (ts r : List ℕ) → Eight p r → Eight p (value-from p ys zs ws ts r)
-  unfolding value-from
+  unfolding fold
   value-from-eight pos [] r h = h
   value-from-eight pos (t ∷ ts) r h =
       let v = plus-term p ys zs ws t (getD r (exponents (key-of t) .x) 0) in

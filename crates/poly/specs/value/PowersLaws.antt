@@ -1,4 +1,4 @@
--- The table of powers holds the powers, below p, and nothing else does; how it goes on from one power to the next. Assumes nothing.
+-- The table of powers holds the powers, below p, and nothing else does; how it goes on from one power to the next.
 use mathlib.Core.Path.{_≡_, refl, sym, ap, _∙_}
 use mathlib.Core.List.{List}
 use Prim.Native.Nat.{ℕ, zero, suc, _-_, _*_, _^_, _%_, _≤_, _<_}
@@ -12,7 +12,7 @@ use Rattle.field.specs.elements.Remainder.{mod-mul-mod}
 use Rattle.field.specs.Residues.{Residues}
 use Rattle.poly.specs.Coefficients.{Eight}
 use Rattle.poly.specs.Powers.{Powers}
-use Rattle.poly.specs.loops.Cells.{cells-length, cells-at, cells-is}
+use Rattle.field.specs.loops.Cells.{cells-length, cells-at, cells-is}
 use Rattle.poly.specs.value.PowersModel.{power, powers}
 use Rattle.poly.specs.euclid.Numbers.{cells-eight}
 

@@ -1,7 +1,7 @@
 -- The table of the powers 0 to 7 of a number modulo p, as the code works it.
 use mathlib.Core.List.{List}
 use Prim.Native.Nat.{ℕ, zero, suc, _*_, _%_}
-use Rattle.poly.specs.loops.CellsModel.{cells}
+use Rattle.field.specs.loops.Filled.{cells}
 
 unfoldable pub power : ℕ → ℕ → ℕ → ℕ
 power p y zero = 1

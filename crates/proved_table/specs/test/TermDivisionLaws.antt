@@ -20,7 +20,7 @@ use Rattle.algebra.specs.Laws.Monomial.{monomial-at, monomial-off}
 use Rattle.algebra.specs.Laws.Monomial.{monomial-above, monomial-mul, monomial-add, monomial-zero, monomial-neg, monomial-fin, polynomial-fin}
 use Rattle.algebra.specs.Laws.Lead.{lead-unique, lead-of-product, lead-exists, lead-nonzero}
 use Rattle.poly.specs.Terms.{Polynomial}
-use Rattle.poly.specs.PointImage.{Divides}
+use Rattle.poly.specs.Divides.{Divides}
 use Rattle.proved_table.specs.test.TermDivision.{Outcome, divides, does-not, open-still, each-at-most, together, term-over, plus}
 use Rattle.proved_table.specs.test.TermDivision.{less-product, less, less-all, before-all, leads, divided, division}
 

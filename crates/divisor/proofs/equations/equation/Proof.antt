@@ -7,14 +7,14 @@ use native.Mathlib.Omega.{arith}
 use lib.ListN.{length, getD}
 use Rattle.field.specs.Contract.{product-of}
 use Rattle.field.specs.modulus.Laws.{listed-positive}
-use Rattle.poly.specs.loops.CellsModel.{Filled}
-use Rattle.divisor.specs.table.Model.{zeros}
+use Rattle.field.specs.loops.Filled.{Filled}
+use Rattle.divisor.specs.table.Model.{most-columns, zeros}
 use Rattle.divisor.specs.equations.Turns.{number-at, equation-start, equation-passed, equation-taken, equation-end}
 use Rattle.divisor.proofs.equations.equation.Statement.{statement}
 use Rattle.divisor.proofs.equations.equation.Tie as tie
 
 abbrev Inv-loop : tie.InvT-loop
-Inv-loop skeleton i column u ys zs ws p row₀ j₀ row j = (j ≤ length skeleton) × Filled (number-at p ys zs ws skeleton i) zeros j (row .cells)
+Inv-loop skeleton i column u ys zs ws p row₀ j₀ row j = (j ≤ length skeleton) × Filled (number-at p ys zs ws skeleton i) most-columns zeros j (row .cells)
 
 abbrev μ-loop : tie.MeasureT-loop
 μ-loop skeleton i column u ys zs ws p row₀ j₀ row j = length skeleton - j
@@ -126,7 +126,8 @@ loop-again c =
     (λ w. (
       omega arith,
       rw (w .1)
-          (equation-passed p (a .t1) (a .t2) (a .t3) (a .skeleton .now) (a .i) (l .j) (l .row) (l .inv .1) (λ e. w .0 .left (x ∙ e))),
+          (equation-passed p (a .t1) (a .t2) (a .t3) (a .skeleton .now) (a .i) (l .j) (l .row) (l .inv .1)
+          (omega (arith, s .pre .behind, s .pre .within)) (λ e. w .0 .left (x ∙ e))),
     ))
     (c .if1 .came)
 

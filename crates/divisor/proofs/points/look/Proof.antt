@@ -1,7 +1,7 @@
 -- `divisor::points::look` meets its contract. The invariant: the sizes and the images of the points passed stand.
 use borrow.Author.Needs.{needs}
 use mathlib.Core.Path.{_≡_, sym, _∙_, ap, subst}
-use Prim.Native.Nat.{ℕ, _-_, _/_, _≤_, _<_}
+use Prim.Native.Nat.{ℕ, _-_, _/_, _≤_}
 use native.Mathlib.Omega.{arith}
 use lib.ListN.{length}
 use Rattle.poly.specs.declared.PointImage.{PointImage}

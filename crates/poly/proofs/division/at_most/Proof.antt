@@ -1,4 +1,4 @@
--- `poly::division::at_most` meets its contract: four tests of exponents, as its model makes them. Assumes nothing.
+-- `poly::division::at_most` meets its contract: four tests of exponents, as its model makes them.
 use Rattle.poly.specs.division.Model.{at-most}
 use borrow.Author.Needs.{needs}
 use Rattle.poly.proofs.division.at_most.Statement.{statement}

@@ -1,6 +1,6 @@
 -- `poly::division::divide` meets its contract, from what its calls say: the test of the greatest exponents, the setting, the
 -- dividend spread, and the steps.
-use mathlib.Core.Path.{_≡_, refl, sym, _∙_, ap, ap₂}
+use mathlib.Core.Path.{_≡_, sym, _∙_, ap, ap₂}
 use mathlib.Core.Bool.{true}
 use Prim.Native.Nat.{ℕ, _+_, _-_}
 use native.Mathlib.Omega.{arith}

@@ -45,11 +45,11 @@ returns c =
     record {
       quotient = found (a .p) (a .dividend .now) (a .divisor .now) (remainder-cells (l .clear .last .1 .0));
       division =
-          cleared-division (a .p) (a .dividend .now) (a .divisor .now) (a .work .now) (z .pre) keys (omega arith) (omega arith) _ _ (d .divide .result) (begun l)
-          (d .divide .ensures);
+          cleared-division (a .p) (a .dividend .now) (a .divisor .now) (a .work .now) (z .pre) keys (omega arith) (omega arith) _ _ (d .divide .result)
+          (begun l) (d .divide .ensures);
       room =
-          cleared-room (a .p) (a .dividend .now) (a .divisor .now) (a .work .now) (z .pre) keys (omega arith) (omega arith) _ _ (d .divide .result) (begun l)
-          (d .divide .ensures) _
+          cleared-room (a .p) (a .dividend .now) (a .divisor .now) (a .work .now) (z .pre) keys (omega arith) (omega arith) _ _ (d .divide .result)
+          (begun l) (d .divide .ensures) _
           (zeroed-all work-room _ (omega (arith, z .pre .room)) (e .clear2 .ensures));
     }
 

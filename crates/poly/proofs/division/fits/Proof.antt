@@ -1,4 +1,4 @@
--- `poly::division::fits` meets its contract: the divisor's leading monomial is below the remainder's, and the difference is within the bound. Assumes nothing.
+-- `poly::division::fits` meets its contract: the divisor's leading monomial is below the remainder's, and the difference is within the bound.
 use mathlib.Core.Path.{sym, _∙_}
 use borrow.Author.Tests.{not-true, not-false}
 use Rattle.poly.specs.key.Difference.{at-most-key, fits-not, fits-rest}

@@ -1,17 +1,17 @@
 -- `poly::division::spread` meets its contract. The invariant: what is left of the list, spread over the cells as they are, gives
--- what the whole list gave. Assumes nothing.
-use mathlib.Core.Path.{_≡_, sym, _∙_}
-use Prim.Native.Nat.{_-_, _≤_, _<_}
+-- what the whole list gave.
+use mathlib.Core.Path.{ap₂}
+use Prim.Native.Nat.{_-_, _<_}
 use native.Mathlib.Omega.{arith}
-use lib.ListN.{length, drop, length-set}
-use Rattle.poly.specs.division.SpreadModel.{spread}
-use Rattle.poly.specs.division.Turns.{spread-turn, spread-end}
+use lib.ListN.{length, set, length-set}
+use Rattle.poly.specs.division.SpreadModel.{store}
+use Rattle.field.specs.loops.Fold.{FoldingCells, folding-cells-start, folding-cells-next, folding-end}
 use borrow.Author.Needs.{needs}
 use Rattle.poly.proofs.division.spread.Statement.{statement}
 use Rattle.poly.proofs.division.spread.Tie as tie
 
 abbrev Inv-loop : tie.InvT-loop
-Inv-loop terms cells₀ i₀ cells i = (i ≤ length terms) × (length cells ≡ length cells₀) × (spread terms cells₀ ≡ spread (drop i terms) cells)
+Inv-loop terms cells₀ i₀ cells i = FoldingCells store terms cells₀ i cells
 
 abbrev μ-loop : tie.MeasureT-loop
 μ-loop terms cells₀ i₀ cells i = length terms - i
@@ -21,10 +21,10 @@ below : (c : tie.After-coefficient-of Inv-loop μ-loop) → c .before .before .o
 below c =
     let turn = c .before .before .before .before in
     let a = turn .before in
-    omega (arith, a .before .before .before .pre (a .loop .i) (turn .loop-test .taken), c .before .before .of .ensures, a .loop .inv .1)
+    omega (arith, a .before .before .before .pre (a .loop .i) (turn .loop-test .taken), c .before .before .of .ensures, a .loop .inv .same-length)
 
 loop-holds : tie.Need-loop-holds Inv-loop μ-loop
-loop-holds c = search needs
+loop-holds c = folding-cells-start
 
 mul-t : tie.Need-mul-t Inv-loop μ-loop
 mul-t c = search needs
@@ -44,7 +44,7 @@ coefficient-of-requires c κs = search needs
 mul-cells : tie.Need-mul-cells Inv-loop μ-loop
 mul-cells c =
     let a = c .before .before .before .before .before in
-    omega (arith, below c, a .before .before .before .good .1 .0 .0, a .loop .inv .1)
+    omega (arith, below c, a .before .before .before .good .1 .0 .0, a .loop .inv .same-length)
 
 slice-write-cells : tie.Need-slice-write-cells Inv-loop μ-loop
 slice-write-cells c = below c
@@ -58,19 +58,14 @@ loop-less c = search needs
 loop-again : tie.Need-loop-again Inv-loop μ-loop
 loop-again c =
     let turn = c .before .before .before .before in
-    let a = turn .before in
-    let g = a .before .before .before .args in (
-      omega arith,
-      simp length-set (a .loop .inv .1),
-      a .loop .inv .2
-          ∙ spread-turn (g .terms .now) (a .loop .cells) (a .loop .i) (turn .loop-test .taken) (c .before .before .of .ensures) (c .coefficient-of .ensures),
-    )
+    let l = turn .before .loop in
+    folding-cells-next (l .inv) (turn .loop-test .taken) (simp length-set) (ap₂ (set (l .cells)) (c .before .before .of .ensures) (c .coefficient-of .ensures))
 
 same-length : tie.Need-same-length Inv-loop μ-loop
 same-length c = search needs
 
 returns : tie.Need-returns Inv-loop μ-loop
-returns c = sym (c .before .loop .inv .2 ∙ spread-end _ _ _ (c .loop-test .left))
+returns c = folding-end (c .before .loop .inv .folding) (c .loop-test .left)
 
 pub spread-spec : {M : Type 1} → statement M
 spread-spec =

@@ -1,7 +1,7 @@
 -- `poly::division::steps` meets its contract. The invariant of the steps: what is left of the division, from the cell k down, ends as the whole does;
 -- of the search: the cells passed are 0, and nothing is told apart yet. Both measures are k.
 use mathlib.Core.Path.{_≡_, refl, sym, ap, _∙_}
-use mathlib.Core.Bool.{true}
+use mathlib.Core.Bool.{Bool, true}
 use mathlib.Core.List.{List}
 use Prim.Native.Nat.{ℕ, _+_, _-_, _*_, _%_, _≤_}
 use native.Mathlib.Nat.{mod-lt}
@@ -22,61 +22,78 @@ abbrev setting : List ℕ → ℕ → Element → ℕ → Setting
 setting divisor lead inverse bound =
     record { modulus = inverse .modulus; terms = divisor; lead = lead; inverse = inverse .value; bound = bound }
 
+-- the search for the next leading term, from the cell k₀ down to k
+record Passing (d : Setting) (work : List ℕ) (k₀ k : ℕ) (whole₀ whole : Bool) : Type 0 where
+  within : k ≤ k₀
+  same : left-of d work k₀ ≡ left-of d work k
+  answer : whole ≡ whole₀
+
+-- the steps
+record Stepping (d : Setting) (before work : List ℕ) (k : ℕ) (whole : Bool) : Type 0 where
+  answer : whole ≡ true
+  going : Going d before work k
+
 abbrev Inv-loop : tie.InvT-loop
 Inv-loop divisor lead inverse bound top work low k₀ whole₀ k whole =
-    let d = setting divisor lead inverse (bound .bits) in
-    (k ≤ k₀) × (left-of d work k₀ ≡ left-of d work k) × (whole ≡ whole₀)
+    Passing (setting divisor lead inverse (bound .bits)) work k₀ k whole₀ whole
 
 abbrev μ-loop : tie.MeasureT-loop
 μ-loop divisor lead inverse bound top work low k₀ whole₀ k whole = k
 
 abbrev Inv-steps : tie.InvT-steps
 Inv-steps divisor lead inverse bound top work₀ low k₀ whole₀ work k whole =
-    (whole ≡ true) × Going (setting divisor lead inverse (bound .bits)) work₀ work k
+    Stepping (setting divisor lead inverse (bound .bits)) work₀ work k whole
 
 abbrev μ-steps : tie.MeasureT-steps
 μ-steps divisor lead inverse bound top work₀ low k₀ whole₀ work k whole = k
+
+-- where the function begins
+abbrev start : tie.At-loop Inv-loop μ-loop Inv-steps μ-steps → tie.Start Inv-loop μ-loop Inv-steps μ-steps
+start l = l .before .before .before .before
 
 -- the division of this call, the room before it, and how far it is at the search's test
 module _ (l : tie.At-loop Inv-loop μ-loop Inv-steps μ-steps) where
   abbrev d : Setting
   d =
-      let a = l .before .before .before .before .args in
+      let a = start l .args in
       setting (a .divisor .now) (a .lead) (a .inverse) (a .bound .bits)
 
   abbrev before : List ℕ
-  before = l .before .before .before .before .args .work .now
+  before = start l .args .work .now
 
   abbrev work : List ℕ
   work = l .before .steps .work
 
   going : Going d before work (l .loop .k)
-  going = going-on d before work (l .before .steps .k) (l .loop .k) (l .before .steps .inv .1) (l .loop .inv .0) (l .loop .inv .1)
+  going = going-on d before work (l .before .steps .k) (l .loop .k) (l .before .steps .inv .going) (l .loop .inv .within) (l .loop .inv .same)
 
 -- a leading term that can be divided
 module _ (c : tie.Else2 Inv-loop μ-loop Inv-steps μ-steps) where
   abbrev at : tie.At-loop Inv-loop μ-loop Inv-steps μ-steps
   at = c .before .before .before .before .before
 
+  below-top : ¬ (at .loop .k ≡ 0)
+  below-top = c .before .before .before .before .loop-test .left
+
+  nonzero : ¬ (getD (work at) (at .loop .k - 1) 0 ≡ 0)
+  nonzero = c .before .before .if1 .taken
+
   yes : fits (d at) (at .loop .k - 1) ≡ true
   yes = sym (c .before .fits2 .ensures) ∙ not-false _ (c .if2 .left)
 
   below : d at .lead ≤ at .loop .k - 1
   below =
-      lead-below (d at) (before at) (work at) (at .loop .k) (going at) (c .before .before .before .before .loop-test .left) (c .before .before .if1 .taken)
-      (at .before .before .before .before .pre) yes
+      lead-below (d at) (before at) (work at) (at .loop .k) (going at) below-top nonzero (start at .pre) yes
 
   within : KeysBelow (at .loop .k - 1 - d at .lead) keys (d at .terms)
   within =
-      product-below (d at) (before at) (work at) (at .loop .k) (going at) (c .before .before .before .before .loop-test .left) (c .before .before .if1 .taken)
-      (at .before .before .before .before .pre) yes
+      product-below (d at) (before at) (work at) (at .loop .k) (going at) below-top nonzero (start at .pre) yes
 
   taken : (q : ℕ) (after : List ℕ) → q ≡ (getD (work at) (at .loop .k - 1) 0 * d at .inverse) % d at .modulus
       → after ≡ less-product (d at .modulus) (at .loop .k - 1 - d at .lead) q (d at .terms) (set (work at) (keys + (at .loop .k - 1 - d at .lead)) q)
       → Going (d at) (before at) after (at .loop .k - 1)
   taken =
-      going-taken (d at) (before at) (work at) (at .loop .k) (going at) (c .before .before .before .before .loop-test .left) (c .before .before .if1 .taken)
-      (at .before .before .before .before .pre) yes
+      going-taken (d at) (before at) (work at) (at .loop .k) (going at) below-top nonzero (start at .pre) yes
 
 -- the quotient's coefficient there
 module _ (c : tie.After-product Inv-loop μ-loop Inv-steps μ-steps) where
@@ -90,7 +107,7 @@ steps-holds : tie.Need-steps-holds Inv-loop μ-loop Inv-steps μ-steps
 steps-holds c =
     let s = c .before .before in
     let a = s .args in
-    (refl, going-start (setting (a .divisor .now) (a .lead) (a .inverse) (a .bound .bits)) (a .work .now) (a .top) (s .pre))
+    record { answer = refl; going = going-start (setting (a .divisor .now) (a .lead) (a .inverse) (a .bound .bits)) (a .work .now) (a .top) (s .pre) }
 
 loop-holds : tie.Need-loop-holds Inv-loop μ-loop Inv-steps μ-steps
 loop-holds c = search needs
@@ -111,7 +128,7 @@ loop-again : tie.Need-loop-again Inv-loop μ-loop Inv-steps μ-steps
 loop-again c =
     let l = c .before .before .before in
     let passed = going-passed (d l) (work l) (l .loop .k) (going l .cells) (c .before .before .loop-test .left) (c .if1 .left) in
-    (omega arith, l .loop .inv .1 ∙ passed, l .loop .inv .2)
+    record { within = omega arith; same = l .loop .inv .same ∙ passed; answer = l .loop .inv .answer }
 
 cast-fits : tie.Need-cast-fits Inv-loop μ-loop Inv-steps μ-steps
 cast-fits c = search needs
@@ -129,7 +146,7 @@ of-requires : tie.Need-of-requires Inv-loop μ-loop Inv-steps μ-steps
 of-requires c κs = search needs
 
 product-requires : tie.Need-product-requires Inv-loop μ-loop Inv-steps μ-steps
-product-requires c κs = has-modulus (c .of .ensures) (at (c .before .before) .before .before .before .before .pre .positive)
+product-requires c κs = has-modulus (c .of .ensures) (start (at (c .before .before)) .pre .positive)
 
 sub-work : tie.Need-sub-work Inv-loop μ-loop Inv-steps μ-steps
 sub-work c = below (fit c)
@@ -150,7 +167,7 @@ subtract-requires : tie.Need-subtract-requires Inv-loop μ-loop Inv-steps μ-ste
 subtract-requires c κs =
     let q = c .before in
     let l = at (fit q) in
-    let z = l .before .before .before .before in
+    let z = start l in
     let long = length-set (work l) (keys + (l .loop .k - 1 - d l .lead)) (q .product .result .value) in
     let m = ap (λ (v : Element). v .modulus) (factor-is q) in
     let e = ap (λ (v : Element). v .value) (factor-is q) in
@@ -170,11 +187,13 @@ steps-again c =
     let e = fit q in
     let l = at e in
     let v = q .product .result .value in
-    let s = l .loop .k - 1 - d l .lead in (
-      l .loop .inv .2 ∙ l .before .steps .inv .0,
-      taken e v _ (ap (λ (x : Element). x .value) (factor-is q))
-          (u .subtract .ensures ∙ ap (λ (x : Element). less-product (x .modulus) s v (d l .terms) (set (work l) (keys + s) v)) (factor-is q)),
-    )
+    let s = l .loop .k - 1 - d l .lead in
+    record {
+      answer = l .loop .inv .answer ∙ l .before .steps .inv .answer;
+      going =
+          taken e v _ (ap (λ (x : Element). x .value) (factor-is q))
+          (u .subtract .ensures ∙ ap (λ (x : Element). less-product (x .modulus) s v (d l .terms) (set (work l) (keys + s) v)) (factor-is q));
+    }
 
 same-length : tie.Need-same-length Inv-loop μ-loop Inv-steps μ-steps
 same-length c = search needs
@@ -182,7 +201,7 @@ same-length c = search needs
 returns : tie.Need-returns Inv-loop μ-loop Inv-steps μ-steps
 returns c =
     let l = c .before in
-    rw (l .loop .inv .2 ∙ l .before .steps .inv .0) (going-done (d l) (before l) (work l) (l .loop .k) (going l) (c .loop-test .taken))
+    rw (l .loop .inv .answer ∙ l .before .steps .inv .answer) (going-done (d l) (before l) (work l) (l .loop .k) (going l) (c .loop-test .taken))
 
 same-length-2 : tie.Need-same-length-2 Inv-loop μ-loop Inv-steps μ-steps
 same-length-2 c = search needs

@@ -1,21 +1,20 @@
 -- `poly::division::subtract` meets its contract. The invariant: taking away what is left of the product from the cells as they
 -- are gives what the whole gave.
-use mathlib.Core.Path.{_≡_, refl, sym, ap, _∙_}
-use Prim.Native.Nat.{_+_, _-_, _≤_, _<_}
+use mathlib.Core.Path.{refl, ap}
+use Prim.Native.Nat.{_+_, _-_, _<_}
 use native.Mathlib.Omega.{arith}
-use lib.ListN.{length, drop, length-set}
+use lib.ListN.{length, getD, length-set}
 use Rattle.field.specs.declared.elements.Element.{Element}
 use Rattle.field.specs.elements.Plain.{minus-product-is, can-subtract}
-use Rattle.poly.specs.division.Model.{less-product}
-use Rattle.poly.specs.division.Turns.{less-turn, less-end}
+use Rattle.poly.specs.division.Model.{less-term}
+use Rattle.poly.specs.division.Turns.{less-is}
+use Rattle.field.specs.loops.Fold.{FoldingCells, folding-cells-start, folding-cells-next, folding-end}
 use borrow.Author.Needs.{needs}
 use Rattle.poly.proofs.division.subtract.Statement.{statement}
 use Rattle.poly.proofs.division.subtract.Tie as tie
 
 abbrev Inv-loop : tie.InvT-loop
-Inv-loop q shift divisor cells₀ i₀ cells i =
-    (i ≤ length divisor) × (length cells ≡ length cells₀)
-    × (less-product (q .modulus) shift (q .value) divisor cells₀ ≡ less-product (q .modulus) shift (q .value) (drop i divisor) cells)
+Inv-loop q shift divisor cells₀ i₀ cells i = FoldingCells (less-term (q .modulus) shift (q .value)) divisor cells₀ i cells
 
 abbrev μ-loop : tie.MeasureT-loop
 μ-loop q shift divisor cells₀ i₀ cells i = length divisor - i
@@ -31,10 +30,10 @@ start l = l .before .before .before
 at-below : (c : tie.After-struct-known Inv-loop μ-loop) → c .before .of .result .bits + start (turn c) .args .shift < length (turn c .loop .cells)
 at-below c =
     let l = turn c in
-    omega (arith, start l .pre .within (l .loop .i) (c .before .before .before .loop-test .taken), c .before .of .ensures, l .loop .inv .1)
+    omega (arith, start l .pre .within (l .loop .i) (c .before .before .before .loop-test .taken), c .before .of .ensures, l .loop .inv .same-length)
 
 loop-holds : tie.Need-loop-holds Inv-loop μ-loop
-loop-holds c = search needs
+loop-holds c = folding-cells-start
 
 mul-t : tie.Need-mul-t Inv-loop μ-loop
 mul-t c = search needs
@@ -88,20 +87,17 @@ loop-again c =
     let e = c .before .before .before in
     let s = e .before .before in
     let l = turn s in
-    let g = start l .args in (
-      omega arith,
-      simp length-set (l .loop .inv .1),
-      l .loop .inv .2
-          ∙ less-turn (g .q .modulus) (g .shift) (g .q .value) (g .divisor .now) (l .loop .cells) (l .loop .i) (s .before .before .before .loop-test .taken)
-          (s .before .of .ensures) (e .before .coefficient-of .ensures)
-          (ap (λ (v : Element). v .value) (minus-product-is refl (e .of2 .ensures) (c .before .of3 .ensures) (c .minus-product .ensures))),
-    )
+    let g = start l .args in
+    folding-cells-next (l .loop .inv) (s .before .before .before .loop-test .taken) (simp length-set)
+    (less-is (g .q .modulus) (g .shift) (g .q .value) (l .loop .cells) (getD (g .divisor .now) (l .loop .i) 0) (s .before .of .ensures)
+    (e .before .coefficient-of .ensures)
+    (ap (λ (v : Element). v .value) (minus-product-is refl (e .of2 .ensures) (c .before .of3 .ensures) (c .minus-product .ensures))))
 
 same-length : tie.Need-same-length Inv-loop μ-loop
 same-length c = search needs
 
 returns : tie.Need-returns Inv-loop μ-loop
-returns c = sym (c .before .loop .inv .2 ∙ less-end _ _ _ _ _ _ (c .loop-test .left))
+returns c = folding-end (c .before .loop .inv .folding) (c .loop-test .left)
 
 pub subtract-spec : {M : Type 1} → statement M
 subtract-spec =

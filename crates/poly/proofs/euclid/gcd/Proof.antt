@@ -1,4 +1,4 @@
--- `poly::euclid::gcd` meets its contract: the loop keeps `Turning`, the model's answer; the measure is the size of g. Assumes nothing.
+-- `poly::euclid::gcd` meets its contract: the loop keeps `Turning`, the model's answer; the measure is the size of g.
 use mathlib.Core.Path.{_≡_, sym, ap, ap₂, _∙_, subst}
 use mathlib.Core.List.{List}
 use Prim.Native.Nat.{ℕ, _-_}

@@ -1,5 +1,5 @@
 -- `poly::euclid::monic` meets its contract: the inverse is the model's.
-use mathlib.Core.Path.{_≡_, ap, ap₂, _∙_, subst}
+use mathlib.Core.Path.{ap₂, _∙_, subst}
 use Prim.Native.Nat.{ℕ}
 use native.Mathlib.Omega.{arith}
 use Rattle.field.specs.declared.elements.Element.{Element}

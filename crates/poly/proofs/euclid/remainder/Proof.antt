@@ -1,8 +1,9 @@
--- `poly::euclid::remainder` meets its contract: the loop keeps the model's answer on the powers that are left.
+-- `poly::euclid::remainder` meets its contract: the loop keeps the model's answer on the powers that are left (`Reducing`).
 use borrow.Author.Needs.{needs}
 use mathlib.Core.Path.{_≡_, refl, sym, ap, _∙_}
-use Prim.Native.Nat.{_+_, _-_, _≤_, _<_}
+use Prim.Native.Nat.{ℕ, _+_, _-_, _≤_, _<_}
 use native.Mathlib.Omega.{arith}
+use mathlib.Core.List.{List}
 use lib.ListN.{getD}
 use Rattle.field.specs.declared.elements.Element.{Element}
 use Rattle.poly.specs.Coefficients.{Eight}
@@ -12,8 +13,13 @@ use Rattle.poly.specs.euclid.Turns.{remainder-next, remainder-end}
 use Rattle.poly.proofs.euclid.remainder.Statement.{statement}
 use Rattle.poly.proofs.euclid.remainder.Tie as tie
 
+record Reducing (p m : ℕ) (g : List ℕ) (k₀ : ℕ) (r₀ : List ℕ) (k : ℕ) (r : List ℕ) : Type 0 where
+  within : k + m ≤ 8
+  numbers : Eight p r
+  same : remainder p m g k₀ r₀ ≡ remainder p m g k r
+
 abbrev Inv-loop : tie.InvT-loop
-Inv-loop p m g r₀ k₀ r k = (k + m ≤ 8) × Eight p r × (remainder p m g k₀ r₀ ≡ remainder p m g k r)
+Inv-loop p m g r₀ k₀ r k = Reducing p m g k₀ r₀ k r
 
 abbrev μ-loop : tie.MeasureT-loop
 μ-loop p m g r₀ k₀ r k = k
@@ -22,7 +28,7 @@ sub-k : tie.Need-sub-k Inv-loop μ-loop
 sub-k c = search needs
 
 loop-holds : tie.Need-loop-holds Inv-loop μ-loop
-loop-holds c = (omega arith, c .pre .numbers, refl)
+loop-holds c = record { within = omega arith; numbers = c .pre .numbers; same = refl }
 
 sub-k-2 : tie.Need-sub-k-2 Inv-loop μ-loop
 sub-k-2 c = search needs
@@ -44,7 +50,7 @@ subtract-requires c κs =
     let turn = c .before .before .before in
     let l = turn .loop in
     rw (c .before .of .ensures)
-    (record { below = l .inv .1 .below (l .k - 1 + turn .before .args .m); power = omega arith; eight = l .inv .1 .eight })
+    (record { below = l .inv .numbers .below (l .k - 1 + turn .before .args .m); power = omega arith; eight = l .inv .numbers .eight })
 
 loop-less : tie.Need-loop-less Inv-loop μ-loop
 loop-less c = search needs
@@ -56,17 +62,18 @@ loop-again c =
     let a = turn .before .args in
     let v = getD (l .r) (l .k - 1 + a .m) 0 in
     let e = c .subtract .ensures ∙ ap (λ (x : Element). subtract (x .modulus) (x .value) (l .k - 1) (l .r) (a .g)) (c .before .before .of .ensures) in
-    let pos : 0 < a .p = omega (arith, l .inv .1 .below 0) in (
-      omega arith,
-      rw e (subtract-eight (a .p) pos v (l .k - 1) (l .r) (a .g) (l .inv .1)),
-      rw e (l .inv .2 ∙ remainder-next (a .p) (a .m) (a .g) (l .k) (l .r) (omega arith)),
-    )
+    let pos : 0 < a .p = omega (arith, l .inv .numbers .below 0) in
+    record {
+      within = omega arith;
+      numbers = rw e (subtract-eight (a .p) pos v (l .k - 1) (l .r) (a .g) (l .inv .numbers));
+      same = rw e (l .inv .same ∙ remainder-next (a .p) (a .m) (a .g) (l .k) (l .r) (omega arith));
+    }
 
 returns : tie.Need-returns Inv-loop μ-loop
 returns c =
     let l = c .before .loop in
     let a = c .before .before .args in
-    sym (l .inv .2 ∙ remainder-end (a .p) (a .m) (a .g) (l .k) (l .r) (omega arith))
+    sym (l .inv .same ∙ remainder-end (a .p) (a .m) (a .g) (l .k) (l .r) (omega arith))
 
 pub remainder-spec : {M : Type 1} → statement M
 remainder-spec =

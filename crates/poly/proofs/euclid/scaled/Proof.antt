@@ -1,25 +1,25 @@
 -- `poly::euclid::scaled` meets its contract: the loop fills the array.
 use borrow.Author.Needs.{needs}
-use mathlib.Core.Path.{_≡_, refl, ap}
-use Prim.Native.Nat.{_-_, _*_, _%_, _≤_}
+use mathlib.Core.Path.{refl, ap}
+use Prim.Native.Nat.{_-_, _*_, _%_}
 use native.Mathlib.Omega.{arith}
-use lib.ListN.{length, getD}
+use lib.ListN.{getD}
 use Rattle.field.specs.declared.elements.Element.{Element}
 use Rattle.field.specs.elements.Plain.{product-is}
-use Rattle.poly.specs.loops.CellsModel.{Filled}
-use Rattle.poly.specs.loops.Cells.{filled-start, filled-next, filled-end}
+use Rattle.field.specs.loops.Filled.{Filled}
+use Rattle.field.specs.loops.Cells.{filled-start, filled-next, filled-end}
 use Rattle.poly.specs.euclid.Model.{scaled}
 use Rattle.poly.proofs.euclid.scaled.Statement.{statement}
 use Rattle.poly.proofs.euclid.scaled.Tie as tie
 
 abbrev Inv-loop : tie.InvT-loop
-Inv-loop c f r₀ i₀ r i = (i ≤ 8) × (length r₀ ≡ 8) × Filled (λ j. (c .value * getD f j 0) % c .modulus) r₀ i r
+Inv-loop c f r₀ i₀ r i = Filled (λ j. (c .value * getD f j 0) % c .modulus) 8 r₀ i r
 
 abbrev μ-loop : tie.MeasureT-loop
 μ-loop c f r₀ i₀ r i = 8 - i
 
 loop-holds : tie.Need-loop-holds Inv-loop μ-loop
-loop-holds c = (omega arith, refl, filled-start _ _ 0 (λ j l. absurd (omega arith)))
+loop-holds c = filled-start (omega arith) refl (λ j l. absurd (omega arith))
 
 mul-of : tie.Need-mul-of Inv-loop μ-loop
 mul-of c = search needs
@@ -47,18 +47,14 @@ loop-less c = search needs
 
 loop-again : tie.Need-loop-again Inv-loop μ-loop
 loop-again c =
-    let l = c .before .before .before .loop in (
-      omega arith,
-      l .inv .1,
-      filled-next _ _ (l .i) (l .r) _ (l .inv .2) (omega arith)
-          (ap (λ (v : Element). v .value) (product-is refl (c .before .of .ensures) (c .product .ensures))),
-    )
+    let l = c .before .before .before .loop in
+    filled-next (l .inv) (omega arith) (ap (λ (v : Element). v .value) (product-is refl (c .before .of .ensures) (c .product .ensures)))
 
 returns : tie.Need-returns Inv-loop μ-loop
 unfolding scaled
 returns c =
     let l = c .before .loop in
-    filled-end _ _ 8 (l .i) (l .r) (l .inv .2) (l .inv .1) (omega arith)
+    filled-end (l .inv) (omega arith)
 
 pub scaled-spec : {M : Type 1} → statement M
 scaled-spec =

@@ -1,21 +1,26 @@
--- `poly::euclid::size` meets its contract: the loop keeps the model's answer. Assumes nothing.
+-- `poly::euclid::size` meets its contract: the loop keeps the model's answer (`Sizing`).
 use borrow.Author.Needs.{needs}
 use mathlib.Core.Path.{_≡_, refl, sym, _∙_}
-use Prim.Native.Nat.{_≤_}
+use mathlib.Core.List.{List}
+use Prim.Native.Nat.{ℕ, _≤_}
 use native.Mathlib.Omega.{arith}
 use Rattle.poly.specs.euclid.Model.{size-to, size}
 use Rattle.poly.specs.euclid.Numbers.{size-down, size-found, size-none}
 use Rattle.poly.proofs.euclid.size.Statement.{statement}
 use Rattle.poly.proofs.euclid.size.Tie as tie
 
+record Sizing (f : List ℕ) (place : ℕ) : Type 0 where
+  within : place ≤ 8
+  same : size f ≡ size-to place f
+
 abbrev Inv-loop : tie.InvT-loop
-Inv-loop f place₀ place = (place ≤ 8) × (size f ≡ size-to place f)
+Inv-loop f place₀ place = Sizing f place
 
 abbrev μ-loop : tie.MeasureT-loop
 μ-loop f place₀ place = place
 
 loop-holds : tie.Need-loop-holds Inv-loop μ-loop
-loop-holds c = (omega arith, refl)
+loop-holds c = record { within = omega arith; same = refl }
 
 sub-if1 : tie.Need-sub-if1 Inv-loop μ-loop
 sub-if1 c = search needs
@@ -30,7 +35,7 @@ returns : tie.Need-returns Inv-loop μ-loop
 returns c =
     let l = c .before .before .loop in
     let f = c .before .before .before .args .t1 in
-    sym (l .inv .1 ∙ size-found (l .place) f (omega arith) (c .if1 .taken))
+    sym (l .inv .same ∙ size-found (l .place) f (omega arith) (c .if1 .taken))
 
 sub-place : tie.Need-sub-place Inv-loop μ-loop
 sub-place c = search needs
@@ -42,13 +47,13 @@ loop-again : tie.Need-loop-again Inv-loop μ-loop
 loop-again c =
     let l = c .before .before .loop in
     let f = c .before .before .before .args .t1 in
-    (omega arith, l .inv .1 ∙ size-down (l .place) f (omega arith) (c .if1 .left))
+    record { within = omega arith; same = l .inv .same ∙ size-down (l .place) f (omega arith) (c .if1 .left) }
 
 returns-2 : tie.Need-returns-2 Inv-loop μ-loop
 returns-2 c =
     let l = c .before .loop in
     let f = c .before .before .args .t1 in
-    sym (l .inv .1 ∙ size-none (l .place) f (omega arith))
+    sym (l .inv .same ∙ size-none (l .place) f (omega arith))
 
 pub size-spec : {M : Type 1} → statement M
 size-spec =

@@ -1,20 +1,20 @@
 -- `poly::euclid::subtract` meets its contract: the loop fills the array from k on.
 use borrow.Author.Needs.{needs}
-use mathlib.Core.Path.{_≡_, refl, sym, ap, _∙_}
+use mathlib.Core.Path.{refl, sym, ap, _∙_}
 use Prim.Native.Nat.{ℕ, _+_, _-_, _*_, _%_, _≤_}
 use native.Mathlib.Omega.{arith}
-use lib.ListN.{length, getD}
+use lib.ListN.{getD}
 use Rattle.field.specs.declared.elements.Element.{Element}
 use Rattle.field.specs.elements.Plain.{minus-product-is, can-subtract}
-use Rattle.poly.specs.loops.CellsModel.{Filled}
-use Rattle.poly.specs.loops.Cells.{filled-start, filled-next, filled-end}
+use Rattle.field.specs.loops.Filled.{Filled}
+use Rattle.field.specs.loops.Cells.{filled-start, filled-next, filled-end}
 use Rattle.poly.specs.euclid.Model.{less-at, subtract}
 use Rattle.poly.specs.euclid.Numbers.{less-low, less-high}
 use Rattle.poly.proofs.euclid.subtract.Statement.{statement}
 use Rattle.poly.proofs.euclid.subtract.Tie as tie
 
 abbrev Inv-loop : tie.InvT-loop
-Inv-loop c k f₀ g i₀ f i = (k ≤ i) × (i ≤ 8) × (length f₀ ≡ 8) × Filled (less-at (c .modulus) (c .value) k f₀ g) f₀ i f
+Inv-loop c k f₀ g i₀ f i = (k ≤ i) × Filled (less-at (c .modulus) (c .value) k f₀ g) 8 f₀ i f
 
 abbrev μ-loop : tie.MeasureT-loop
 μ-loop c k f₀ g i₀ f i = 8 - i
@@ -23,9 +23,7 @@ loop-holds : tie.Need-loop-holds Inv-loop μ-loop
 loop-holds c =
     let a = c .args in (
       omega arith,
-      omega arith,
-      c .pre .eight,
-      filled-start (less-at (a .c .modulus) (a .c .value) (a .k) (a .f .now) (a .t4)) (a .f .now) (a .k)
+      filled-start (omega (arith, c .pre .power)) (c .pre .eight)
           (λ j l. sym (less-low (a .c .modulus) (a .c .value) (a .k) (a .f .now) (a .t4) j l)),
     )
 
@@ -71,13 +69,12 @@ loop-again : tie.Need-loop-again Inv-loop μ-loop
 loop-again c =
     let turn = c .before .before .before .before .before in
     let l = turn .loop in
+    let filled = l .inv .1 in
     let a = turn .before .args in (
       omega arith,
-      omega arith,
-      l .inv .2,
-      filled-next (less-at (a .c .modulus) (a .c .value) (a .k) (a .f .now) (a .t4)) (a .f .now) (l .i) (l .f) _ (l .inv .3) (omega arith)
+      filled-next filled (omega arith)
           (ap (λ (v : Element). v .value) (minus-product-is refl (c .before .of2 .ensures) (c .before .before .of .ensures) (c .minus-product .ensures))
-          ∙ ap (λ (x : ℕ). (x + (a .c .modulus - a .c .value) * getD (a .t4) (l .i - a .k) 0) % a .c .modulus) (l .inv .3 .left (l .i) (omega arith))
+          ∙ ap (λ (x : ℕ). (x + (a .c .modulus - a .c .value) * getD (a .t4) (l .i - a .k) 0) % a .c .modulus) (filled .left (l .i) (omega arith))
           ∙ sym (less-high (a .c .modulus) (a .c .value) (a .k) (a .f .now) (a .t4) (l .i) (l .inv .0))),
     )
 
@@ -85,7 +82,7 @@ returns : tie.Need-returns Inv-loop μ-loop
 unfolding subtract
 returns c =
     let l = c .before .loop in
-    filled-end _ _ 8 (l .i) (l .f) (l .inv .3) (l .inv .2) (omega arith)
+    filled-end (l .inv .1) (omega arith)
 
 pub subtract-spec : {M : Type 1} → statement M
 subtract-spec =

@@ -10,7 +10,7 @@ use Rattle.poly.specs.declared.PointImage.{PointImage}
 use Rattle.poly.specs.Coefficients.{Eight}
 use Rattle.poly.specs.Keys.{exponents}
 use Rattle.poly.specs.LeadingPart.{x-of}
-use Rattle.poly.specs.value.Model.{Ready, value-of}
+use Rattle.poly.specs.value.Model.{CanEvaluate, value-of}
 use Rattle.poly.specs.ImageCall.{AnswersPoint}
 use Rattle.poly.specs.value.PowersModel.{powers}
 use Rattle.poly.specs.euclid.Model.{size, gcd}
@@ -57,7 +57,7 @@ module _ (c : tie.After-powers3) where
   w-table : ws ≡ powers p (getD point 2 0)
   w-table = powers-model p _ ws (c .powers3 .ensures)
 
-  ready : (ts : List ℕ) → RightList p ts → Ready p ys zs ws ts
+  ready : (ts : List ℕ) → RightList p ts → CanEvaluate p ys zs ws ts
   ready = tables-ready p point ys zs ws y-table z-table w-table (listed-above (right start .is-listed))
 
   worked : (ts : List ℕ) {r : List ℕ} → r ≡ value-of p ys zs ws ts → r ≡ value-at p point ts

@@ -1,4 +1,4 @@
--- `poly::image::image_fault` meets its contract: the lines of the modulus and the lists, then those of the point. Assumes nothing.
+-- `poly::image::image_fault` meets its contract: the lines of the modulus and the lists, then those of the point.
 use Rattle.field.specs.faults.Laws.{tested-stops, tested-goes-on}
 use borrow.Author.Needs.{needs}
 use Rattle.poly.proofs.image.image_fault.Statement.{statement}

@@ -1,4 +1,4 @@
--- `poly::list::check_list` meets its contract: no coefficient reaches the bound that it gives. Assumes nothing.
+-- `poly::list::check_list` meets its contract: no coefficient reaches the bound that it gives.
 use Rattle.poly.specs.list.Check.{tested-without-modulus}
 use borrow.Author.Needs.{needs}
 use Rattle.poly.proofs.list.check_list.Statement.{statement}

@@ -1,5 +1,4 @@
 -- `poly::list::first_wrong` meets its contract. The loop keeps `Walked`: no term before i is wrong; the measure is what is left of the list.
--- Assumes nothing.
 use borrow.Author.Needs.{needs}
 use borrow.Author.Tests.{not-true, not-false}
 use Prim.Native.Nat.{_-_}

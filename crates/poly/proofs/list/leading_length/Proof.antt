@@ -1,5 +1,5 @@
 -- `poly::list::leading_length` meets its contract. The loop keeps that no term before i has a lower power of x; the measure is what is left
--- of the list. Assumes nothing.
+-- of the list.
 use Prim.Native.Nat.{_-_}
 use native.Mathlib.Omega.{arith}
 use lib.ListN.{length}

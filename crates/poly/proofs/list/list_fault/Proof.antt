@@ -1,26 +1,28 @@
--- `poly::list::list_fault` meets its contract: each way out is an answer of the check. Assumes nothing.
+-- `poly::list::list_fault` meets its contract: each way out is an answer of the check.
 use mathlib.Core.Logic.{inl, inr}
 use native.Mathlib.Omega.{arith}
-use Rattle.poly.specs.list.Check.{list-miscounted, list-wrong, list-right}
+use Rattle.poly.specs.Lists.{most-terms, Count}
+use Rattle.poly.specs.list.Check.{wrong-beyond}
+use Rattle.poly.specs.list.Counted.{well-counted, count-wrong, place-wrong, places-right}
 use borrow.Author.Needs.{needs}
 use Rattle.poly.proofs.list.list_fault.Statement.{statement}
 use Rattle.poly.proofs.list.list_fault.Tie as tie
+
+-- past both tests the count is right
+counted : (c : tie.Else2) → ¬ Count most-terms (c .before .before .before .args .terms .now)
+counted c = well-counted most-terms (c .before .before .before .args .terms .now) (c .before .if1 .left) (omega arith)
 
 at-requires : tie.Need-at-requires
 at-requires c κs = search needs
 
 returns : tie.Need-returns
-returns c =
-    let a = c .before .before .before .args in
-    list-miscounted (a .count) (a .term) (a .bound) (a .terms .now) (inl (c .before .if1 .taken)) (c .at .ensures)
+returns c = count-wrong (inl (c .before .if1 .taken)) (c .at .ensures)
 
 at-requires-2 : tie.Need-at-requires-2
 at-requires-2 c κs = search needs
 
 returns-2 : tie.Need-returns-2
-returns-2 c =
-    let a = c .before .before .before .before .args in
-    list-miscounted (a .count) (a .term) (a .bound) (a .terms .now) (inr (omega arith)) (c .at2 .ensures)
+returns-2 c = count-wrong (inr (omega arith)) (c .at2 .ensures)
 
 first-wrong-requires : tie.Need-first-wrong-requires
 first-wrong-requires c κs = search needs
@@ -32,7 +34,7 @@ returns-3 : tie.Need-returns-3
 returns-3 c =
     let then3 = c .before in
     let else2 = then3 .before .before in
-    list-wrong _ _ _ _ (else2 .before .if1 .left) (omega arith) _ (then3 .before .first-wrong .ensures) (then3 .if3 .taken) (c .at3 .ensures)
+    place-wrong (counted else2) (wrong-beyond _ _) (then3 .before .first-wrong .ensures) (then3 .if3 .taken) (c .at3 .ensures)
 
 none-requires : tie.Need-none-requires
 none-requires c κs = search needs
@@ -41,7 +43,7 @@ returns-4 : tie.Need-returns-4
 returns-4 c =
     let else3 = c .before in
     let else2 = else3 .before .before in
-    list-right _ _ _ _ (else2 .before .if1 .left) (omega arith) _ (else3 .before .first-wrong .ensures) (else3 .if3 .left) (c .none .ensures)
+    places-right (counted else2) (wrong-beyond _ _) (else3 .before .first-wrong .ensures) (else3 .if3 .left) (c .none .ensures)
 
 pub list-fault-spec : {M : Type 1} → statement M
 list-fault-spec =

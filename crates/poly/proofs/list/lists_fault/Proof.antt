@@ -1,4 +1,4 @@
--- `poly::list::lists_fault` meets its contract: the lines of the modulus, of the first list and of the second, in this order. Assumes nothing.
+-- `poly::list::lists_fault` meets its contract: the lines of the modulus, of the first list and of the second, in this order.
 use mathlib.Core.Path.{sym, refl, _∙_}
 use borrow.Author.Tests.{not-true, not-false}
 use Rattle.field.specs.Moduli.{Listed}

@@ -1,5 +1,4 @@
 -- `poly::image::first_large` meets its contract. The loop keeps that no number before i is wrong; the measure is what is left of the list.
--- Assumes nothing.
 use Prim.Native.Nat.{_-_}
 use native.Mathlib.Omega.{arith}
 use lib.ListN.{length}

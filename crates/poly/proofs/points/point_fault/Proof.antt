@@ -1,5 +1,6 @@
--- `poly::image::point_fault` meets its contract: each way out is an answer of the check. Assumes nothing.
-use Rattle.poly.specs.points.Check.{point-miscounted, point-wrong, point-right}
+-- `poly::points::point_fault` meets its contract: each way out is an answer of the check.
+use Rattle.poly.specs.points.Check.{numbers-end}
+use Rattle.poly.specs.list.Counted.{count-wrong, place-wrong, places-right}
 use borrow.Author.Needs.{needs}
 use Rattle.poly.proofs.points.point_fault.Statement.{statement}
 use Rattle.poly.proofs.points.point_fault.Tie as tie
@@ -8,9 +9,7 @@ at-requires : tie.Need-at-requires
 at-requires c κs = search needs
 
 returns : tie.Need-returns
-returns c =
-    let a = c .before .before .before .args in
-    point-miscounted (a .p) (a .point .now) (c .before .if1 .taken) (c .at .ensures)
+returns c = count-wrong (c .before .if1 .taken) (c .at .ensures)
 
 first-large-requires : tie.Need-first-large-requires
 first-large-requires c κs = search needs
@@ -21,7 +20,7 @@ at-requires-2 c κs = search needs
 returns-2 : tie.Need-returns-2
 returns-2 c =
     let search = c .before .before in
-    point-wrong _ _ (search .before .if1 .left) _ (search .first-large .ensures) (c .before .if2 .taken) (c .at2 .ensures)
+    place-wrong (λ n. n (search .before .if1 .left)) (numbers-end _ _) (search .first-large .ensures) (c .before .if2 .taken) (c .at2 .ensures)
 
 none-requires : tie.Need-none-requires
 none-requires c κs = search needs
@@ -29,7 +28,7 @@ none-requires c κs = search needs
 returns-3 : tie.Need-returns-3
 returns-3 c =
     let search = c .before .before in
-    point-right _ _ (search .before .if1 .left) _ (search .first-large .ensures) (c .before .if2 .left) (c .none .ensures)
+    places-right (λ n. n (search .before .if1 .left)) (numbers-end _ _) (search .first-large .ensures) (c .before .if2 .left) (c .none .ensures)
 
 pub point-fault-spec : {M : Type 1} → statement M
 point-fault-spec =

@@ -1,5 +1,5 @@
 -- `poly::quotient::exact` meets its contract, from what its calls say: the room cleared, the division, the quotient's terms gathered, and
--- the room cleared again. Assumes nothing.
+-- the room cleared again.
 use mathlib.Core.Path.{_≡_}
 use Prim.Native.Nat.{_≤_}
 use native.Mathlib.Omega.{arith}

@@ -1,8 +1,8 @@
 -- `poly::quotient::gather` meets its contract. The invariant: the terms of the cells from k on stand first in the output, and
--- the rest of it is as it was. Assumes nothing.
+-- the rest of it is as it was.
 use mathlib.Core.Path.{_≡_, refl, _∙_}
-use mathlib.Core.List.{_++_}
-use Prim.Native.Nat.{_+_, _≤_, _<_}
+use mathlib.Core.List.{List, _++_}
+use Prim.Native.Nat.{ℕ, _+_, _≤_, _<_}
 use native.Mathlib.Omega.{arith}
 use lib.ListN.{length, take, drop, length-set}
 use Rattle.poly.specs.division.SpreadModel.{gathered}
@@ -11,9 +11,14 @@ use borrow.Author.Needs.{needs}
 use Rattle.poly.proofs.quotient.gather.Statement.{statement}
 use Rattle.poly.proofs.quotient.gather.Tie as tie
 
+record Gathering (cells before out : List ℕ) (k n : ℕ) : Type 0 where
+  few : n + k ≤ length cells
+  same-length : length out ≡ length before
+  terms : gathered (length cells) cells ≡ take n out ++ gathered k cells
+  rest : drop n out ≡ drop n before
+
 abbrev Inv-loop : tie.InvT-loop
-Inv-loop cells out₀ k₀ n₀ out k n =
-    (n + k ≤ length cells) × (length out ≡ length out₀) × (gathered (length cells) cells ≡ take n out ++ gathered k cells) × (drop n out ≡ drop n out₀)
+Inv-loop cells out₀ k₀ n₀ out k n = Gathering cells out₀ out k n
 
 abbrev μ-loop : tie.MeasureT-loop
 μ-loop cells out₀ k₀ n₀ out k n = k
@@ -22,10 +27,10 @@ abbrev μ-loop : tie.MeasureT-loop
 room : (c : tie.After-term Inv-loop μ-loop) → c .before .before .before .before .loop .n < length (c .before .before .before .before .loop .out)
 room c =
     let a = c .before .before .before .before in
-    omega (arith, a .loop .inv .0, a .loop .inv .1, a .before .before .before .pre .room, c .before .before .before .loop-test .taken)
+    omega (arith, a .loop .inv .few, a .loop .inv .same-length, a .before .before .before .pre .room, c .before .before .before .loop-test .taken)
 
 loop-holds : tie.Need-loop-holds Inv-loop μ-loop
-loop-holds c = (omega arith, refl, refl, refl)
+loop-holds c = record { few = omega arith; same-length = refl; terms = refl; rest = refl }
 
 sub-k : tie.Need-sub-k Inv-loop μ-loop
 sub-k c = search needs
@@ -43,7 +48,9 @@ term-requires : tie.Need-term-requires Inv-loop μ-loop
 term-requires c κs = search needs
 
 mul-out : tie.Need-mul-out Inv-loop μ-loop
-mul-out c = omega (arith, room c, c .before .before .before .before .before .before .before .good .1 .0 .0, c .before .before .before .before .loop .inv .1)
+mul-out c =
+    let a = c .before .before .before .before in
+    omega (arith, room c, a .before .before .before .good .1 .0 .0, a .loop .inv .same-length)
 
 slice-write-out : tie.Need-slice-write-out Inv-loop μ-loop
 slice-write-out c = room c
@@ -57,27 +64,30 @@ loop-less c = search needs
 loop-again : tie.Need-loop-again Inv-loop μ-loop
 loop-again c =
     let a = c .before .before .before .before in
-    let x = a .before .before .before .args in (
-      omega (arith, a .loop .inv .0, c .before .before .before .loop-test .taken),
-      length-set (a .loop .out) (a .loop .n) (c .term .result) ∙ a .loop .inv .1,
-      gather-turn (x .cells .now) (a .loop .out) (a .loop .k) (a .loop .n) _ (a .loop .inv .2) (c .before .before .before .loop-test .taken)
-          (c .before .if1 .taken) (room c)
-          (c .term .ensures),
-      drop-written (a .loop .out) (x .out .now) (a .loop .n) (c .term .result) (a .loop .inv .3),
-    )
+    let x = a .before .before .before .args in
+    record {
+      few = omega (arith, a .loop .inv .few, c .before .before .before .loop-test .taken);
+      same-length = length-set (a .loop .out) (a .loop .n) (c .term .result) ∙ a .loop .inv .same-length;
+      terms =
+          gather-turn (x .cells .now) (a .loop .out) (a .loop .k) (a .loop .n) _ (a .loop .inv .terms) (c .before .before .before .loop-test .taken)
+          (c .before .if1 .taken) (room c) (c .term .ensures);
+      rest = drop-written (a .loop .out) (x .out .now) (a .loop .n) (c .term .result) (a .loop .inv .rest);
+    }
 
 loop-less-2 : tie.Need-loop-less-2 Inv-loop μ-loop
 loop-less-2 c = search needs
 
 loop-again-2 : tie.Need-loop-again-2 Inv-loop μ-loop
 loop-again-2 c =
-    let a = c .before .before .before in (
-      omega (arith, a .loop .inv .0),
-      a .loop .inv .1,
-      gather-pass (a .before .before .before .args .cells .now) (a .loop .out) (a .loop .k) (a .loop .n) _ (a .loop .inv .2)
-          (c .before .before .loop-test .taken) (c .if1 .left),
-      a .loop .inv .3,
-    )
+    let a = c .before .before .before in
+    record {
+      few = omega (arith, a .loop .inv .few);
+      same-length = a .loop .inv .same-length;
+      terms =
+          gather-pass (a .before .before .before .args .cells .now) (a .loop .out) (a .loop .k) (a .loop .n) _ (a .loop .inv .terms)
+          (c .before .before .loop-test .taken) (c .if1 .left);
+      rest = a .loop .inv .rest;
+    }
 
 same-length : tie.Need-same-length Inv-loop μ-loop
 same-length c = search needs
@@ -87,8 +97,8 @@ returns c =
     let a = c .before in
     let z = a .before .before .before in
     let w =
-    gather-written _ (z .args .out .now) (a .loop .out) (a .loop .n) (omega (arith, a .loop .inv .0, a .loop .inv .1, z .pre .room))
-    (gather-end (z .args .cells .now) (a .loop .out) (a .loop .k) (a .loop .n) _ (a .loop .inv .2) (c .loop-test .left)) (a .loop .inv .3) in
+    gather-written _ (z .args .out .now) (a .loop .out) (a .loop .n) (omega (arith, a .loop .inv .few, a .loop .inv .same-length, z .pre .room))
+    (gather-end (z .args .cells .now) (a .loop .out) (a .loop .k) (a .loop .n) _ (a .loop .inv .terms) (c .loop-test .left)) (a .loop .inv .rest) in
     record { count = w .0; output = w .1 }
 
 pub gather-spec : {M : Type 1} → statement M

@@ -1,4 +1,4 @@
--- `poly::quotient::quotient` meets its contract: a fault of the table is the answer, and inputs that pass are divided. Assumes nothing.
+-- `poly::quotient::quotient` meets its contract: a fault of the table is the answer, and inputs that pass are divided.
 use Rattle.field.specs.faults.Laws.{tested-passes, tested-refuses}
 use Rattle.poly.specs.QuotientCall.{QuotientCall, quotient-call, quotient-table, refused}
 use borrow.Author.Needs.{needs}

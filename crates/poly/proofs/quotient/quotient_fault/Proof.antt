@@ -1,4 +1,4 @@
--- `poly::quotient::quotient_fault` meets its contract: the lines of the modulus and the lists, then those of the rooms. Assumes nothing.
+-- `poly::quotient::quotient_fault` meets its contract: the lines of the modulus and the lists, then those of the rooms.
 use Rattle.field.specs.faults.Laws.{tested-stops, tested-goes-on}
 use borrow.Author.Needs.{needs}
 use Rattle.poly.proofs.quotient.quotient_fault.Statement.{statement}

@@ -1,4 +1,4 @@
--- `poly::division::clear` meets its contract. The invariant: the first i numbers are 0, the others as they were. Assumes nothing.
+-- `poly::rooms::clear` meets its contract. The invariant: the first i numbers are 0, the others as they were.
 use mathlib.Core.Path.{_≡_, refl, _∙_, ap}
 use mathlib.Core.Logic.{⊎-elim}
 use mathlib.Core.List.{List}
@@ -11,9 +11,14 @@ use borrow.Author.Needs.{needs}
 use Rattle.poly.proofs.rooms.clear.Statement.{statement}
 use Rattle.poly.proofs.rooms.clear.Tie as tie
 
+record Clearing (n : ℕ) (old : List ℕ) (end : ℕ) (numbers : List ℕ) (i : ℕ) : Type 0 where
+  ends : end ≡ min n (length old)
+  within : i ≤ end
+  same-length : length numbers ≡ length old
+  cleared : numbers ≡ zeroed i old
+
 abbrev Inv-loop : tie.InvT-loop
-Inv-loop n numbers₀ end i₀ numbers i =
-    (end ≡ min n (length numbers₀)) × (i ≤ end) × (length numbers ≡ length numbers₀) × (numbers ≡ zeroed i numbers₀)
+Inv-loop n numbers₀ end i₀ numbers i = Clearing n numbers₀ end numbers i
 
 abbrev μ-loop : tie.MeasureT-loop
 μ-loop n numbers₀ end i₀ numbers i = end - i
@@ -21,7 +26,7 @@ abbrev μ-loop : tie.MeasureT-loop
 loop-holds : tie.Need-loop-holds Inv-loop μ-loop
 loop-holds c =
     let end = ⊎-elim (λ w. w .1 ∙ shorter (w .0 .taken)) (λ w. w .1 ∙ longer (w .0 .left)) (c .if1 .came) in
-    (end, omega arith, refl, zeroed-none (c .before .args .numbers .now))
+    record { ends = end; within = omega arith; same-length = refl; cleared = zeroed-none (c .before .args .numbers .now) }
   where
     shorter : {n m : ℕ} → n < m → n ≡ min n m
     shorter l = omega arith
@@ -46,8 +51,13 @@ loop-again c =
     let a = c .before in
     let i = a .loop .i in
     let old = a .before .before .args .numbers .now in
-    let h : i < length old = omega (arith, a .loop .inv .0, c .loop-test .taken) in
-    (a .loop .inv .0, omega arith, simp length-set (a .loop .inv .2), ap (λ (l : List ℕ). set l i 0) (a .loop .inv .3) ∙ zeroed-more i old h)
+    let h : i < length old = omega (arith, a .loop .inv .ends, c .loop-test .taken) in
+    record {
+      ends = a .loop .inv .ends;
+      within = omega arith;
+      same-length = simp length-set (a .loop .inv .same-length);
+      cleared = ap (λ (l : List ℕ). set l i 0) (a .loop .inv .cleared) ∙ zeroed-more i old h;
+    }
 
 same-length : tie.Need-same-length Inv-loop μ-loop
 same-length c = search needs
@@ -56,8 +66,8 @@ returns : tie.Need-returns Inv-loop μ-loop
 returns c =
     let a = c .before in
     let z = a .before .before .args in
-    let e : a .loop .i ≡ min (z .n) (length (z .numbers .now)) = omega (arith, a .loop .inv .0, a .loop .inv .1, c .loop-test .left) in
-    a .loop .inv .3 ∙ ap (λ (i : ℕ). zeroed i (z .numbers .now)) e
+    let e : a .loop .i ≡ min (z .n) (length (z .numbers .now)) = omega (arith, a .loop .inv .ends, a .loop .inv .within, c .loop-test .left) in
+    a .loop .inv .cleared ∙ ap (λ (i : ℕ). zeroed i (z .numbers .now)) e
 
 pub clear-spec : {M : Type 1} → statement M
 clear-spec =

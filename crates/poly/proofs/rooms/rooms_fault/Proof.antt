@@ -1,4 +1,4 @@
--- `poly::division::rooms_fault` meets its contract: each way out is an answer of the check. Assumes nothing.
+-- `poly::division::rooms_fault` meets its contract: each way out is an answer of the check.
 use mathlib.Core.Path.{refl}
 use native.Mathlib.Omega.{arith}
 use Rattle.field.specs.faults.Laws.{placed-never, tested-line, tested-past, tested-end}

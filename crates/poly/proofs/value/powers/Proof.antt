@@ -1,22 +1,22 @@
 -- `poly::value::powers` meets its contract: the loop fills the table from 1 on.
 use borrow.Author.Needs.{needs}
 use mathlib.Core.List.{List}
-use mathlib.Core.Path.{_≡_, refl, sym, ap, _∙_, subst}
+use mathlib.Core.Path.{refl, sym, ap, _∙_, subst}
 use Prim.Native.Nat.{ℕ, _-_, _*_, _%_, _≤_}
 use native.Mathlib.Omega.{arith}
-use lib.ListN.{length, replicate}
+use lib.ListN.{replicate}
 use Rattle.field.specs.declared.elements.Element.{Element}
 use Rattle.field.specs.elements.Plain.{has-modulus, product-is}
 use Rattle.poly.specs.Powers.{Powers}
-use Rattle.poly.specs.loops.CellsModel.{Filled}
-use Rattle.poly.specs.loops.Cells.{filled-start, filled-next, filled-end}
+use Rattle.field.specs.loops.Filled.{Filled}
+use Rattle.field.specs.loops.Cells.{filled-start, filled-next, filled-end}
 use Rattle.poly.specs.value.PowersModel.{power, powers}
 use Rattle.poly.specs.value.PowersLaws.{power-start, power-next, powers-are}
 use Rattle.poly.proofs.value.powers.Statement.{statement}
 use Rattle.poly.proofs.value.powers.Tie as tie
 
 abbrev Inv-loop : tie.InvT-loop
-Inv-loop p y r₀ i₀ r i = (1 ≤ i) × (i ≤ 8) × (length r₀ ≡ 8) × Filled (power p y) r₀ i r
+Inv-loop p y r₀ i₀ r i = (1 ≤ i) × Filled (power p y) 8 r₀ i r
 
 abbrev μ-loop : tie.MeasureT-loop
 μ-loop p y r₀ i₀ r i = 8 - i
@@ -28,7 +28,7 @@ loop-holds : tie.Need-loop-holds Inv-loop μ-loop
 unfolding ones
 loop-holds c =
     let a = c .args in
-    (omega arith, omega arith, refl, filled-start (power (a .p) (a .y)) ones 1 (power-start (a .p) (a .y) ones refl))
+    (omega arith, filled-start {old = ones} (omega arith) refl (power-start (a .p) (a .y) ones refl))
 
 sub-of : tie.Need-sub-of Inv-loop μ-loop
 sub-of c = search needs
@@ -64,13 +64,12 @@ loop-again : tie.Need-loop-again Inv-loop μ-loop
 loop-again c =
     let turn = c .before .before .before .before in
     let l = turn .loop in
+    let filled = l .inv .1 in
     let a = turn .before .args in (
       omega arith,
-      omega arith,
-      l .inv .2,
-      filled-next (power (a .p) (a .y)) _ (l .i) (l .r) _ (l .inv .3) (omega arith)
+      filled-next filled (omega arith)
           (ap (λ (v : Element). v .value) (product-is (c .before .before .of .ensures) (c .before .of2 .ensures) (c .product .ensures))
-          ∙ ap (λ (x : ℕ). (x * a .y) % a .p) (l .inv .3 .done (l .i - 1) (omega arith)) ∙ power-next (a .p) (a .y) (l .i) (l .inv .0)),
+          ∙ ap (λ (x : ℕ). (x * a .y) % a .p) (filled .done (l .i - 1) (omega arith)) ∙ power-next (a .p) (a .y) (l .i) (l .inv .0)),
     )
 
 returns : tie.Need-returns Inv-loop μ-loop
@@ -78,7 +77,7 @@ unfolding powers
 returns c =
     let l = c .before .loop in
     let a = c .before .before .args in
-    subst (Powers (a .p) (a .y)) (sym (filled-end (power (a .p) (a .y)) _ 8 (l .i) (l .r) (l .inv .3) (l .inv .2) (omega arith)))
+    subst (Powers (a .p) (a .y)) (sym (filled-end (l .inv .1) (omega arith)))
     (powers-are (a .p) (a .y))
 
 pub powers-spec : {M : Type 1} → statement M

@@ -1,26 +1,32 @@
--- `poly::value::value` meets its contract: the loop keeps the model's answer on the terms that are left; the measure is their number.
+-- `poly::value::value` meets its contract: the loop keeps the model's answer on the terms that are left (`Valuing`); the measure is their number.
 --
 use borrow.Author.Needs.{needs}
-use mathlib.Core.Path.{_≡_, refl, sym, ap, ap₂, _∙_, subst}
-use Prim.Native.Nat.{ℕ, _+_, _-_, _*_, _/_, _%_, _≤_, _<_}
+use mathlib.Core.Path.{_≡_, sym, ap, ap₂, _∙_, subst}
+use Prim.Native.Nat.{ℕ, _+_, _-_, _*_, _/_, _%_, _<_}
 use native.Mathlib.Omega.{arith}
 use mathlib.Core.List.{List}
-use lib.ListN.{length, getD, set, drop}
+use lib.ListN.{length, getD, set}
 use mir.Syntax.{w64}
 use mir.Val.{Fits}
 use Rattle.field.specs.declared.elements.Element.{Element}
 use Rattle.field.specs.Contract.{element}
+use Rattle.field.specs.loops.Fold.{Folding, folding-start, folding-next, folding-end}
 use Rattle.field.specs.elements.Plain.{has-modulus, product-is, plus-product-is}
 use Rattle.poly.specs.Coefficients.{Eight}
 use Rattle.poly.specs.Keys.{exponents}
 use Rattle.poly.specs.Terms.{key-of, coefficient-of}
-use Rattle.poly.specs.value.Model.{plus-term, value-from, value-of}
-use Rattle.poly.specs.value.ModelLaws.{set-eight, zeros-eight, plus-term-below, value-next, value-end}
+use Rattle.poly.specs.value.Model.{plus-term, with-term, value-of}
+use Rattle.poly.specs.value.ModelLaws.{set-eight, zeros-eight, plus-term-below}
 use Rattle.poly.proofs.value.value.Statement.{statement}
 use Rattle.poly.proofs.value.value.Tie as tie
 
+-- what the loop keeps: eight numbers, which the terms that are left make the value of all
+record Valuing (p : ℕ) (ys zs ws terms old : List ℕ) (i : ℕ) (r : List ℕ) : Type 0 where
+  numbers : Eight p r
+  folding : Folding (with-term p ys zs ws) terms old i r
+
 abbrev Inv-loop : tie.InvT-loop
-Inv-loop p terms ys zs ws r₀ i₀ r i = (i ≤ length terms) × Eight p r × (value-from p ys zs ws terms r₀ ≡ value-from p ys zs ws (drop i terms) r)
+Inv-loop p terms ys zs ws r₀ i₀ r i = Valuing p ys zs ws terms r₀ i r
 
 abbrev μ-loop : tie.MeasureT-loop
 μ-loop p terms ys zs ws r₀ i₀ r i = length terms - i
@@ -65,7 +71,7 @@ one-more : (c : tie.In-loop Inv-loop μ-loop) → Fits w64 (c .before .loop .i +
 one-more c = omega arith
 
 loop-holds : tie.Need-loop-holds Inv-loop μ-loop
-loop-holds c = (omega arith, zeros-eight (c .before .args .p) (omega (arith, c .before .pre .y-powers .below 0)), refl)
+loop-holds c = record { numbers = zeros-eight (c .before .args .p) (omega (arith, c .before .pre .y-powers .below 0)); folding = folding-start }
 
 mul-t : tie.Need-mul-t Inv-loop μ-loop
 mul-t c = search needs
@@ -179,20 +185,17 @@ loop-again c =
     added (a .p) (a .t2) (a .t3) (a .t4) (l .r) t (with-x .before .of .ensures) (with-y .before .before .coefficient-of .ensures)
     (with-x .x .ensures) (with-y .y .ensures) (with-z .z .ensures) (with-w .w .ensures)
     (ap (λ (e : Element). e .value)
-    (plus-product-is (second (with-w .before)) (c .before .before .of5 .ensures) (c .before .of6 .ensures) (c .plus-product .ensures))) in (
-      omega arith,
-      set-eight (a .p) (l .r) (with-x .x .result) new (l .inv .1)
-          (subst (λ (n : ℕ). n < a .p) (sym v) (plus-term-below (a .p) (a .t2) (a .t3) (a .t4) (positive with-x) t (getD (l .r) (exponents (key-of t) .x) 0))),
-      l .inv .2 ∙ value-next (a .p) (a .t2) (a .t3) (a .t4) (a .terms .now) (l .i) (l .r) (turn .loop-test .taken)
-          ∙ ap₂ (λ (k n : ℕ). value-from (a .p) (a .t2) (a .t3) (a .t4) (drop (l .i + 1) (a .terms .now)) (set (l .r) k n)) (sym x) (sym v),
-    )
+    (plus-product-is (second (with-w .before)) (c .before .before .of5 .ensures) (c .before .of6 .ensures) (c .plus-product .ensures))) in
+    record {
+      numbers =
+          set-eight (a .p) (l .r) (with-x .x .result) new (l .inv .numbers)
+          (subst (λ (n : ℕ). n < a .p) (sym v) (plus-term-below (a .p) (a .t2) (a .t3) (a .t4) (positive with-x) t (getD (l .r) (exponents (key-of t) .x) 0)));
+      folding = folding-next (l .inv .folding) (turn .loop-test .taken) (ap₂ (set (l .r)) x v);
+    }
 
 returns : tie.Need-returns Inv-loop μ-loop
 unfolding value-of
-returns c =
-    let a = c .before .before .before .args in
-    let l = c .before .loop in
-    sym (l .inv .2 ∙ value-end (a .p) (a .t2) (a .t3) (a .t4) (a .terms .now) (l .i) (l .r) (c .loop-test .left))
+returns c = folding-end (c .before .loop .inv .folding) (c .loop-test .left)
 
 pub value-spec : {M : Type 1} → statement M
 value-spec =

@@ -1,4 +1,4 @@
--- `poly::key::Key::pack` meets its contract: the four fields do not overlap, so their `|` is their sum. Assumes nothing.
+-- `poly::key::Key::pack` meets its contract: the four fields do not overlap, so their `|` is their sum.
 use Rattle.poly.proofs.key.Fields.{keyed}
 use Rattle.poly.proofs.key.Key.pack.Statement.{statement}
 use Rattle.poly.proofs.key.Key.pack.Tie as tie

@@ -1,4 +1,4 @@
--- What holds at each place of a list: after a store, and in a list of one number; zeros from a place on. Assumes nothing.
+-- What holds at each place of a list: after a store, and in a list of one number; zeros from a place on.
 use mathlib.Core.Path.{_≡_, ap, _∙_}
 use mathlib.Core.List.{List, [], _∷_}
 use Prim.Native.Nat.{ℕ, zero, suc, _≤_}

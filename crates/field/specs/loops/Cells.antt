@@ -1,4 +1,4 @@
--- What stands at each place of a list of cells, and how filling an array place after place leads to it. Assumes nothing.
+-- What stands at each place of a list of cells, and how filling an array place after place leads to it.
 use mathlib.Core.Path.{_≡_, refl, sym, ap, _∙_, subst}
 use mathlib.Core.List.{List}
 use Prim.Native.Nat.{ℕ, zero, suc, _+_, _≤_, _<_}
@@ -6,7 +6,7 @@ use native.Mathlib.Decide.{ℕ-discrete, decLt}
 use native.Mathlib.Omega.{arith}
 use lib.ListN.{length, getD, set, length-set, List·getD-eq-default}
 use lib.Seq.{ext-getD, getD-set-same, getD-set-other}
-use Rattle.poly.specs.loops.CellsModel.{cells, Filled}
+use Rattle.field.specs.loops.Filled.{cells, Filled}
 
 pub cells-length : (h : ℕ → ℕ) (n : ℕ) → length (cells h n) ≡ n
 unfolding cells
@@ -37,21 +37,23 @@ pub cells-is : (h : ℕ → ℕ) (n : ℕ) (r : List ℕ) → length r ≡ n →
 cells-is h n r e s =
     ext-getD 0 r (cells h n) (e ∙ sym (cells-length h n)) (λ i l. let b : i < n = omega arith in s i b ∙ sym (cells-at h n i b))
 
-pub filled-start : (h : ℕ → ℕ) (old : List ℕ) (i : ℕ) → ((j : ℕ) → j < i → getD old j 0 ≡ h j) → Filled h old i old
-filled-start h old i s = record { same-length = refl; done = s; left = λ j l. refl }
+module _ {h : ℕ → ℕ} {n : ℕ} {old : List ℕ} {i : ℕ} where
+  pub filled-start : i ≤ n → length old ≡ n → ((j : ℕ) → j < i → getD old j 0 ≡ h j) → Filled h n old i old
+  filled-start l e s = record { within = l; long = e; done = s; left = λ j k. refl }
 
-pub filled-next : (h : ℕ → ℕ) (old : List ℕ) (i : ℕ) (r : List ℕ) (v : ℕ) → Filled h old i r → i < length old → v ≡ h i
-    → Filled h old (i + 1) (set r i v)
-filled-next h old i r v f l e =
-    record {
-      same-length = length-set r i v ∙ f .same-length;
-      done = λ j k. go j k (ℕ-discrete j i);
-      left = λ j k. getD-set-other r i j v 0 (λ q. omega arith) ∙ f .left j (omega arith);
-    }
-  where
-    go : (j : ℕ) → j < i + 1 → Dec (j ≡ i) → getD (set r i v) j 0 ≡ h j
-    go j k (yes q) = ap (λ (m : ℕ). getD (set r i v) m 0) q ∙ getD-set-same r i v 0 (omega (arith, f .same-length)) ∙ e ∙ ap h (sym q)
-    go j k (no q) = getD-set-other r i j v 0 q ∙ f .done j (omega arith)
+  module _ {r : List ℕ} (f : Filled h n old i r) where
+    pub filled-next : i < n → {v : ℕ} → v ≡ h i → Filled h n old (i + 1) (set r i v)
+    filled-next l {v} e =
+        record {
+          within = omega arith;
+          long = length-set r i v ∙ f .long;
+          done = λ j k. go j k (ℕ-discrete j i);
+          left = λ j k. getD-set-other r i j v 0 (λ q. omega arith) ∙ f .left j (omega arith);
+        }
+      where
+        go : (j : ℕ) → j < i + 1 → Dec (j ≡ i) → getD (set r i v) j 0 ≡ h j
+        go j k (yes q) = ap (λ (m : ℕ). getD (set r i v) m 0) q ∙ getD-set-same r i v 0 (omega (arith, f .long)) ∙ e ∙ ap h (sym q)
+        go j k (no q) = getD-set-other r i j v 0 q ∙ f .done j (omega arith)
 
-pub filled-end : (h : ℕ → ℕ) (old : List ℕ) (n i : ℕ) (r : List ℕ) → Filled h old i r → length old ≡ n → n ≤ i → r ≡ cells h n
-filled-end h old n i r f e l = cells-is h n r (f .same-length ∙ e) (λ j k. f .done j (omega arith))
+    pub filled-end : n ≤ i → r ≡ cells h n
+    filled-end l = cells-is h n r (f .long) (λ j k. f .done j (omega arith))

@@ -1,4 +1,0 @@
--- Arrays that loops fill.
-pub mod CellsModel
-pub mod Cells
-pub mod Places
