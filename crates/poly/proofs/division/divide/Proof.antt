@@ -67,9 +67,6 @@ most-requires-2 c κs =
     let z = c .before .before .before .before in
     falling-keys (z .args .p) keys (z .args .divisor .now) (z .pre .lists .divisor-falls)
 
-at-most-requires : tie.Need-at-most-requires
-at-most-requires c κs = search needs
-
 returns : tie.Need-returns
 returns c =
     let z = c .before .before .before .before .before .before .before in
@@ -79,35 +76,14 @@ returns c =
 sub-of : tie.Need-sub-of
 sub-of c = at-most-key _ _ (sym (c .before .before .before .at-most .ensures) ∙ not-false _ (c .before .before .if1 .left))
 
-shared-slice-read-first : tie.Need-shared-slice-read-first
-shared-slice-read-first c = search needs
-
-coefficient-of-requires : tie.Need-coefficient-of-requires
-coefficient-of-requires c κs = search needs
-
-of-requires : tie.Need-of-requires
-of-requires c κs = search needs
-
 inverse-requires : tie.Need-inverse-requires
 inverse-requires c κs =
     let z = c .before .before .before .before .before .before .before .before .before .before .before .before in
     lead-invertible (z .args .p) (z .args .dividend .now) (z .args .divisor .now) (z .args .work .now) (z .pre .lists) _
     (ap (λ (v : Element). v .modulus) (c .of .ensures)) (ap (λ (v : Element). v .value) (c .of .ensures) ∙ c .before .coefficient-of .ensures)
 
-of-requires-2 : tie.Need-of-requires-2
-of-requires-2 c κs = search needs
-
 shared-slice-read-of : tie.Need-shared-slice-read-of
 shared-slice-read-of c = omega (arith, start (c .before) .pre .lists .some-dividend)
-
-of-requires-3 : tie.Need-of-requires-3
-of-requires-3 c κs = search needs
-
-cast-top : tie.Need-cast-top
-cast-top c = search needs
-
-add-top : tie.Need-add-top
-add-top c = search needs
 
 spread-requires : tie.Need-spread-requires
 spread-requires c κs =
@@ -121,9 +97,6 @@ steps-requires c κs =
     let z = start o in
     begun-can-step (z .args .p) (z .args .dividend .now) (z .args .divisor .now) (z .args .work .now) (z .pre .lists) (kept o) (kept-is o) _
     (c .before .before .before .spread .ensures) (z .pre .empty) _ (ap (λ (k : ℕ). k + 1) (h .of3 .ensures))
-
-same-length : tie.Need-same-length
-same-length c = search needs
 
 returns-2 : tie.Need-returns-2
 returns-2 c =
@@ -139,19 +112,19 @@ divide-spec =
     (tie.spec
     most-requires
     most-requires-2
-    at-most-requires
+    (λ c κs. search needs)
     returns
     sub-of
-    shared-slice-read-first
-    coefficient-of-requires
-    of-requires
+    (λ c. search needs)
+    (λ c κs. search needs)
+    (λ c κs. search needs)
     inverse-requires
-    of-requires-2
+    (λ c κs. search needs)
     shared-slice-read-of
-    of-requires-3
-    cast-top
-    add-top
+    (λ c κs. search needs)
+    (λ c. search needs)
+    (λ c. search needs)
     spread-requires
     steps-requires
-    same-length
+    (λ c. search needs)
     returns-2)

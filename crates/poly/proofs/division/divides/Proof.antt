@@ -19,21 +19,12 @@ start l = l .before .before .before .before .before
 begun : (l : tie.After-clear) → l .clear .last .1 .0 ≡ zeroed keys (start l .args .work .now)
 begun l = zeroed-all keys (start l .args .work .now) (omega (arith, start l .pre .room)) (l .clear .ensures)
 
-clear-requires : tie.Need-clear-requires
-clear-requires c κs = search needs
-
 divide-requires : tie.Need-divide-requires
 divide-requires c κs =
     let l = c .before .before .before in
     let z = start l in
     rw (begun l)
     (cleared-begins (z .args .p) (z .args .dividend .now) (z .args .divisor .now) (z .args .work .now) (z .pre) keys (omega arith) (omega arith))
-
-clear-requires-2 : tie.Need-clear-requires-2
-clear-requires-2 c κs = search needs
-
-same-length : tie.Need-same-length
-same-length c = search needs
 
 returns : tie.Need-returns
 returns c =
@@ -55,4 +46,4 @@ returns c =
 
 pub divides-spec : {M : Type 1} → statement M
 divides-spec =
-    tie.close (tie.spec clear-requires divide-requires clear-requires-2 same-length returns)
+    tie.close (tie.spec (λ c κs. search needs) divide-requires (λ c κs. search needs) (λ c. search needs) returns)

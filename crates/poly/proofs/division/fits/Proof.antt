@@ -6,9 +6,6 @@ use borrow.Author.Needs.{needs}
 use Rattle.poly.proofs.division.fits.Statement.{statement}
 use Rattle.poly.proofs.division.fits.Tie as tie
 
-at-most-requires : tie.Need-at-most-requires
-at-most-requires c κs = search needs
-
 returns : tie.Need-returns
 returns c =
     let a = c .before .before .args in
@@ -17,13 +14,10 @@ returns c =
 sub-t8 : tie.Need-sub-t8
 sub-t8 c = at-most-key _ _ (sym (c .before .at-most .ensures) ∙ not-false _ (c .if1 .left))
 
-at-most-requires-2 : tie.Need-at-most-requires-2
-at-most-requires-2 c κs = search needs
-
 returns-2 : tie.Need-returns-2
 returns-2 c =
     let a = c .before .before .before .args in
     fits-rest (a .lead) (a .bound .bits) (a .k) (sym (c .before .before .at-most .ensures) ∙ not-false _ (c .before .if1 .left)) (c .at-most2 .ensures)
 
 pub fits-spec : {M : Type 1} → statement M
-fits-spec = tie.close (tie.spec at-most-requires returns sub-t8 at-most-requires-2 returns-2)
+fits-spec = tie.close (tie.spec (λ c κs. search needs) returns sub-t8 (λ c κs. search needs) returns-2)

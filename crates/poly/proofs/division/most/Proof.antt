@@ -33,45 +33,6 @@ loop-holds : tie.Need-loop-holds Inv-loop μ-loop
 loop-holds c =
     record { within = omega arith; so-far-x = omega arith; so-far-y = omega arith; so-far-z = omega arith; so-far-w = omega arith }
 
-mul-of : tie.Need-mul-of Inv-loop μ-loop
-mul-of c = search needs
-
-shared-slice-read-of : tie.Need-shared-slice-read-of Inv-loop μ-loop
-shared-slice-read-of c = search needs
-
-of-requires : tie.Need-of-requires Inv-loop μ-loop
-of-requires c κs = search needs
-
-x-requires : tie.Need-x-requires Inv-loop μ-loop
-x-requires c κs = search needs
-
-larger-requires : tie.Need-larger-requires Inv-loop μ-loop
-larger-requires c κs = search needs
-
-y-requires : tie.Need-y-requires Inv-loop μ-loop
-y-requires c κs = search needs
-
-larger-requires-2 : tie.Need-larger-requires-2 Inv-loop μ-loop
-larger-requires-2 c κs = search needs
-
-z-requires : tie.Need-z-requires Inv-loop μ-loop
-z-requires c κs = search needs
-
-larger-requires-3 : tie.Need-larger-requires-3 Inv-loop μ-loop
-larger-requires-3 c κs = search needs
-
-w-requires : tie.Need-w-requires Inv-loop μ-loop
-w-requires c κs = search needs
-
-larger-requires-4 : tie.Need-larger-requires-4 Inv-loop μ-loop
-larger-requires-4 c κs = search needs
-
-add-i : tie.Need-add-i Inv-loop μ-loop
-add-i c = search needs
-
-loop-less : tie.Need-loop-less Inv-loop μ-loop
-loop-less c = search needs
-
 loop-again : tie.Need-loop-again Inv-loop μ-loop
 loop-again c =
     let lz = c .before .before in
@@ -127,19 +88,19 @@ most-spec =
     Inv-loop
     μ-loop
     loop-holds
-    mul-of
-    shared-slice-read-of
-    of-requires
-    x-requires
-    larger-requires
-    y-requires
-    larger-requires-2
-    z-requires
-    larger-requires-3
-    w-requires
-    larger-requires-4
-    add-i
-    loop-less
+    (λ c. search needs)
+    (λ c. search needs)
+    (λ c κs. search needs)
+    (λ c κs. search needs)
+    (λ c κs. search needs)
+    (λ c κs. search needs)
+    (λ c κs. search needs)
+    (λ c κs. search needs)
+    (λ c κs. search needs)
+    (λ c κs. search needs)
+    (λ c κs. search needs)
+    (λ c. search needs)
+    (λ c. search needs)
     loop-again
     pack-requires
     returns)

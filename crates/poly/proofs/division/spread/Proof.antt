@@ -26,21 +26,6 @@ below c =
 loop-holds : tie.Need-loop-holds Inv-loop μ-loop
 loop-holds c = folding-cells-start
 
-mul-t : tie.Need-mul-t Inv-loop μ-loop
-mul-t c = search needs
-
-shared-slice-read-t : tie.Need-shared-slice-read-t Inv-loop μ-loop
-shared-slice-read-t c = search needs
-
-of-requires : tie.Need-of-requires Inv-loop μ-loop
-of-requires c κs = search needs
-
-cast-at : tie.Need-cast-at Inv-loop μ-loop
-cast-at c = search needs
-
-coefficient-of-requires : tie.Need-coefficient-of-requires Inv-loop μ-loop
-coefficient-of-requires c κs = search needs
-
 mul-cells : tie.Need-mul-cells Inv-loop μ-loop
 mul-cells c =
     let a = c .before .before .before .before .before in
@@ -49,20 +34,11 @@ mul-cells c =
 slice-write-cells : tie.Need-slice-write-cells Inv-loop μ-loop
 slice-write-cells c = below c
 
-add-i : tie.Need-add-i Inv-loop μ-loop
-add-i c = search needs
-
-loop-less : tie.Need-loop-less Inv-loop μ-loop
-loop-less c = search needs
-
 loop-again : tie.Need-loop-again Inv-loop μ-loop
 loop-again c =
     let turn = c .before .before .before .before in
     let l = turn .before .loop in
     folding-cells-next (l .inv) (turn .loop-test .taken) (simp length-set) (ap₂ (set (l .cells)) (c .before .before .of .ensures) (c .coefficient-of .ensures))
-
-same-length : tie.Need-same-length Inv-loop μ-loop
-same-length c = search needs
 
 returns : tie.Need-returns Inv-loop μ-loop
 returns c = folding-end (c .before .loop .inv .folding) (c .loop-test .left)
@@ -74,15 +50,15 @@ spread-spec =
     Inv-loop
     μ-loop
     loop-holds
-    mul-t
-    shared-slice-read-t
-    of-requires
-    cast-at
-    coefficient-of-requires
+    (λ c. search needs)
+    (λ c. search needs)
+    (λ c κs. search needs)
+    (λ c. search needs)
+    (λ c κs. search needs)
     mul-cells
     slice-write-cells
-    add-i
-    loop-less
+    (λ c. search needs)
+    (λ c. search needs)
     loop-again
-    same-length
+    (λ c. search needs)
     returns)

@@ -109,56 +109,17 @@ steps-holds c =
     let a = s .args in
     record { answer = refl; going = going-start (setting (a .divisor .now) (a .lead) (a .inverse) (a .bound .bits)) (a .work .now) (a .top) (s .pre) }
 
-loop-holds : tie.Need-loop-holds Inv-loop μ-loop Inv-steps μ-steps
-loop-holds c = search needs
-
-sub-k : tie.Need-sub-k Inv-loop μ-loop Inv-steps μ-steps
-sub-k c = search needs
-
-mul-if1 : tie.Need-mul-if1 Inv-loop μ-loop Inv-steps μ-steps
-mul-if1 c = search needs
-
-slice-read-if1 : tie.Need-slice-read-if1 Inv-loop μ-loop Inv-steps μ-steps
-slice-read-if1 c = search needs
-
-loop-less : tie.Need-loop-less Inv-loop μ-loop Inv-steps μ-steps
-loop-less c = search needs
-
 loop-again : tie.Need-loop-again Inv-loop μ-loop Inv-steps μ-steps
 loop-again c =
     let l = c .before .before .before in
     let passed = going-passed (d l) (work l) (l .loop .k) (going l .cells) (c .before .before .loop-test .left) (c .if1 .left) in
     record { within = omega arith; same = l .loop .inv .same ∙ passed; answer = l .loop .inv .answer }
 
-cast-fits : tie.Need-cast-fits Inv-loop μ-loop Inv-steps μ-steps
-cast-fits c = search needs
-
-fits-requires : tie.Need-fits-requires Inv-loop μ-loop Inv-steps μ-steps
-fits-requires c κs = search needs
-
-mul-of : tie.Need-mul-of Inv-loop μ-loop Inv-steps μ-steps
-mul-of c = search needs
-
-slice-read-of : tie.Need-slice-read-of Inv-loop μ-loop Inv-steps μ-steps
-slice-read-of c = search needs
-
-of-requires : tie.Need-of-requires Inv-loop μ-loop Inv-steps μ-steps
-of-requires c κs = search needs
-
 product-requires : tie.Need-product-requires Inv-loop μ-loop Inv-steps μ-steps
 product-requires c κs = has-modulus (c .of .ensures) (start (at (c .before .before)) .pre .positive)
 
 sub-work : tie.Need-sub-work Inv-loop μ-loop Inv-steps μ-steps
 sub-work c = below (fit c)
-
-add-work : tie.Need-add-work Inv-loop μ-loop Inv-steps μ-steps
-add-work c = search needs
-
-mul-work : tie.Need-mul-work Inv-loop μ-loop Inv-steps μ-steps
-mul-work c = search needs
-
-slice-write-work : tie.Need-slice-write-work Inv-loop μ-loop Inv-steps μ-steps
-slice-write-work c = search needs
 
 sub-subtract : tie.Need-sub-subtract Inv-loop μ-loop Inv-steps μ-steps
 sub-subtract c = below (fit c)
@@ -177,9 +138,6 @@ subtract-requires c κs =
       within = λ i h. omega (arith, within (fit q) i h, z .pre .room, going l .same-length, long);
     }
 
-steps-less : tie.Need-steps-less Inv-loop μ-loop Inv-steps μ-steps
-steps-less c = search needs
-
 steps-again : tie.Need-steps-again Inv-loop μ-loop Inv-steps μ-steps
 steps-again c =
     let u = c .before .before in
@@ -195,16 +153,10 @@ steps-again c =
           (u .subtract .ensures ∙ ap (λ (x : Element). less-product (x .modulus) s v (d l .terms) (set (work l) (keys + s) v)) (factor-is q));
     }
 
-same-length : tie.Need-same-length Inv-loop μ-loop Inv-steps μ-steps
-same-length c = search needs
-
 returns : tie.Need-returns Inv-loop μ-loop Inv-steps μ-steps
 returns c =
     let l = c .before in
     rw (l .loop .inv .answer ∙ l .before .steps .inv .answer) (going-done (d l) (before l) (work l) (l .loop .k) (going l) (c .loop-test .taken))
-
-same-length-2 : tie.Need-same-length-2 Inv-loop μ-loop Inv-steps μ-steps
-same-length-2 c = search needs
 
 returns-2 : tie.Need-returns-2 Inv-loop μ-loop Inv-steps μ-steps
 returns-2 c =
@@ -222,27 +174,27 @@ steps-spec =
     Inv-steps
     μ-steps
     steps-holds
-    loop-holds
-    sub-k
-    mul-if1
-    slice-read-if1
-    cast-fits
-    fits-requires
-    loop-less
+    (λ c. search needs)
+    (λ c. search needs)
+    (λ c. search needs)
+    (λ c. search needs)
+    (λ c. search needs)
+    (λ c κs. search needs)
+    (λ c. search needs)
     loop-again
-    mul-of
-    slice-read-of
-    of-requires
+    (λ c. search needs)
+    (λ c. search needs)
+    (λ c κs. search needs)
     product-requires
     sub-work
-    add-work
-    mul-work
-    slice-write-work
+    (λ c. search needs)
+    (λ c. search needs)
+    (λ c. search needs)
     sub-subtract
     subtract-requires
-    steps-less
+    (λ c. search needs)
     steps-again
-    same-length
+    (λ c. search needs)
     returns
-    same-length-2
+    (λ c. search needs)
     returns-2)

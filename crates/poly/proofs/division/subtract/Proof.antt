@@ -35,35 +35,14 @@ at-below c =
 loop-holds : tie.Need-loop-holds Inv-loop μ-loop
 loop-holds c = folding-cells-start
 
-mul-t : tie.Need-mul-t Inv-loop μ-loop
-mul-t c = search needs
-
-shared-slice-read-t : tie.Need-shared-slice-read-t Inv-loop μ-loop
-shared-slice-read-t c = search needs
-
-of-requires : tie.Need-of-requires Inv-loop μ-loop
-of-requires c κs = search needs
-
-cast-at : tie.Need-cast-at Inv-loop μ-loop
-cast-at c = search needs
-
 add-at : tie.Need-add-at Inv-loop μ-loop
 add-at c = omega (arith, at-below c)
-
-coefficient-of-requires : tie.Need-coefficient-of-requires Inv-loop μ-loop
-coefficient-of-requires c κs = search needs
-
-of-requires-2 : tie.Need-of-requires-2 Inv-loop μ-loop
-of-requires-2 c κs = search needs
 
 mul-of : tie.Need-mul-of Inv-loop μ-loop
 mul-of c = omega (arith, at-below (c .before .before))
 
 slice-read-of : tie.Need-slice-read-of Inv-loop μ-loop
 slice-read-of c = at-below (c .before .before .before)
-
-of-requires-3 : tie.Need-of-requires-3 Inv-loop μ-loop
-of-requires-3 c κs = search needs
 
 minus-product-requires : tie.Need-minus-product-requires Inv-loop μ-loop
 minus-product-requires c κs =
@@ -76,12 +55,6 @@ mul-cells c = omega (arith, at-below (c .before .before .before .before .before)
 slice-write-cells : tie.Need-slice-write-cells Inv-loop μ-loop
 slice-write-cells c = at-below (c .before .before .before .before .before)
 
-add-i : tie.Need-add-i Inv-loop μ-loop
-add-i c = search needs
-
-loop-less : tie.Need-loop-less Inv-loop μ-loop
-loop-less c = search needs
-
 loop-again : tie.Need-loop-again Inv-loop μ-loop
 loop-again c =
     let e = c .before .before .before in
@@ -93,9 +66,6 @@ loop-again c =
     (e .before .coefficient-of .ensures)
     (ap (λ (v : Element). v .value) (minus-product-is refl (e .of2 .ensures) (c .before .of3 .ensures) (c .minus-product .ensures))))
 
-same-length : tie.Need-same-length Inv-loop μ-loop
-same-length c = search needs
-
 returns : tie.Need-returns Inv-loop μ-loop
 returns c = folding-end (c .before .loop .inv .folding) (c .loop-test .left)
 
@@ -106,21 +76,21 @@ subtract-spec =
     Inv-loop
     μ-loop
     loop-holds
-    mul-t
-    shared-slice-read-t
-    of-requires
-    cast-at
+    (λ c. search needs)
+    (λ c. search needs)
+    (λ c κs. search needs)
+    (λ c. search needs)
     add-at
-    coefficient-of-requires
-    of-requires-2
+    (λ c κs. search needs)
+    (λ c κs. search needs)
     mul-of
     slice-read-of
-    of-requires-3
+    (λ c κs. search needs)
     minus-product-requires
     mul-cells
     slice-write-cells
-    add-i
-    loop-less
+    (λ c. search needs)
+    (λ c. search needs)
     loop-again
-    same-length
+    (λ c. search needs)
     returns)

@@ -23,12 +23,6 @@ abbrev μ-loop : tie.MeasureT-loop
 prime : (c : tie.Start Inv-loop μ-loop) → Prime (c .args .p)
 prime c = listed-prime (c .pre .is-listed)
 
-size-requires : tie.Need-size-requires Inv-loop μ-loop
-size-requires c κs = search needs
-
-sub-monic : tie.Need-sub-monic Inv-loop μ-loop
-sub-monic c = search needs
-
 monic-requires : tie.Need-monic-requires Inv-loop μ-loop
 monic-requires c κs =
     let s = c .before in
@@ -39,18 +33,12 @@ monic-requires c κs =
       nonzero = size-divides (s .args .a) (c .size .result) (c .size .ensures) (omega arith);
     }
 
-size-requires-2 : tie.Need-size-requires-2 Inv-loop μ-loop
-size-requires-2 c κs = search needs
-
 loop-holds : tie.Need-loop-holds Inv-loop μ-loop
 loop-holds c =
     let s = c .before .before .before in
     turning-begins (prime s) _ _ _ (c .size2 .ensures)
     (subst (Eight (s .args .p)) (sym (c .before .monic .ensures)) (monic-eight (prime s) _ (s .args .a)))
     (s .pre .second)
-
-sub-monic-2 : tie.Need-sub-monic-2 Inv-loop μ-loop
-sub-monic-2 c = search needs
 
 monic-requires-2 : tie.Need-monic-requires-2 Inv-loop μ-loop
 monic-requires-2 c κs =
@@ -63,16 +51,10 @@ monic-requires-2 c κs =
       nonzero = size-divides (l .g) (l .n) (l .inv .sized) (omega arith);
     }
 
-sub-remainder : tie.Need-sub-remainder Inv-loop μ-loop
-sub-remainder c = search needs
-
 remainder-requires : tie.Need-remainder-requires Inv-loop μ-loop
 remainder-requires c κs =
     let l = c .before .before .loop in
     record { numbers = l .inv .first; degree = omega (arith, size-fits (l .g) (l .n) (l .inv .sized)) }
-
-size-requires-3 : tie.Need-size-requires-3 Inv-loop μ-loop
-size-requires-3 c κs = search needs
 
 loop-less : tie.Need-loop-less Inv-loop μ-loop
 loop-less c =
@@ -103,16 +85,16 @@ gcd-spec =
     (tie.spec
     Inv-loop
     μ-loop
-    size-requires
-    sub-monic
+    (λ c κs. search needs)
+    (λ c. search needs)
     monic-requires
-    size-requires-2
+    (λ c κs. search needs)
     loop-holds
-    sub-monic-2
+    (λ c. search needs)
     monic-requires-2
-    sub-remainder
+    (λ c. search needs)
     remainder-requires
-    size-requires-3
+    (λ c κs. search needs)
     loop-less
     loop-again
     returns)

@@ -12,15 +12,6 @@ use borrow.Author.Needs.{needs}
 use Rattle.poly.proofs.euclid.monic.Statement.{statement}
 use Rattle.poly.proofs.euclid.monic.Tie as tie
 
-mul-of : tie.Need-mul-of
-mul-of c = search needs
-
-array-read-of : tie.Need-array-read-of
-array-read-of c = search needs
-
-of-requires : tie.Need-of-requires
-of-requires c κs = search needs
-
 inverse-requires : tie.Need-inverse-requires
 inverse-requires c κs =
     let s = c .before in
@@ -43,4 +34,4 @@ returns c =
     (inverse-val _ (v .inverse .result) (listed-prime (s .pre .is-listed)) (inverts v))
 
 pub monic-spec : {M : Type 1} → statement M
-monic-spec = tie.close (tie.spec mul-of array-read-of of-requires inverse-requires scaled-requires returns)
+monic-spec = tie.close (tie.spec (λ c. search needs) (λ c. search needs) (λ c κs. search needs) inverse-requires scaled-requires returns)

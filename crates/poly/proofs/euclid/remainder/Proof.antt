@@ -24,26 +24,8 @@ Inv-loop p m g r₀ k₀ r k = Reducing p m g k₀ r₀ k r
 abbrev μ-loop : tie.MeasureT-loop
 μ-loop p m g r₀ k₀ r k = k
 
-sub-k : tie.Need-sub-k Inv-loop μ-loop
-sub-k c = search needs
-
 loop-holds : tie.Need-loop-holds Inv-loop μ-loop
 loop-holds c = record { within = omega arith; numbers = c .pre .numbers; same = refl }
-
-sub-k-2 : tie.Need-sub-k-2 Inv-loop μ-loop
-sub-k-2 c = search needs
-
-add-of : tie.Need-add-of Inv-loop μ-loop
-add-of c = search needs
-
-mul-of : tie.Need-mul-of Inv-loop μ-loop
-mul-of c = search needs
-
-array-read-of : tie.Need-array-read-of Inv-loop μ-loop
-array-read-of c = search needs
-
-of-requires : tie.Need-of-requires Inv-loop μ-loop
-of-requires c κs = search needs
 
 subtract-requires : tie.Need-subtract-requires Inv-loop μ-loop
 subtract-requires c κs =
@@ -51,9 +33,6 @@ subtract-requires c κs =
     let l = turn .loop in
     rw (c .before .of .ensures)
     (record { below = l .inv .numbers .below (l .k - 1 + turn .before .args .m); power = omega arith; eight = l .inv .numbers .eight })
-
-loop-less : tie.Need-loop-less Inv-loop μ-loop
-loop-less c = search needs
 
 loop-again : tie.Need-loop-again Inv-loop μ-loop
 loop-again c =
@@ -81,14 +60,14 @@ remainder-spec =
     (tie.spec
     Inv-loop
     μ-loop
-    sub-k
+    (λ c. search needs)
     loop-holds
-    sub-k-2
-    add-of
-    mul-of
-    array-read-of
-    of-requires
+    (λ c. search needs)
+    (λ c. search needs)
+    (λ c. search needs)
+    (λ c. search needs)
+    (λ c κs. search needs)
     subtract-requires
-    loop-less
+    (λ c. search needs)
     loop-again
     returns)

@@ -21,29 +21,8 @@ abbrev μ-loop : tie.MeasureT-loop
 loop-holds : tie.Need-loop-holds Inv-loop μ-loop
 loop-holds c = filled-start (omega arith) refl (λ j l. absurd (omega arith))
 
-mul-of : tie.Need-mul-of Inv-loop μ-loop
-mul-of c = search needs
-
-array-read-of : tie.Need-array-read-of Inv-loop μ-loop
-array-read-of c = search needs
-
-of-requires : tie.Need-of-requires Inv-loop μ-loop
-of-requires c κs = search needs
-
 product-requires : tie.Need-product-requires Inv-loop μ-loop
 product-requires c κs = c .before .before .before .pre
-
-mul-r : tie.Need-mul-r Inv-loop μ-loop
-mul-r c = search needs
-
-array-write-r : tie.Need-array-write-r Inv-loop μ-loop
-array-write-r c = search needs
-
-add-i : tie.Need-add-i Inv-loop μ-loop
-add-i c = search needs
-
-loop-less : tie.Need-loop-less Inv-loop μ-loop
-loop-less c = search needs
 
 loop-again : tie.Need-loop-again Inv-loop μ-loop
 loop-again c =
@@ -63,13 +42,13 @@ scaled-spec =
     Inv-loop
     μ-loop
     loop-holds
-    mul-of
-    array-read-of
-    of-requires
+    (λ c. search needs)
+    (λ c. search needs)
+    (λ c κs. search needs)
     product-requires
-    mul-r
-    array-write-r
-    add-i
-    loop-less
+    (λ c. search needs)
+    (λ c. search needs)
+    (λ c. search needs)
+    (λ c. search needs)
     loop-again
     returns)

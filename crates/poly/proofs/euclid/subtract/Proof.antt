@@ -27,43 +27,10 @@ loop-holds c =
           (λ j l. sym (less-low (a .c .modulus) (a .c .value) (a .k) (a .f .now) (a .t4) j l)),
     )
 
-mul-of : tie.Need-mul-of Inv-loop μ-loop
-mul-of c = search needs
-
-element-copy-out-of : tie.Need-element-copy-out-of Inv-loop μ-loop
-element-copy-out-of c = search needs
-
-of-requires : tie.Need-of-requires Inv-loop μ-loop
-of-requires c κs = search needs
-
-sub-of : tie.Need-sub-of Inv-loop μ-loop
-sub-of c = search needs
-
-mul-of-2 : tie.Need-mul-of-2 Inv-loop μ-loop
-mul-of-2 c = search needs
-
-array-read-of : tie.Need-array-read-of Inv-loop μ-loop
-array-read-of c = search needs
-
-of-requires-2 : tie.Need-of-requires-2 Inv-loop μ-loop
-of-requires-2 c κs = search needs
-
 minus-product-requires : tie.Need-minus-product-requires Inv-loop μ-loop
 minus-product-requires c κs =
     let s = c .before .before .before .before .before in
     can-subtract (c .before .of .ensures) refl (omega (arith, s .pre .below)) (omega (arith, s .pre .below))
-
-mul-f : tie.Need-mul-f Inv-loop μ-loop
-mul-f c = search needs
-
-element-write-f : tie.Need-element-write-f Inv-loop μ-loop
-element-write-f c = search needs
-
-add-i : tie.Need-add-i Inv-loop μ-loop
-add-i c = search needs
-
-loop-less : tie.Need-loop-less Inv-loop μ-loop
-loop-less c = search needs
 
 loop-again : tie.Need-loop-again Inv-loop μ-loop
 loop-again c =
@@ -91,17 +58,17 @@ subtract-spec =
     Inv-loop
     μ-loop
     loop-holds
-    mul-of
-    element-copy-out-of
-    of-requires
-    sub-of
-    mul-of-2
-    array-read-of
-    of-requires-2
+    (λ c. search needs)
+    (λ c. search needs)
+    (λ c κs. search needs)
+    (λ c. search needs)
+    (λ c. search needs)
+    (λ c. search needs)
+    (λ c κs. search needs)
     minus-product-requires
-    mul-f
-    element-write-f
-    add-i
-    loop-less
+    (λ c. search needs)
+    (λ c. search needs)
+    (λ c. search needs)
+    (λ c. search needs)
     loop-again
     returns)

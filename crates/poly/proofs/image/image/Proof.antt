@@ -21,12 +21,6 @@ answers c r =
     let a = start tested .args in
     image-answered (a .p) (a .first .now) (a .second .now) (a .point .now) _ (tested .image-fault .ensures) (c .before .if1 .left) _ (c .image-at .ensures)
 
-image-fault-requires : tie.Need-image-fault-requires
-image-fault-requires c κs = search needs
-
-refused-requires : tie.Need-refused-requires
-refused-requires c κs = search needs
-
 returns : tie.Need-returns
 returns c =
     let tested = c .before .before .before in
@@ -40,25 +34,10 @@ image-at-requires c κs =
     image-fine (a .p) (a .first .now) (a .second .now) (a .point .now)
     (image-passes (a .p) (a .first .now) (a .second .now) (a .point .now) _ (tested .image-fault .ensures) (c .if1 .left))
 
-at-requires : tie.Need-at-requires
-at-requires c κs = search needs
-
-refused-requires-2 : tie.Need-refused-requires-2
-refused-requires-2 c κs = search needs
-
 returns-2 : tie.Need-returns-2
 returns-2 c =
     let test = c .before .before in
     answers (test .before .before) _ (c .refused2 .ensures ∙ ap refused-image (c .before .at .ensures) ∙ sym (record-bad _ _ (test .if2 .taken)))
-
-none-requires : tie.Need-none-requires
-none-requires c κs = search needs
-
-cast-t11 : tie.Need-cast-t11
-cast-t11 c = search needs
-
-sub-t12 : tie.Need-sub-t12
-sub-t12 c = search needs
 
 returns-3 : tie.Need-returns-3
 returns-3 c =
@@ -73,14 +52,14 @@ pub image-spec : {M : Type 1} → statement M
 image-spec =
     tie.close
     (tie.spec
-    image-fault-requires
-    refused-requires
+    (λ c κs. search needs)
+    (λ c κs. search needs)
     returns
     image-at-requires
-    at-requires
-    refused-requires-2
+    (λ c κs. search needs)
+    (λ c κs. search needs)
     returns-2
-    none-requires
-    cast-t11
-    sub-t12
+    (λ c κs. search needs)
+    (λ c. search needs)
+    (λ c. search needs)
     returns-3)

@@ -91,20 +91,11 @@ module _ (c : tie.After-x) where
   answers : {r : PointImage} → r ≡ image-of (p tables) A B (point tables) → AnswersPoint (p tables) A B (point tables) r
   answers = model-answers (p tables) A B (point tables) (start tables .pre .lists)
 
-shared-slice-read-powers : tie.Need-shared-slice-read-powers
-shared-slice-read-powers c = search needs
-
 powers-requires : tie.Need-powers-requires
 powers-requires c κs = listed-positive (right (c .before .before .before .before) .is-listed)
 
-shared-slice-read-powers-2 : tie.Need-shared-slice-read-powers-2
-shared-slice-read-powers-2 c = search needs
-
 powers-requires-2 : tie.Need-powers-requires-2
 powers-requires-2 c κs = listed-positive (right (c .before .before .before .before .before .before) .is-listed)
-
-shared-slice-read-powers-3 : tie.Need-shared-slice-read-powers-3
-shared-slice-read-powers-3 c = search needs
 
 powers-requires-3 : tie.Need-powers-requires-3
 powers-requires-3 c κs = listed-positive (right (c .before .before .before .before .before .before .before .before) .is-listed)
@@ -114,18 +105,6 @@ value-requires c κs = ready c (start c .args .first .now) (right (start c) .fir
 
 shared-slice-read-of : tie.Need-shared-slice-read-of
 shared-slice-read-of c = let l = right (start (c .before .before)) .first .some in omega arith
-
-of-requires : tie.Need-of-requires
-of-requires c κs = search needs
-
-x-requires : tie.Need-x-requires
-x-requires c κs = search needs
-
-cast-x : tie.Need-cast-x
-cast-x c = search needs
-
-mul-if1 : tie.Need-mul-if1
-mul-if1 c = search needs
 
 array-read-if1 : tie.Need-array-read-if1
 array-read-if1 c =
@@ -151,9 +130,6 @@ gcd-requires c κs =
       nonzero = size-positive (p k) (at-x .x .result) _ first (c .before .if1 .left);
     }
 
-size-requires : tie.Need-size-requires
-size-requires c κs = search needs
-
 cast-t13 : tie.Need-cast-t13
 cast-t13 c = omega (arith, c .size .ensures, size-le 8 (c .before .gcd .result))
 
@@ -172,22 +148,22 @@ pub image-at-spec : {M : Type 1} → statement M
 image-at-spec =
     tie.close
     (tie.spec
-    shared-slice-read-powers
+    (λ c. search needs)
     powers-requires
-    shared-slice-read-powers-2
+    (λ c. search needs)
     powers-requires-2
-    shared-slice-read-powers-3
+    (λ c. search needs)
     powers-requires-3
     value-requires
     shared-slice-read-of
-    of-requires
-    x-requires
-    cast-x
-    mul-if1
+    (λ c κs. search needs)
+    (λ c κs. search needs)
+    (λ c. search needs)
+    (λ c. search needs)
     array-read-if1
     returns
     value-requires-2
     gcd-requires
-    size-requires
+    (λ c κs. search needs)
     cast-t13
     returns-2)

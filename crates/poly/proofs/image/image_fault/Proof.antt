@@ -4,17 +4,11 @@ use borrow.Author.Needs.{needs}
 use Rattle.poly.proofs.image.image_fault.Statement.{statement}
 use Rattle.poly.proofs.image.image_fault.Tie as tie
 
-lists-fault-requires : tie.Need-lists-fault-requires
-lists-fault-requires c κs = search needs
-
 returns : tie.Need-returns
 returns c = tested-stops _ _ _ (c .before .before .lists-fault .ensures) (c .if1 .taken)
-
-point-fault-requires : tie.Need-point-fault-requires
-point-fault-requires c κs = search needs
 
 returns-2 : tie.Need-returns-2
 returns-2 c = tested-goes-on _ _ _ (c .before .before .before .lists-fault .ensures) tt (c .before .if1 .left) (c .point-fault .ensures)
 
 pub image-fault-spec : {M : Type 1} → statement M
-image-fault-spec = tie.close (tie.spec lists-fault-requires returns point-fault-requires returns-2)
+image-fault-spec = tie.close (tie.spec (λ c κs. search needs) returns (λ c κs. search needs) returns-2)

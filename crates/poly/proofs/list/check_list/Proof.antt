@@ -4,11 +4,8 @@ use borrow.Author.Needs.{needs}
 use Rattle.poly.proofs.list.check_list.Statement.{statement}
 use Rattle.poly.proofs.list.check_list.Tie as tie
 
-list-fault-requires : tie.Need-list-fault-requires
-list-fault-requires c κs = search needs
-
 returns : tie.Need-returns
 returns c = tested-without-modulus (c .before .before .args .terms .now) (c .list-fault .ensures)
 
 pub check-list-spec : {M : Type 1} → statement M
-check-list-spec = tie.close (tie.spec list-fault-requires returns)
+check-list-spec = tie.close (tie.spec (λ c κs. search needs) returns)

@@ -16,38 +16,11 @@ Inv-loop terms top i₀ i = Searching (Lower terms) (length terms) i
 abbrev μ-loop : tie.MeasureT-loop
 μ-loop terms top i₀ i = length terms - i
 
-shared-slice-read-of : tie.Need-shared-slice-read-of Inv-loop μ-loop
-shared-slice-read-of c = search needs
-
-of-requires : tie.Need-of-requires Inv-loop μ-loop
-of-requires c κs = search needs
-
-x-requires : tie.Need-x-requires Inv-loop μ-loop
-x-requires c κs = search needs
-
 loop-holds : tie.Need-loop-holds Inv-loop μ-loop
 loop-holds c = search-begins
 
-mul-of : tie.Need-mul-of Inv-loop μ-loop
-mul-of c = search needs
-
-shared-slice-read-of-2 : tie.Need-shared-slice-read-of-2 Inv-loop μ-loop
-shared-slice-read-of-2 c = search needs
-
-of-requires-2 : tie.Need-of-requires-2 Inv-loop μ-loop
-of-requires-2 c κs = search needs
-
-x-requires-2 : tie.Need-x-requires-2 Inv-loop μ-loop
-x-requires-2 c κs = search needs
-
 returns : tie.Need-returns Inv-loop μ-loop
 returns c = search-stops (c .before .before .before .before .before .loop .inv) (omega arith)
-
-add-i : tie.Need-add-i Inv-loop μ-loop
-add-i c = search needs
-
-loop-less : tie.Need-loop-less Inv-loop μ-loop
-loop-less c = search needs
 
 loop-again : tie.Need-loop-again Inv-loop μ-loop
 loop-again c =
@@ -63,16 +36,16 @@ leading-length-spec =
     (tie.spec
     Inv-loop
     μ-loop
-    shared-slice-read-of
-    of-requires
-    x-requires
+    (λ c. search needs)
+    (λ c κs. search needs)
+    (λ c κs. search needs)
     loop-holds
-    mul-of
-    shared-slice-read-of-2
-    of-requires-2
-    x-requires-2
+    (λ c. search needs)
+    (λ c. search needs)
+    (λ c κs. search needs)
+    (λ c κs. search needs)
     returns
-    add-i
-    loop-less
+    (λ c. search needs)
+    (λ c. search needs)
     loop-again
     returns-2)

@@ -6,12 +6,6 @@ use borrow.Author.Needs.{needs}
 use Rattle.poly.proofs.list.leading_part.Statement.{statement}
 use Rattle.poly.proofs.list.leading_part.Tie as tie
 
-check-list-requires : tie.Need-check-list-requires
-check-list-requires c κs = search needs
-
-slice-aggregate-result : tie.Need-slice-aggregate-result
-slice-aggregate-result c = search needs
-
 returns : tie.Need-returns
 returns c =
     let tested = c .before .before .before in
@@ -42,8 +36,8 @@ pub leading-part-spec : {M : Type 1} → statement M
 leading-part-spec =
     tie.close
     (tie.spec
-    check-list-requires
-    slice-aggregate-result
+    (λ c κs. search needs)
+    (λ c. search needs)
     returns
     leading-length-requires
     slice-aggregate-result-2

@@ -12,32 +12,17 @@ use Rattle.poly.proofs.list.list_fault.Tie as tie
 counted : (c : tie.Else2) → ¬ Count most-terms (c .before .before .before .args .terms .now)
 counted c = well-counted most-terms (c .before .before .before .args .terms .now) (c .before .if1 .left) (omega arith)
 
-at-requires : tie.Need-at-requires
-at-requires c κs = search needs
-
 returns : tie.Need-returns
 returns c = count-wrong (inl (c .before .if1 .taken)) (c .at .ensures)
 
-at-requires-2 : tie.Need-at-requires-2
-at-requires-2 c κs = search needs
-
 returns-2 : tie.Need-returns-2
 returns-2 c = count-wrong (inr (omega arith)) (c .at2 .ensures)
-
-first-wrong-requires : tie.Need-first-wrong-requires
-first-wrong-requires c κs = search needs
-
-at-requires-3 : tie.Need-at-requires-3
-at-requires-3 c κs = search needs
 
 returns-3 : tie.Need-returns-3
 returns-3 c =
     let then3 = c .before in
     let else2 = then3 .before .before in
     place-wrong (counted else2) (wrong-beyond _ _) (then3 .before .first-wrong .ensures) (then3 .if3 .taken) (c .at3 .ensures)
-
-none-requires : tie.Need-none-requires
-none-requires c κs = search needs
 
 returns-4 : tie.Need-returns-4
 returns-4 c =
@@ -49,12 +34,12 @@ pub list-fault-spec : {M : Type 1} → statement M
 list-fault-spec =
     tie.close
     (tie.spec
-    at-requires
+    (λ c κs. search needs)
     returns
-    at-requires-2
+    (λ c κs. search needs)
     returns-2
-    first-wrong-requires
-    at-requires-3
+    (λ c κs. search needs)
+    (λ c κs. search needs)
     returns-3
-    none-requires
+    (λ c κs. search needs)
     returns-4)

@@ -12,28 +12,16 @@ use Rattle.poly.proofs.list.lists_fault.Tie as tie
 is-listed : (c : tie.Else1) → Listed (c .before .before .before .before .args .p)
 is-listed c = sym (c .before .is-modulus .ensures) ∙ not-false _ (c .if1 .left)
 
-is-modulus-requires : tie.Need-is-modulus-requires
-is-modulus-requires c κs = search needs
-
-at-requires : tie.Need-at-requires
-at-requires c κs = search needs
-
 returns : tie.Need-returns
 returns c =
     let not-listed = sym (c .before .before .is-modulus .ensures) ∙ not-true _ (c .before .if1 .taken) in
     tested-line 0 (unlisted _ not-listed, refl) (c .at .ensures)
-
-list-fault-requires : tie.Need-list-fault-requires
-list-fault-requires c κs = search needs
 
 returns-2 : tie.Need-returns-2
 returns-2 c =
     let first = c .before .before in
     tested-past (placed-never (λ n. n (is-listed (first .before))))
     (tested-stops _ _ _ (first .list-fault .ensures) (c .if2 .taken))
-
-list-fault-requires-2 : tie.Need-list-fault-requires-2
-list-fault-requires-2 c κs = search needs
 
 returns-3 : tie.Need-returns-3
 returns-3 c =
@@ -45,10 +33,10 @@ pub lists-fault-spec : {M : Type 1} → statement M
 lists-fault-spec =
     tie.close
     (tie.spec
-    is-modulus-requires
-    at-requires
+    (λ c κs. search needs)
+    (λ c κs. search needs)
     returns
-    list-fault-requires
+    (λ c κs. search needs)
     returns-2
-    list-fault-requires-2
+    (λ c κs. search needs)
     returns-3)

@@ -5,25 +5,13 @@ use borrow.Author.Needs.{needs}
 use Rattle.poly.proofs.points.point_fault.Statement.{statement}
 use Rattle.poly.proofs.points.point_fault.Tie as tie
 
-at-requires : tie.Need-at-requires
-at-requires c κs = search needs
-
 returns : tie.Need-returns
 returns c = count-wrong (c .before .if1 .taken) (c .at .ensures)
-
-first-large-requires : tie.Need-first-large-requires
-first-large-requires c κs = search needs
-
-at-requires-2 : tie.Need-at-requires-2
-at-requires-2 c κs = search needs
 
 returns-2 : tie.Need-returns-2
 returns-2 c =
     let search = c .before .before in
     place-wrong (λ n. n (search .before .if1 .left)) (numbers-end _ _) (search .first-large .ensures) (c .before .if2 .taken) (c .at2 .ensures)
-
-none-requires : tie.Need-none-requires
-none-requires c κs = search needs
 
 returns-3 : tie.Need-returns-3
 returns-3 c =
@@ -34,10 +22,10 @@ pub point-fault-spec : {M : Type 1} → statement M
 point-fault-spec =
     tie.close
     (tie.spec
-    at-requires
+    (λ c κs. search needs)
     returns
-    first-large-requires
-    at-requires-2
+    (λ c κs. search needs)
+    (λ c κs. search needs)
     returns-2
-    none-requires
+    (λ c κs. search needs)
     returns-3)

@@ -33,23 +33,11 @@ room-long d = omega (arith, passed-lists (lent (start d)) (start d .pre) .room)
 begun : (l : tie.After-clear) → l .clear .last .1 .0 ≡ zeroed work-room (opened l .args .work .now)
 begun l = zeroed-all work-room (opened l .args .work .now) (passed-lists (lent (opened l)) (opened l .pre) .room) (l .clear .ensures)
 
-clear-requires : tie.Need-clear-requires
-clear-requires c κs = search needs
-
 divide-requires : tie.Need-divide-requires
 divide-requires c κs =
     let l = c .before .before .before in
     let z = opened l in
     rw (begun l) (exact-begins (lent z) (z .pre))
-
-clear-requires-2 : tie.Need-clear-requires-2
-clear-requires-2 c κs = search needs
-
-at-requires : tie.Need-at-requires
-at-requires c κs = search needs
-
-same-length : tie.Need-same-length
-same-length c = search needs
 
 returns : tie.Need-returns
 returns c =
@@ -61,12 +49,6 @@ returns c =
     exact-none (lent z) (z .pre) _ _ _ (d .divide .result) (begun l) (d .divide .ensures) (zeroed-all work-room _ (room-long d) (e .clear2 .ensures))
     (not-true _ (t .if1 .taken)) (c .at .ensures)
 
-sub-gather : tie.Need-sub-gather
-sub-gather c = search needs
-
-part-gather-start : tie.Need-part-gather-start
-part-gather-start c = search needs
-
 part-gather-end : tie.Need-part-gather-end
 part-gather-end c = room-long (c .before .before .before .before)
 
@@ -75,18 +57,6 @@ gather-requires c κs =
     let d = c .before .before .before .before .before .before in
     let long = quotient-long (d .divide .last .1 .1 .1 .0) (room-long d) in
     record { few = omega (arith, long); room = omega (arith, long, passed-output (lent (start d)) (start d .pre)) }
-
-clear-requires-3 : tie.Need-clear-requires-3
-clear-requires-3 c κs = search needs
-
-none-requires : tie.Need-none-requires
-none-requires c κs = search needs
-
-same-length-2 : tie.Need-same-length-2
-same-length-2 c = search needs
-
-same-length-3 : tie.Need-same-length-3
-same-length-3 c = search needs
 
 returns-2 : tie.Need-returns-2
 returns-2 c =
@@ -104,18 +74,18 @@ pub exact-spec : {M : Type 1} → statement M
 exact-spec =
     tie.close
     (tie.spec
-    clear-requires
+    (λ c κs. search needs)
     divide-requires
-    clear-requires-2
-    at-requires
-    same-length
+    (λ c κs. search needs)
+    (λ c κs. search needs)
+    (λ c. search needs)
     returns
-    sub-gather
-    part-gather-start
+    (λ c. search needs)
+    (λ c. search needs)
     part-gather-end
     gather-requires
-    clear-requires-3
-    none-requires
-    same-length-2
-    same-length-3
+    (λ c κs. search needs)
+    (λ c κs. search needs)
+    (λ c. search needs)
+    (λ c. search needs)
     returns-2)

@@ -32,21 +32,6 @@ room c =
 loop-holds : tie.Need-loop-holds Inv-loop μ-loop
 loop-holds c = record { few = omega arith; same-length = refl; terms = refl; rest = refl }
 
-sub-k : tie.Need-sub-k Inv-loop μ-loop
-sub-k c = search needs
-
-mul-c : tie.Need-mul-c Inv-loop μ-loop
-mul-c c = search needs
-
-shared-slice-read-c : tie.Need-shared-slice-read-c Inv-loop μ-loop
-shared-slice-read-c c = search needs
-
-cast-term : tie.Need-cast-term Inv-loop μ-loop
-cast-term c = search needs
-
-term-requires : tie.Need-term-requires Inv-loop μ-loop
-term-requires c κs = search needs
-
 mul-out : tie.Need-mul-out Inv-loop μ-loop
 mul-out c =
     let a = c .before .before .before .before in
@@ -54,12 +39,6 @@ mul-out c =
 
 slice-write-out : tie.Need-slice-write-out Inv-loop μ-loop
 slice-write-out c = room c
-
-add-n : tie.Need-add-n Inv-loop μ-loop
-add-n c = search needs
-
-loop-less : tie.Need-loop-less Inv-loop μ-loop
-loop-less c = search needs
 
 loop-again : tie.Need-loop-again Inv-loop μ-loop
 loop-again c =
@@ -73,9 +52,6 @@ loop-again c =
           (c .before .if1 .taken) (room c) (c .term .ensures);
       rest = drop-written (a .loop .out) (x .out .now) (a .loop .n) (c .term .result) (a .loop .inv .rest);
     }
-
-loop-less-2 : tie.Need-loop-less-2 Inv-loop μ-loop
-loop-less-2 c = search needs
 
 loop-again-2 : tie.Need-loop-again-2 Inv-loop μ-loop
 loop-again-2 c =
@@ -108,17 +84,17 @@ gather-spec =
     Inv-loop
     μ-loop
     loop-holds
-    sub-k
-    mul-c
-    shared-slice-read-c
-    cast-term
-    term-requires
+    (λ c. search needs)
+    (λ c. search needs)
+    (λ c. search needs)
+    (λ c. search needs)
+    (λ c κs. search needs)
     mul-out
     slice-write-out
-    add-n
-    loop-less
+    (λ c. search needs)
+    (λ c. search needs)
     loop-again
-    loop-less-2
+    (λ c. search needs)
     loop-again-2
     same-length
     returns)

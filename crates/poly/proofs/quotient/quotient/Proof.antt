@@ -9,9 +9,6 @@ use Rattle.poly.proofs.quotient.quotient.Tie as tie
 abbrev lent : tie.Start → QuotientCall
 lent z = quotient-call (z .args .p) (z .args .first .now) (z .args .second .now) (z .args .out .now) (z .args .work .now)
 
-quotient-fault-requires : tie.Need-quotient-fault-requires
-quotient-fault-requires c κs = search needs
-
 returns : tie.Need-returns
 returns c =
     let t = c .before .before in
@@ -25,16 +22,10 @@ exact-requires c κs =
     let z = t .before .before .before .before .before in
     tested-passes (quotient-table (lent z)) tt (t .quotient-fault .result) (t .quotient-fault .ensures) (e .if1 .left) .0
 
-same-length : tie.Need-same-length
-same-length c = search needs
-
-same-length-2 : tie.Need-same-length-2
-same-length-2 c = search needs
-
 returns-2 : tie.Need-returns-2
 returns-2 c = c .before .before .before .before .exact .ensures
 
 pub quotient-spec : {M : Type 1} → statement M
 quotient-spec =
     tie.close
-    (tie.spec quotient-fault-requires returns exact-requires same-length same-length-2 returns-2)
+    (tie.spec (λ c κs. search needs) returns exact-requires (λ c. search needs) (λ c. search needs) returns-2)

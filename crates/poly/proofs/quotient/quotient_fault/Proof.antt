@@ -4,14 +4,8 @@ use borrow.Author.Needs.{needs}
 use Rattle.poly.proofs.quotient.quotient_fault.Statement.{statement}
 use Rattle.poly.proofs.quotient.quotient_fault.Tie as tie
 
-lists-fault-requires : tie.Need-lists-fault-requires
-lists-fault-requires c κs = search needs
-
 returns : tie.Need-returns
 returns c = tested-stops _ _ _ (c .before .before .lists-fault .ensures) (c .if1 .taken)
-
-rooms-fault-requires : tie.Need-rooms-fault-requires
-rooms-fault-requires c κs = search needs
 
 returns-2 : tie.Need-returns-2
 returns-2 c =
@@ -19,4 +13,4 @@ returns-2 c =
     tested-goes-on _ _ _ (e .before .before .lists-fault .ensures) tt (e .if1 .left) (c .rooms-fault .ensures)
 
 pub quotient-fault-spec : {M : Type 1} → statement M
-quotient-fault-spec = tie.close (tie.spec lists-fault-requires returns rooms-fault-requires returns-2)
+quotient-fault-spec = tie.close (tie.spec (λ c κs. search needs) returns (λ c κs. search needs) returns-2)

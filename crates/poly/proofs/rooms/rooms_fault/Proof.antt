@@ -6,21 +6,12 @@ use borrow.Author.Needs.{needs}
 use Rattle.poly.proofs.rooms.rooms_fault.Statement.{statement}
 use Rattle.poly.proofs.rooms.rooms_fault.Tie as tie
 
-at-requires : tie.Need-at-requires
-at-requires c κs = search needs
-
 returns : tie.Need-returns
 returns c = tested-line 0 (c .before .if1 .taken, refl) (c .at .ensures)
-
-at-requires-2 : tie.Need-at-requires-2
-at-requires-2 c κs = search needs
 
 returns-2 : tie.Need-returns-2
 returns-2 c =
     tested-past (placed-never (λ l. let m = c .before .before .if1 .left in omega arith)) (tested-line 0 (c .before .if2 .taken, refl) (c .at2 .ensures))
-
-none-requires : tie.Need-none-requires
-none-requires c κs = search needs
 
 returns-3 : tie.Need-returns-3
 returns-3 c =
@@ -29,4 +20,4 @@ returns-3 c =
 
 pub rooms-fault-spec : {M : Type 1} → statement M
 rooms-fault-spec =
-    tie.close (tie.spec at-requires returns at-requires-2 returns-2 none-requires returns-3)
+    tie.close (tie.spec (λ c κs. search needs) returns (λ c κs. search needs) returns-2 (λ c κs. search needs) returns-3)

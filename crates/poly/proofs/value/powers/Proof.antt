@@ -30,35 +30,8 @@ loop-holds c =
     let a = c .args in
     (omega arith, filled-start {old = ones} (omega arith) refl (power-start (a .p) (a .y) ones refl))
 
-sub-of : tie.Need-sub-of Inv-loop μ-loop
-sub-of c = search needs
-
-mul-of : tie.Need-mul-of Inv-loop μ-loop
-mul-of c = search needs
-
-array-read-of : tie.Need-array-read-of Inv-loop μ-loop
-array-read-of c = search needs
-
-of-requires : tie.Need-of-requires Inv-loop μ-loop
-of-requires c κs = search needs
-
-of-requires-2 : tie.Need-of-requires-2 Inv-loop μ-loop
-of-requires-2 c κs = search needs
-
 product-requires : tie.Need-product-requires Inv-loop μ-loop
 product-requires c κs = has-modulus (c .before .of .ensures) (c .before .before .before .before .pre)
-
-mul-r : tie.Need-mul-r Inv-loop μ-loop
-mul-r c = search needs
-
-array-write-r : tie.Need-array-write-r Inv-loop μ-loop
-array-write-r c = search needs
-
-add-i : tie.Need-add-i Inv-loop μ-loop
-add-i c = search needs
-
-loop-less : tie.Need-loop-less Inv-loop μ-loop
-loop-less c = search needs
 
 loop-again : tie.Need-loop-again Inv-loop μ-loop
 loop-again c =
@@ -87,15 +60,15 @@ powers-spec =
     Inv-loop
     μ-loop
     loop-holds
-    sub-of
-    mul-of
-    array-read-of
-    of-requires
-    of-requires-2
+    (λ c. search needs)
+    (λ c. search needs)
+    (λ c. search needs)
+    (λ c κs. search needs)
+    (λ c κs. search needs)
     product-requires
-    mul-r
-    array-write-r
-    add-i
-    loop-less
+    (λ c. search needs)
+    (λ c. search needs)
+    (λ c. search needs)
+    (λ c. search needs)
     loop-again
     returns)

@@ -1,5 +1,4 @@
 -- `poly::value::value` meets its contract: the loop keeps the model's answer on the terms that are left (`Valuing`); the measure is their number.
---
 use borrow.Author.Needs.{needs}
 use mathlib.Core.Path.{_≡_, sym, ap, ap₂, _∙_, subst}
 use Prim.Native.Nat.{ℕ, _+_, _-_, _*_, _/_, _%_, _<_}
@@ -73,92 +72,17 @@ one-more c = omega arith
 loop-holds : tie.Need-loop-holds Inv-loop μ-loop
 loop-holds c = record { numbers = zeros-eight (c .before .args .p) (omega (arith, c .before .pre .y-powers .below 0)); folding = folding-start }
 
-mul-t : tie.Need-mul-t Inv-loop μ-loop
-mul-t c = search needs
-
-shared-slice-read-t : tie.Need-shared-slice-read-t Inv-loop μ-loop
-shared-slice-read-t c = search needs
-
-of-requires : tie.Need-of-requires Inv-loop μ-loop
-of-requires c κs = search needs
-
-x-requires : tie.Need-x-requires Inv-loop μ-loop
-x-requires c κs = search needs
-
-cast-x : tie.Need-cast-x Inv-loop μ-loop
-cast-x c = search needs
-
-coefficient-of-requires : tie.Need-coefficient-of-requires Inv-loop μ-loop
-coefficient-of-requires c κs = search needs
-
-of-requires-2 : tie.Need-of-requires-2 Inv-loop μ-loop
-of-requires-2 c κs = search needs
-
-y-requires : tie.Need-y-requires Inv-loop μ-loop
-y-requires c κs = search needs
-
-cast-of : tie.Need-cast-of Inv-loop μ-loop
-cast-of c = search needs
-
-mul-of : tie.Need-mul-of Inv-loop μ-loop
-mul-of c = search needs
-
-array-read-of : tie.Need-array-read-of Inv-loop μ-loop
-array-read-of c = search needs
-
-of-requires-3 : tie.Need-of-requires-3 Inv-loop μ-loop
-of-requires-3 c κs = search needs
-
 product-requires : tie.Need-product-requires Inv-loop μ-loop
 product-requires c κs = has-modulus (c .before .before .of2 .ensures) (positive (c .before .before .before .before))
-
-z-requires : tie.Need-z-requires Inv-loop μ-loop
-z-requires c κs = search needs
-
-cast-of-2 : tie.Need-cast-of-2 Inv-loop μ-loop
-cast-of-2 c = search needs
-
-mul-of-2 : tie.Need-mul-of-2 Inv-loop μ-loop
-mul-of-2 c = search needs
-
-array-read-of-2 : tie.Need-array-read-of-2 Inv-loop μ-loop
-array-read-of-2 c = search needs
-
-of-requires-4 : tie.Need-of-requires-4 Inv-loop μ-loop
-of-requires-4 c κs = search needs
 
 product-requires-2 : tie.Need-product-requires-2 Inv-loop μ-loop
 product-requires-2 c κs = has-modulus (first (c .before .before)) (positive (c .before .before .before .before .before .before .before))
 
-w-requires : tie.Need-w-requires Inv-loop μ-loop
-w-requires c κs = search needs
-
-cast-of-3 : tie.Need-cast-of-3 Inv-loop μ-loop
-cast-of-3 c = search needs
-
-mul-of-3 : tie.Need-mul-of-3 Inv-loop μ-loop
-mul-of-3 c = search needs
-
-array-read-of-3 : tie.Need-array-read-of-3 Inv-loop μ-loop
-array-read-of-3 c = search needs
-
-of-requires-5 : tie.Need-of-requires-5 Inv-loop μ-loop
-of-requires-5 c κs = search needs
-
-mul-of-4 : tie.Need-mul-of-4 Inv-loop μ-loop
-mul-of-4 c = search needs
-
 array-read-of-4 : tie.Need-array-read-of-4 Inv-loop μ-loop
 array-read-of-4 c = let l = x-small (at-x (c .before)) in omega arith
 
-of-requires-6 : tie.Need-of-requires-6 Inv-loop μ-loop
-of-requires-6 c κs = search needs
-
 plus-product-requires : tie.Need-plus-product-requires Inv-loop μ-loop
 plus-product-requires c κs = has-modulus (c .of6 .ensures) (positive (at-x (c .before .before)))
-
-mul-r : tie.Need-mul-r Inv-loop μ-loop
-mul-r c = search needs
 
 array-write-r : tie.Need-array-write-r Inv-loop μ-loop
 array-write-r c = let l = x-small (at-x (c .before .before .before)) in omega arith
@@ -204,35 +128,35 @@ value-spec =
     Inv-loop
     μ-loop
     loop-holds
-    mul-t
-    shared-slice-read-t
-    of-requires
-    x-requires
-    cast-x
-    coefficient-of-requires
-    of-requires-2
-    y-requires
-    cast-of
-    mul-of
-    array-read-of
-    of-requires-3
+    (λ c. search needs)
+    (λ c. search needs)
+    (λ c κs. search needs)
+    (λ c κs. search needs)
+    (λ c. search needs)
+    (λ c κs. search needs)
+    (λ c κs. search needs)
+    (λ c κs. search needs)
+    (λ c. search needs)
+    (λ c. search needs)
+    (λ c. search needs)
+    (λ c κs. search needs)
     product-requires
-    z-requires
-    cast-of-2
-    mul-of-2
-    array-read-of-2
-    of-requires-4
+    (λ c κs. search needs)
+    (λ c. search needs)
+    (λ c. search needs)
+    (λ c. search needs)
+    (λ c κs. search needs)
     product-requires-2
-    w-requires
-    cast-of-3
-    mul-of-3
-    array-read-of-3
-    of-requires-5
-    mul-of-4
+    (λ c κs. search needs)
+    (λ c. search needs)
+    (λ c. search needs)
+    (λ c. search needs)
+    (λ c κs. search needs)
+    (λ c. search needs)
     array-read-of-4
-    of-requires-6
+    (λ c κs. search needs)
     plus-product-requires
-    mul-r
+    (λ c. search needs)
     array-write-r
     add-i
     loop-less
