@@ -102,23 +102,11 @@ settle-requires c κs =
     let v = c .before .before .solution in
     ready-verdict (good (c .before .before .before .before .before)) (t .result) (t .ensures) (v .result) (v .ensures)
 
-at-requires : tie.Need-at-requires
-at-requires c κs = search needs
-
-cast-t17 : tie.Need-cast-t17
-cast-t17 c = search needs
-
-sub-t30 : tie.Need-sub-t30
-sub-t30 c = search needs
-
 sub-t31 : tie.Need-sub-t31
 sub-t31 c = omega (arith, fit (counted (c .before .before .before .before .before)))
 
 sub-t32 : tie.Need-sub-t32
 sub-t32 c = omega (arith, fit (counted (c .before .before .before .before .before)))
-
-same-length-2 : tie.Need-same-length-2
-same-length-2 c = search needs
 
 same-length-3 : tie.Need-same-length-3
 same-length-3 c =
@@ -138,4 +126,5 @@ returns-2 c =
 pub answer-spec : {M : Type 1} → statement M
 answer-spec =
     tie.close (tie.spec look-requires least-size-requires no-good-point-requires same-length returns alike-requires alike-requires-2 add-columns
-    equations-requires solution-requires settle-requires at-requires cast-t17 sub-t30 sub-t31 sub-t32 same-length-2 same-length-3 returns-2)
+    equations-requires solution-requires settle-requires (λ c κs. search needs) (λ c. search needs) (λ c. search needs) sub-t31 sub-t32
+    (λ c. search needs) same-length-3 returns-2)

@@ -15,12 +15,6 @@ question s =
 abbrev start : tie.After-candidate-fault → tie.Start
 start f = f .before .before .before .before .before .before .before
 
-candidate-fault-requires : tie.Need-candidate-fault-requires
-candidate-fault-requires c κs = search needs
-
-refused-requires : tie.Need-refused-requires
-refused-requires c κs = search needs
-
 returns : tie.Need-returns
 returns c =
     let test = c .before in
@@ -34,14 +28,9 @@ answer-requires c κs =
     let f = test .before .before in
     tested-passes (table (question (start f))) tt _ (f .candidate-fault .ensures) (test .if1 .left) .0
 
-same-length : tie.Need-same-length
-same-length c = search needs
-
-same-length-2 : tie.Need-same-length-2
-same-length-2 c = search needs
-
 returns-2 : tie.Need-returns-2
 returns-2 c = c .before .before .before .before .answer .ensures
 
 pub candidate-spec : {M : Type 1} → statement M
-candidate-spec = tie.close (tie.spec candidate-fault-requires refused-requires returns answer-requires same-length same-length-2 returns-2)
+candidate-spec =
+    tie.close (tie.spec (λ c κs. search needs) (λ c κs. search needs) returns answer-requires (λ c. search needs) (λ c. search needs) returns-2)

@@ -7,15 +7,6 @@ use Rattle.poly.specs.rooms.Laws.{zeroed-all}
 use Rattle.divisor.proofs.no_good_point.Statement.{statement}
 use Rattle.divisor.proofs.no_good_point.Tie as tie
 
-clear-requires : tie.Need-clear-requires
-clear-requires c κs = search needs
-
-at-requires : tie.Need-at-requires
-at-requires c κs = search needs
-
-same-length : tie.Need-same-length
-same-length c = search needs
-
 returns : tie.Need-returns
 returns c =
     let s = c .before .before .before .before .before .before in
@@ -25,4 +16,5 @@ returns c =
     }
 
 pub no-good-point-spec : {M : Type 1} → statement M
-no-good-point-spec = tie.close (tie.spec clear-requires at-requires same-length returns)
+no-good-point-spec =
+    tie.close (tie.spec (λ c κs. search needs) (λ c κs. search needs) (λ c. search needs) returns)

@@ -4,14 +4,9 @@ use Rattle.handheld.specs.Layout.{laid}
 use Rattle.handheld.proofs.balungkiro_difference.Statement.{statement}
 use Rattle.handheld.proofs.balungkiro_difference.Tie as tie
 
-ask-difference-requires : tie.Need-ask-difference-requires
-ask-difference-requires c κs = search needs
-
-answer-numbers-requires : tie.Need-answer-numbers-requires
-answer-numbers-requires c κs = search needs
-
 returns : tie.Need-returns
 returns c = rw (c .answer-numbers .ensures) (laid _ (c .before .ask-difference .ensures))
 
 pub balungkiro-difference-spec : {M : Type 1} → statement M
-balungkiro-difference-spec = tie.close (tie.spec ask-difference-requires answer-numbers-requires returns)
+balungkiro-difference-spec =
+    tie.close (tie.spec (λ c κs. search needs) (λ c κs. search needs) returns)

@@ -4,14 +4,9 @@ use Rattle.handheld.specs.Layout.{laid}
 use Rattle.handheld.proofs.balungkiro_inverse.Statement.{statement}
 use Rattle.handheld.proofs.balungkiro_inverse.Tie as tie
 
-ask-inverse-requires : tie.Need-ask-inverse-requires
-ask-inverse-requires c κs = search needs
-
-answer-numbers-requires : tie.Need-answer-numbers-requires
-answer-numbers-requires c κs = search needs
-
 returns : tie.Need-returns
 returns c = rw (c .answer-numbers .ensures) (laid _ (c .before .ask-inverse .ensures))
 
 pub balungkiro-inverse-spec : {M : Type 1} → statement M
-balungkiro-inverse-spec = tie.close (tie.spec ask-inverse-requires answer-numbers-requires returns)
+balungkiro-inverse-spec =
+    tie.close (tie.spec (λ c κs. search needs) (λ c κs. search needs) returns)

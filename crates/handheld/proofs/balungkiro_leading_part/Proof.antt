@@ -4,11 +4,9 @@ use Rattle.handheld.specs.Layout.{laid}
 use Rattle.handheld.proofs.balungkiro_leading_part.Statement.{statement}
 use Rattle.handheld.proofs.balungkiro_leading_part.Tie as tie
 
-leading-part-requires : tie.Need-leading-part-requires
-leading-part-requires c κs = search needs
-
 returns : tie.Need-returns
 returns c = laid _ (c .leading-part .ensures .leading)
 
 pub balungkiro-leading-part-spec : {M : Type 1} → statement M
-balungkiro-leading-part-spec = tie.close (tie.spec leading-part-requires returns)
+balungkiro-leading-part-spec =
+    tie.close (tie.spec (λ c κs. search needs) returns)

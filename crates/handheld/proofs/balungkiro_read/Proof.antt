@@ -5,19 +5,11 @@ use Rattle.handheld.specs.Layout.{laid}
 use Rattle.handheld.proofs.balungkiro_read.Statement.{statement}
 use Rattle.handheld.proofs.balungkiro_read.Tie as tie
 
-read-into-requires : tie.Need-read-into-requires
-read-into-requires c κs = search needs
-
-cast-t12 : tie.Need-cast-t12
-cast-t12 c = search needs
-
-cast-t13 : tie.Need-cast-t13
-cast-t13 c = search needs
-
 returns : tie.Need-returns
 returns c =
     let g = c .before .before .before .read-into .ensures in
     rw (g .record-is, g .first-is, g .second-is, g .skeleton-is, g .points-is) (laid _ refl)
 
 pub balungkiro-read-spec : {M : Type 1} → statement M
-balungkiro-read-spec = tie.close (tie.spec read-into-requires cast-t12 cast-t13 returns)
+balungkiro-read-spec =
+    tie.close (tie.spec (λ c κs. search needs) (λ c. search needs) (λ c. search needs) returns)

@@ -4,15 +4,6 @@ use Rattle.console.specs.input.Lists.{lists-read}
 use Rattle.image.proofs.print_images_of.Statement.{statement}
 use Rattle.image.proofs.print_images_of.Tie as tie
 
-read-into-requires : tie.Need-read-into-requires
-read-into-requires c κs = search needs
-
-fault-requires : tie.Need-fault-requires
-fault-requires c κs = search needs
-
-returns : tie.Need-returns
-returns c = search needs
-
 array-share-prefix-first : tie.Need-array-share-prefix-first
 array-share-prefix-first c = lists-read (c .before .before .before .read-into .ensures) .first-list .counts .0
 
@@ -31,24 +22,8 @@ array-share-prefix-points c = lists-read (c .before .before .before .before .bef
 slice-aggregate-print-images-3 : tie.Need-slice-aggregate-print-images-3
 slice-aggregate-print-images-3 c = lists-read (c .before .before .before .before .before .before .read-into .ensures) .point-list .counts .1
 
-print-images-requires : tie.Need-print-images-requires
-print-images-requires c κs = search needs
-
-returns-2 : tie.Need-returns-2
-returns-2 c = search needs
-
 pub print-images-of-spec : {M : Type 1} → statement M
 print-images-of-spec =
-    tie.close
-    (tie.spec
-    read-into-requires
-    fault-requires
-    returns
-    array-share-prefix-first
-    slice-aggregate-print-images
-    array-share-prefix-second
-    slice-aggregate-print-images-2
-    array-share-prefix-points
-    slice-aggregate-print-images-3
-    print-images-requires
-    returns-2)
+    tie.close (tie.spec (λ c κs. search needs) (λ c κs. search needs) (λ c. search needs) array-share-prefix-first slice-aggregate-print-images
+    array-share-prefix-second slice-aggregate-print-images-2 array-share-prefix-points slice-aggregate-print-images-3 (λ c κs. search needs)
+    (λ c. search needs))

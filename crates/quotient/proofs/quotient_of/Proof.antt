@@ -5,9 +5,6 @@ use Rattle.quotient.specs.answer.Quotient.{quotient-refused, quotient-as
 use Rattle.quotient.proofs.quotient_of.Statement.{statement}
 use Rattle.quotient.proofs.quotient_of.Tie as tie
 
-read-into-requires : tie.Need-read-into-requires
-read-into-requires c κs = search needs
-
 returns : tie.Need-returns
 returns c = quotient-refused _ _ _ _ _ _ _ _ (c .before .before .before .read-into .ensures) (c .if1 .taken)
 
@@ -23,15 +20,6 @@ array-share-prefix-second c = lists-read (c .before .before .before .before .rea
 slice-aggregate-quotient-2 : tie.Need-slice-aggregate-quotient-2
 slice-aggregate-quotient-2 c = lists-read (c .before .before .before .before .before .read-into .ensures) .second-list .counts .1
 
-quotient-requires : tie.Need-quotient-requires
-quotient-requires c κs = search needs
-
-same-length : tie.Need-same-length
-same-length c = search needs
-
-same-length-2 : tie.Need-same-length-2
-same-length-2 c = search needs
-
 returns-2 : tie.Need-returns-2
 returns-2 c =
     let asked = c .before .before .before .before in
@@ -40,15 +28,5 @@ returns-2 c =
 
 pub quotient-of-spec : {M : Type 1} → statement M
 quotient-of-spec =
-    tie.close
-    (tie.spec
-    read-into-requires
-    returns
-    array-share-prefix-first
-    slice-aggregate-quotient
-    array-share-prefix-second
-    slice-aggregate-quotient-2
-    quotient-requires
-    same-length
-    same-length-2
-    returns-2)
+    tie.close (tie.spec (λ c κs. search needs) returns array-share-prefix-first slice-aggregate-quotient array-share-prefix-second
+    slice-aggregate-quotient-2 (λ c κs. search needs) (λ c. search needs) (λ c. search needs) returns-2)

@@ -7,9 +7,6 @@ use Rattle.case_file.specs.Handed.{padded}
 use Rattle.case_file.proofs.reader.nothing.Statement.{statement}
 use Rattle.case_file.proofs.reader.nothing.Tie as tie
 
-at-requires : tie.Need-at-requires
-at-requires c κs = search needs
-
 returns : tie.Need-returns
 unfolding kind-of flat padded
 returns c = record {
@@ -21,4 +18,5 @@ returns c = record {
 }
 
 pub nothing-spec : {M : Type 1} → statement M
-nothing-spec = tie.close (tie.spec at-requires returns)
+nothing-spec =
+    tie.close (tie.spec (λ c κs. search needs) returns)

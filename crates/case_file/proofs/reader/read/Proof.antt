@@ -3,13 +3,11 @@ use borrow.Author.Needs.{needs}
 use Rattle.case_file.proofs.reader.read.Statement.{statement}
 use Rattle.case_file.proofs.reader.read.Tie as tie
 
-read-into-requires : tie.Need-read-into-requires
-read-into-requires c κs = search needs
-
 returns : tie.Need-returns
 returns c =
     let g = c .before .read-into .ensures in
     rw (g .record-is, g .first-is, g .second-is, g .skeleton-is, g .points-is)
 
 pub read-spec : {M : Type 1} → statement M
-read-spec = tie.close (tie.spec read-into-requires returns)
+read-spec =
+    tie.close (tie.spec (λ c κs. search needs) returns)

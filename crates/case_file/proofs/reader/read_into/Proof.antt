@@ -4,9 +4,6 @@ use Rattle.case_file.specs.reader.Alone.{nothing-after, refused-before, 
 use Rattle.case_file.proofs.reader.read_into.Statement.{statement}
 use Rattle.case_file.proofs.reader.read_into.Tie as tie
 
-read-one-into-requires : tie.Need-read-one-into-requires
-read-one-into-requires c κs = search needs
-
 -- in what follows d is the place after the case was read, start the call
 returns : tie.Need-returns
 returns c =
@@ -20,9 +17,6 @@ returns-2 c =
     let start = d .before .before .before .before .before .before in
     refused-before (start .args .bytes .now) (d .read-one-into .ensures) (c .if2 .taken)
 
-nothing-requires : tie.Need-nothing-requires
-nothing-requires c κs = search needs
-
 returns-3 : tie.Need-returns-3
 returns-3 c =
     let t = c .before .before .before .before .before in
@@ -32,4 +26,4 @@ returns-3 c =
 
 pub read-into-spec : {M : Type 1} → statement M
 read-into-spec =
-    tie.close (tie.spec read-one-into-requires returns returns-2 nothing-requires returns-3)
+    tie.close (tie.spec (λ c κs. search needs) returns returns-2 (λ c κs. search needs) returns-3)

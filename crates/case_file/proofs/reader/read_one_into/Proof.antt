@@ -18,28 +18,10 @@ abbrev μ-loop : tie.MeasureT-loop
 μ-loop bytes first₀ second₀ skeleton₀ points₀ counts₀ before₀ at₀ first second skeleton points counts before at =
     length bytes - at
 
-nothing-requires : tie.Need-nothing-requires Inv-loop μ-loop
-nothing-requires c κs = search needs
-
 loop-holds : tie.Need-loop-holds Inv-loop μ-loop
 loop-holds c =
     let start = c .before .before .before .before .before .before in
     begun (start .args .bytes .now) (c .nothing .ensures)
-
-shared-slice-read-kind : tie.Need-shared-slice-read-kind Inv-loop μ-loop
-shared-slice-read-kind c = search needs
-
-add-start : tie.Need-add-start Inv-loop μ-loop
-add-start c = search needs
-
-sub-fault-of : tie.Need-sub-fault-of Inv-loop μ-loop
-sub-fault-of c = search needs
-
-fault-of-requires : tie.Need-fault-of-requires Inv-loop μ-loop
-fault-of-requires c κs = search needs
-
-nothing-requires-2 : tie.Need-nothing-requires-2 Inv-loop μ-loop
-nothing-requires-2 c κs = search needs
 
 -- in what follows d is the place where a record was tested, l the loop's entry before it, t the branch behind it
 returns : tie.Need-returns Inv-loop μ-loop
@@ -96,9 +78,6 @@ loop-again c =
     rw (c .body .ensures)
     (carried (l .before .loop .inv) (l .loop-test .taken) (d .fault-of .ensures) (t .before .if1 .left) (t .if2 .left) (c .before .with-record .ensures))
 
-nothing-requires-3 : tie.Need-nothing-requires-3 Inv-loop μ-loop
-nothing-requires-3 c κs = search needs
-
 returns-3 : tie.Need-returns-3 Inv-loop μ-loop
 returns-3 c =
     let l = c .before .before .before .before .before in
@@ -106,23 +85,6 @@ returns-3 c =
 
 pub read-one-into-spec : {M : Type 1} → statement M
 read-one-into-spec =
-    tie.close
-    (tie.spec
-    Inv-loop
-    μ-loop
-    nothing-requires
-    loop-holds
-    shared-slice-read-kind
-    add-start
-    sub-fault-of
-    fault-of-requires
-    nothing-requires-2
-    returns
-    returns-2
-    with-record-requires
-    body-requires
-    add-at
-    loop-less
-    loop-again
-    nothing-requires-3
-    returns-3)
+    tie.close (tie.spec Inv-loop μ-loop (λ c κs. search needs) loop-holds (λ c. search needs) (λ c. search needs) (λ c. search needs)
+    (λ c κs. search needs) (λ c κs. search needs) returns returns-2 with-record-requires body-requires add-at loop-less loop-again
+    (λ c κs. search needs) returns-3)

@@ -89,23 +89,6 @@ returns-5 c =
 
 pub with-record-spec : {M : Type 1} → statement M
 with-record-spec =
-    tie.close
-    (tie.spec
-    number2-requires
-    number4-requires
-    put-term-requires
-    number4-requires-2
-    put-term-requires-2
-    number2-requires-2
-    put-key-requires
-    number2-requires-3
-    add-number2
-    number2-requires-4
-    add-number2-2
-    number2-requires-5
-    put-point-requires
-    returns
-    returns-2
-    returns-3
-    returns-4
+    tie.close (tie.spec number2-requires number4-requires put-term-requires number4-requires-2 put-term-requires-2 number2-requires-2 put-key-requires
+    number2-requires-3 add-number2 number2-requires-4 add-number2-2 number2-requires-5 put-point-requires returns returns-2 returns-3 returns-4
     returns-5)

@@ -4,14 +4,9 @@ use Rattle.case_file.specs.record.Today.{body-at}
 use Rattle.case_file.proofs.record.body.Statement.{statement}
 use Rattle.case_file.proofs.record.body.Tie as tie
 
-mul-result : tie.Need-mul-result
-mul-result c = search needs
-
-array-read-result : tie.Need-array-read-result
-array-read-result c = search needs
-
 returns : tie.Need-returns
 returns c = body-at _ (c .pre .low) (c .pre .high)
 
 pub body-spec : {M : Type 1} → statement M
-body-spec = tie.close (tie.spec mul-result array-read-result returns)
+body-spec =
+    tie.close (tie.spec (λ c. search needs) (λ c. search needs) returns)

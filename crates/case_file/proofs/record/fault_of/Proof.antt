@@ -15,17 +15,11 @@ returns c = fails-known today _ _ _ _ (out-of-range _ (λ h. omega (arith, h .0,
 returns-2 : tie.Need-returns-2
 returns-2 c = fails-known today _ _ _ _ (out-of-range _ (λ h. omega (arith, h .1, c .if2 .taken)))
 
-follows-requires : tie.Need-follows-requires
-follows-requires c κs = search needs
-
 -- in what follows k is the place where the kind is known, o the one where the order is right, w the one where the body is whole
 returns-3 : tie.Need-returns-3
 returns-3 c =
     let k = c .before .before in
     fails-order today _ _ _ _ (in-range _ (k .before .if1 .left) (k .if2 .left)) (sym (c .before .follows .ensures) ∙ not-true _ (c .if3 .taken))
-
-body-requires : tie.Need-body-requires
-body-requires c κs = search needs
 
 returns-4 : tie.Need-returns-4
 returns-4 c =
@@ -33,15 +27,6 @@ returns-4 c =
     let k = o .before .before in
     fails-whole today _ _ _ _ (in-range _ (k .before .if1 .left) (k .if2 .left)) (sym (o .before .follows .ensures) ∙ not-false _ (o .if3 .left))
     (rw (c .before .body .ensures) at (c .if4 .taken))
-
-mul-if5 : tie.Need-mul-if5
-mul-if5 c = search needs
-
-array-read-if5 : tie.Need-array-read-if5
-array-read-if5 c = search needs
-
-held-requires : tie.Need-held-requires
-held-requires c κs = search needs
 
 returns-5 : tie.Need-returns-5
 returns-5 c =
@@ -63,16 +48,5 @@ returns-6 c =
 
 pub fault-of-spec : {M : Type 1} → statement M
 fault-of-spec =
-    tie.close
-    (tie.spec
-    returns
-    returns-2
-    follows-requires
-    returns-3
-    body-requires
-    returns-4
-    mul-if5
-    array-read-if5
-    held-requires
-    returns-5
-    returns-6)
+    tie.close (tie.spec returns returns-2 (λ c κs. search needs) returns-3 (λ c κs. search needs) returns-4 (λ c. search needs) (λ c. search needs)
+    (λ c κs. search needs) returns-5 returns-6)

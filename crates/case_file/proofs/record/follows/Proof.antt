@@ -12,4 +12,5 @@ returns-2 : tie.Need-returns-2
 returns-2 c = follows-later today _ _ (c .if1 .left)
 
 pub follows-spec : {M : Type 1} → statement M
-follows-spec = tie.close (tie.spec returns returns-2)
+follows-spec =
+    tie.close (tie.spec returns returns-2)

@@ -5,12 +5,6 @@ use Rattle.console.specs.answer.Candidate.{candidate-refused, candidate-
 use Rattle.console.proofs.answer.candidate_of.Statement.{statement}
 use Rattle.console.proofs.answer.candidate_of.Tie as tie
 
-read-into-requires : tie.Need-read-into-requires
-read-into-requires c κs = search needs
-
-refused-requires : tie.Need-refused-requires
-refused-requires c κs = search needs
-
 returns : tie.Need-returns
 returns c =
     let tested = c .before in
@@ -40,15 +34,6 @@ array-share-prefix-points c = lists-read (c .before .before .before .before .bef
 slice-aggregate-candidate-4 : tie.Need-slice-aggregate-candidate-4
 slice-aggregate-candidate-4 c = lists-read (c .before .before .before .before .before .before .before .read-into .ensures) .point-list .counts .1
 
-candidate-requires : tie.Need-candidate-requires
-candidate-requires c κs = search needs
-
-same-length : tie.Need-same-length
-same-length c = search needs
-
-same-length-2 : tie.Need-same-length-2
-same-length-2 c = search needs
-
 returns-2 : tie.Need-returns-2
 returns-2 c =
     let asked = c .before .before .before .before in
@@ -57,20 +42,6 @@ returns-2 c =
 
 pub candidate-of-spec : {M : Type 1} → statement M
 candidate-of-spec =
-    tie.close
-    (tie.spec
-    read-into-requires
-    refused-requires
-    returns
-    array-share-prefix-first
-    slice-aggregate-candidate
-    array-share-prefix-second
-    slice-aggregate-candidate-2
-    array-share-prefix-skeleton
-    slice-aggregate-candidate-3
-    array-share-prefix-points
-    slice-aggregate-candidate-4
-    candidate-requires
-    same-length
-    same-length-2
-    returns-2)
+    tie.close (tie.spec (λ c κs. search needs) (λ c κs. search needs) returns array-share-prefix-first slice-aggregate-candidate
+    array-share-prefix-second slice-aggregate-candidate-2 array-share-prefix-skeleton slice-aggregate-candidate-3 array-share-prefix-points
+    slice-aggregate-candidate-4 (λ c κs. search needs) (λ c. search needs) (λ c. search needs) returns-2)

@@ -51,17 +51,11 @@ past-keys c t =
     let r = c .before .before .skeleton-fault in
     past-lists (c .before .before .before) (tested-goes-on (of-keys s) (of-numbers s ++ of-last s) (r .result) (r .ensures) tt (c .if2 .left) t)
 
-lists-fault-requires : tie.Need-lists-fault-requires
-lists-fault-requires c κs = search needs
-
 returns : tie.Need-returns
 returns c =
     let s = start (c .before .before) in
     let r = c .before .before .lists-fault in
     tested-stops (of-both s) (of-keys s ++ (of-numbers s ++ of-last s)) (r .result) (r .ensures) (c .if1 .taken)
-
-skeleton-fault-requires : tie.Need-skeleton-fault-requires
-skeleton-fault-requires c κs = search needs
 
 returns-2 : tie.Need-returns-2
 returns-2 c =
@@ -70,18 +64,12 @@ returns-2 c =
     let r = c .before .before .skeleton-fault in
     past-lists passed (tested-stops (of-keys s) (of-numbers s ++ of-last s) (r .result) (r .ensures) (c .if2 .taken))
 
-points-fault-requires : tie.Need-points-fault-requires
-points-fault-requires c κs = search needs
-
 returns-3 : tie.Need-returns-3
 returns-3 c =
     let passed = c .before .before .before in
     let s = at-keys passed in
     let r = c .before .before .points-fault in
     past-keys passed (tested-stops (of-numbers s) (of-last s) (r .result) (r .ensures) (c .if3 .taken))
-
-rooms-fault-requires : tie.Need-rooms-fault-requires
-rooms-fault-requires c κs = search needs
 
 returns-4 : tie.Need-returns-4
 returns-4 c =
@@ -93,5 +81,5 @@ returns-4 c =
 
 pub candidate-fault-spec : {M : Type 1} → statement M
 candidate-fault-spec =
-    tie.close (tie.spec lists-fault-requires returns skeleton-fault-requires returns-2 points-fault-requires returns-3 rooms-fault-requires
+    tie.close (tie.spec (λ c κs. search needs) returns (λ c κs. search needs) returns-2 (λ c κs. search needs) returns-3 (λ c κs. search needs)
     returns-4)

@@ -7,38 +7,20 @@ use borrow.Author.Needs.{needs}
 use Rattle.divisor.proofs.checks.points_fault.Statement.{statement}
 use Rattle.divisor.proofs.checks.points_fault.Tie as tie
 
-at-requires : tie.Need-at-requires
-at-requires c κs = search needs
-
 returns : tie.Need-returns
 returns c = tested-line 0 (inl (inl (c .before .if1 .taken)), refl) (c .at .ensures)
-
-at-requires-2 : tie.Need-at-requires-2
-at-requires-2 c κs = search needs
 
 returns-2 : tie.Need-returns-2
 returns-2 c = tested-line 0 (inl (inr (c .before .if2 .taken)), refl) (c .at2 .ensures)
 
-at-requires-3 : tie.Need-at-requires-3
-at-requires-3 c κs = search needs
-
 returns-3 : tie.Need-returns-3
 returns-3 c = tested-line 0 (inr (c .before .if3 .taken), refl) (c .at3 .ensures)
-
-first-large-requires : tie.Need-first-large-requires
-first-large-requires c κs = search needs
-
-at-requires-4 : tie.Need-at-requires-4
-at-requires-4 c κs = search needs
 
 returns-4 : tie.Need-returns-4
 returns-4 c =
     let else3 = c .before .before .before in
     points-wrong _ _ (else3 .before .before .if1 .left) (else3 .before .if2 .left) (else3 .if3 .left) _ (c .before .before .first-large .ensures)
     (c .before .if4 .taken) (c .at4 .ensures)
-
-none-requires : tie.Need-none-requires
-none-requires c κs = search needs
 
 returns-5 : tie.Need-returns-5
 returns-5 c =
@@ -48,5 +30,5 @@ returns-5 c =
 
 pub points-fault-spec : {M : Type 1} → statement M
 points-fault-spec =
-    tie.close (tie.spec at-requires returns at-requires-2 returns-2 at-requires-3 returns-3 first-large-requires at-requires-4 returns-4
-    none-requires returns-5)
+    tie.close (tie.spec (λ c κs. search needs) returns (λ c κs. search needs) returns-2 (λ c κs. search needs) returns-3 (λ c κs. search needs)
+    (λ c κs. search needs) returns-4 (λ c κs. search needs) returns-5)

@@ -7,31 +7,16 @@ use borrow.Author.Needs.{needs}
 use Rattle.divisor.proofs.checks.skeleton_fault.Statement.{statement}
 use Rattle.divisor.proofs.checks.skeleton_fault.Tie as tie
 
-at-requires : tie.Need-at-requires
-at-requires c κs = search needs
-
 returns : tie.Need-returns
 returns c = tested-line 0 (inl (c .before .if1 .taken), refl) (c .at .ensures)
 
-at-requires-2 : tie.Need-at-requires-2
-at-requires-2 c κs = search needs
-
 returns-2 : tie.Need-returns-2
 returns-2 c = tested-line 0 (inr (c .before .if2 .taken), refl) (c .at2 .ensures)
-
-first-wrong-key-requires : tie.Need-first-wrong-key-requires
-first-wrong-key-requires c κs = search needs
-
-at-requires-3 : tie.Need-at-requires-3
-at-requires-3 c κs = search needs
 
 returns-3 : tie.Need-returns-3
 returns-3 c =
     let else2 = c .before .before .before in
     skeleton-wrong _ (else2 .before .if1 .left) (else2 .if2 .left) _ (c .before .before .first-wrong-key .ensures) (c .before .if3 .taken) (c .at3 .ensures)
-
-none-requires : tie.Need-none-requires
-none-requires c κs = search needs
 
 returns-4 : tie.Need-returns-4
 returns-4 c =
@@ -40,4 +25,5 @@ returns-4 c =
 
 pub skeleton-fault-spec : {M : Type 1} → statement M
 skeleton-fault-spec =
-    tie.close (tie.spec at-requires returns at-requires-2 returns-2 first-wrong-key-requires at-requires-3 returns-3 none-requires returns-4)
+    tie.close (tie.spec (λ c κs. search needs) returns (λ c κs. search needs) returns-2 (λ c κs. search needs) (λ c κs. search needs) returns-3
+    (λ c κs. search needs) returns-4)

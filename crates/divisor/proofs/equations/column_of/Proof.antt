@@ -7,21 +7,12 @@ use Rattle.divisor.specs.points.Model.{next-column}
 use Rattle.divisor.proofs.equations.column_of.Statement.{statement}
 use Rattle.divisor.proofs.equations.column_of.Tie as tie
 
-sub-result : tie.Need-sub-result
-sub-result c = search needs
-
 returns : tie.Need-returns
 returns c =
     let a = c .before .args in
     let p = c .before .pre in
     let e : a .columns - 1 ≡ a .keys + (a .columns - a .keys - 1) = omega (arith, p .behind) in
     e ∙ ap (λ (k : ℕ). a .keys + next-column (a .columns - a .keys - 1) k) (sym (c .if1 .taken))
-
-add-result : tie.Need-add-result
-add-result c = search needs
-
-sub-result-2 : tie.Need-sub-result-2
-sub-result-2 c = search needs
 
 returns-2 : tie.Need-returns-2
 returns-2 c =
@@ -33,4 +24,5 @@ returns-2 c =
     later n keys (suc kept) q = omega arith
 
 pub column-of-spec : {M : Type 1} → statement M
-column-of-spec = tie.close (tie.spec sub-result returns add-result sub-result-2 returns-2)
+column-of-spec =
+    tie.close (tie.spec (λ c. search needs) returns (λ c. search needs) (λ c. search needs) returns-2)

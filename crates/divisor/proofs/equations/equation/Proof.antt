@@ -24,45 +24,6 @@ loop-holds c =
     let a = c .before .args in
     (omega arith, equation-start (a .u .modulus) (a .t1) (a .t2) (a .t3) (a .skeleton .now) (a .i))
 
-mul-if1 : tie.Need-mul-if1 Inv-loop μ-loop
-mul-if1 c = search needs
-
-shared-slice-read-if1 : tie.Need-shared-slice-read-if1 Inv-loop μ-loop
-shared-slice-read-if1 c = search needs
-
-x-requires : tie.Need-x-requires Inv-loop μ-loop
-x-requires c κs = search needs
-
-y-requires : tie.Need-y-requires Inv-loop μ-loop
-y-requires c κs = search needs
-
-cast-of : tie.Need-cast-of Inv-loop μ-loop
-cast-of c = search needs
-
-mul-of : tie.Need-mul-of Inv-loop μ-loop
-mul-of c = search needs
-
-array-read-of : tie.Need-array-read-of Inv-loop μ-loop
-array-read-of c = search needs
-
-of-requires : tie.Need-of-requires Inv-loop μ-loop
-of-requires c κs = search needs
-
-z-requires : tie.Need-z-requires Inv-loop μ-loop
-z-requires c κs = search needs
-
-cast-of-2 : tie.Need-cast-of-2 Inv-loop μ-loop
-cast-of-2 c = search needs
-
-mul-of-2 : tie.Need-mul-of-2 Inv-loop μ-loop
-mul-of-2 c = search needs
-
-array-read-of-2 : tie.Need-array-read-of-2 Inv-loop μ-loop
-array-read-of-2 c = search needs
-
-of-requires-2 : tie.Need-of-requires-2 Inv-loop μ-loop
-of-requires-2 c κs = search needs
-
 -- the coefficient begun has the modulus
 positive : (c : tie.After-of Inv-loop μ-loop) → 0 < c .of .result .modulus
 positive c =
@@ -72,37 +33,10 @@ positive c =
 product-requires : tie.Need-product-requires Inv-loop μ-loop
 product-requires c κs = positive (c .before .before)
 
-w-requires : tie.Need-w-requires Inv-loop μ-loop
-w-requires c κs = search needs
-
-cast-of-3 : tie.Need-cast-of-3 Inv-loop μ-loop
-cast-of-3 c = search needs
-
-mul-of-3 : tie.Need-mul-of-3 Inv-loop μ-loop
-mul-of-3 c = search needs
-
-array-read-of-3 : tie.Need-array-read-of-3 Inv-loop μ-loop
-array-read-of-3 c = search needs
-
-of-requires-3 : tie.Need-of-requires-3 Inv-loop μ-loop
-of-requires-3 c κs = search needs
-
 product-requires-2 : tie.Need-product-requires-2 Inv-loop μ-loop
 product-requires-2 c κs =
     let yz = c .before .before in
     rw (yz .product .ensures) (positive (yz .before .before .before))
-
-mul-row : tie.Need-mul-row Inv-loop μ-loop
-mul-row c = search needs
-
-element-write-row : tie.Need-element-write-row Inv-loop μ-loop
-element-write-row c = search needs
-
-add-j : tie.Need-add-j Inv-loop μ-loop
-add-j c = search needs
-
-loop-less : tie.Need-loop-less Inv-loop μ-loop
-loop-less c = search needs
 
 loop-again : tie.Need-loop-again Inv-loop μ-loop
 loop-again c =
@@ -131,12 +65,6 @@ loop-again c =
     ))
     (c .if1 .came)
 
-mul-row-2 : tie.Need-mul-row-2 Inv-loop μ-loop
-mul-row-2 c = search needs
-
-element-write-row-2 : tie.Need-element-write-row-2 Inv-loop μ-loop
-element-write-row-2 c = search needs
-
 returns : tie.Need-returns Inv-loop μ-loop
 returns c =
     let s = c .before .before .before in
@@ -147,6 +75,8 @@ returns c =
 
 pub equation-spec : {M : Type 1} → statement M
 equation-spec =
-    tie.close (tie.spec Inv-loop μ-loop loop-holds mul-if1 shared-slice-read-if1 x-requires y-requires cast-of mul-of array-read-of of-requires
-    z-requires cast-of-2 mul-of-2 array-read-of-2 of-requires-2 product-requires w-requires cast-of-3 mul-of-3 array-read-of-3 of-requires-3
-    product-requires-2 mul-row element-write-row add-j loop-less loop-again mul-row-2 element-write-row-2 returns)
+    tie.close (tie.spec Inv-loop μ-loop loop-holds (λ c. search needs) (λ c. search needs) (λ c κs. search needs) (λ c κs. search needs)
+    (λ c. search needs) (λ c. search needs) (λ c. search needs) (λ c κs. search needs) (λ c κs. search needs) (λ c. search needs) (λ c. search needs)
+    (λ c. search needs) (λ c κs. search needs) product-requires (λ c κs. search needs) (λ c. search needs) (λ c. search needs) (λ c. search needs)
+    (λ c κs. search needs) product-requires-2 (λ c. search needs) (λ c. search needs) (λ c. search needs) (λ c. search needs) loop-again
+    (λ c. search needs) (λ c. search needs) returns)

@@ -32,9 +32,6 @@ Inv-loop p skeleton points least columns work sizes t₀ kept₀ i₀ t kept i =
 abbrev μ-loop : tie.MeasureT-loop
 μ-loop p skeleton points least columns work sizes t₀ kept₀ i₀ t kept i = length points / 3 - i
 
-empty-requires : tie.Need-empty-requires Inv-loop μ-loop
-empty-requires c κs = search needs
-
 loop-holds : tie.Need-loop-holds Inv-loop μ-loop
 loop-holds c =
     let a = c .before .before .before .before .args in
@@ -44,12 +41,6 @@ loop-holds c =
       added = rw (c .empty .ensures) equations-start;
       met = λ P. length-none P (a .least) (a .points .now) (a .t4) (a .work .now);
     }
-
-mul-if1 : tie.Need-mul-if1 Inv-loop μ-loop
-mul-if1 c = search needs
-
-array-read-if1 : tie.Need-array-read-if1 Inv-loop μ-loop
-array-read-if1 c = search needs
 
 -- at the loop: where the function began
 abbrev start : tie.At-loop Inv-loop μ-loop → tie.Start Inv-loop μ-loop
@@ -76,42 +67,6 @@ column-of-requires c κs =
       left = omega (arith, s .pre .columns-are, l .inv .left, one-kept c);
     }
 
-mul-at : tie.Need-mul-at Inv-loop μ-loop
-mul-at c = search needs
-
-mul-image : tie.Need-mul-image Inv-loop μ-loop
-mul-image c = search needs
-
-add-point-equations : tie.Need-add-point-equations Inv-loop μ-loop
-add-point-equations c = search needs
-
-mul-point-equations : tie.Need-mul-point-equations Inv-loop μ-loop
-mul-point-equations c = search needs
-
-sub-point-equations : tie.Need-sub-point-equations Inv-loop μ-loop
-sub-point-equations c = search needs
-
-part-point-equations-start : tie.Need-part-point-equations-start Inv-loop μ-loop
-part-point-equations-start c = search needs
-
-part-point-equations-end : tie.Need-part-point-equations-end Inv-loop μ-loop
-part-point-equations-end c = search needs
-
-add-point-equations-2 : tie.Need-add-point-equations-2 Inv-loop μ-loop
-add-point-equations-2 c = search needs
-
-mul-point-equations-2 : tie.Need-mul-point-equations-2 Inv-loop μ-loop
-mul-point-equations-2 c = search needs
-
-sub-point-equations-2 : tie.Need-sub-point-equations-2 Inv-loop μ-loop
-sub-point-equations-2 c = search needs
-
-part-point-equations-start-2 : tie.Need-part-point-equations-start-2 Inv-loop μ-loop
-part-point-equations-start-2 c = search needs
-
-part-point-equations-end-2 : tie.Need-part-point-equations-end-2 Inv-loop μ-loop
-part-point-equations-end-2 c = search needs
-
 point-equations-requires : tie.Need-point-equations-requires Inv-loop μ-loop
 point-equations-requires c κs =
     let column = c .before .before in
@@ -133,15 +88,6 @@ point-equations-requires c κs =
       behind = omega (arith, e);
       within = omega (arith, e, fits, columns, s .pre .columns-are, s .pre .some);
     }
-
-add-kept : tie.Need-add-kept Inv-loop μ-loop
-add-kept c = search needs
-
-add-i : tie.Need-add-i Inv-loop μ-loop
-add-i c = search needs
-
-loop-less : tie.Need-loop-less Inv-loop μ-loop
-loop-less c = search needs
 
 loop-again : tie.Need-loop-again Inv-loop μ-loop
 loop-again c =
@@ -187,7 +133,7 @@ returns c =
 
 pub equations-spec : {M : Type 1} → statement M
 equations-spec =
-    tie.close (tie.spec Inv-loop μ-loop empty-requires loop-holds mul-if1 array-read-if1 column-of-requires mul-at mul-image add-point-equations
-    mul-point-equations sub-point-equations part-point-equations-start part-point-equations-end add-point-equations-2 mul-point-equations-2
-    sub-point-equations-2 part-point-equations-start-2 part-point-equations-end-2 point-equations-requires add-kept add-i loop-less loop-again
-    returns)
+    tie.close (tie.spec Inv-loop μ-loop (λ c κs. search needs) loop-holds (λ c. search needs) (λ c. search needs) column-of-requires
+    (λ c. search needs) (λ c. search needs) (λ c. search needs) (λ c. search needs) (λ c. search needs) (λ c. search needs) (λ c. search needs)
+    (λ c. search needs) (λ c. search needs) (λ c. search needs) (λ c. search needs) (λ c. search needs) point-equations-requires (λ c. search needs)
+    (λ c. search needs) (λ c. search needs) loop-again returns)

@@ -54,22 +54,13 @@ module _ (l : tie.At-loop Inv-loop μ-loop) where
   w-table : ws ≡ powers (start l .args .p) (coordinate 2)
   w-table = powers-model _ _ _ (l .before .powers3 .ensures)
 
-shared-slice-read-powers : tie.Need-shared-slice-read-powers Inv-loop μ-loop
-shared-slice-read-powers c = search needs
-
 powers-requires : tie.Need-powers-requires Inv-loop μ-loop
 powers-requires c κs = listed-positive (c .before .before .before .before .pre .table .listed)
-
-shared-slice-read-powers-2 : tie.Need-shared-slice-read-powers-2 Inv-loop μ-loop
-shared-slice-read-powers-2 c = search needs
 
 powers-requires-2 : tie.Need-powers-requires-2 Inv-loop μ-loop
 powers-requires-2 c κs =
     let start = c .before .before .before .before .before .before in
     listed-positive (start .pre .table .listed)
-
-shared-slice-read-powers-3 : tie.Need-shared-slice-read-powers-3 Inv-loop μ-loop
-shared-slice-read-powers-3 c = search needs
 
 powers-requires-3 : tie.Need-powers-requires-3 Inv-loop μ-loop
 powers-requires-3 c κs =
@@ -78,18 +69,6 @@ powers-requires-3 c κs =
 
 loop-holds : tie.Need-loop-holds Inv-loop μ-loop
 loop-holds c = (omega arith, point-start _ _ _ _ _ _)
-
-zero-requires : tie.Need-zero-requires Inv-loop μ-loop
-zero-requires c κs = search needs
-
-mul-of : tie.Need-mul-of Inv-loop μ-loop
-mul-of c = search needs
-
-shared-slice-read-of : tie.Need-shared-slice-read-of Inv-loop μ-loop
-shared-slice-read-of c = search needs
-
-of-requires : tie.Need-of-requires Inv-loop μ-loop
-of-requires c κs = search needs
 
 difference-requires : tie.Need-difference-requires Inv-loop μ-loop
 difference-requires c κs =
@@ -115,9 +94,6 @@ module _ (c : tie.After-difference Inv-loop μ-loop) where
 
   opposite-below : opposite < start loop .args .p
   opposite-below = mod-lt _ (listed-positive (start loop .pre .table .listed))
-
-cast-equation : tie.Need-cast-equation Inv-loop μ-loop
-cast-equation c = search needs
 
 equation-requires : tie.Need-equation-requires Inv-loop μ-loop
 equation-requires c κs =
@@ -147,9 +123,6 @@ is-equation c =
     (subst (λ u. IsEquation (u .modulus) (ys at) (zs at) (ws at) (a .skeleton .now) (at .loop .i) (a .column) (u .value) (c .equation .result))
     (u-is (c .before)) (c .equation .ensures))
 
-first-entry-requires : tie.Need-first-entry-requires Inv-loop μ-loop
-first-entry-requires c κs = search needs
-
 -- the table so far is ready
 ready : (l : tie.At-loop Inv-loop μ-loop) → TableReady (start l .args .p) (l .loop .s)
 ready at = adds-ready _ (at .loop .inv .1 .adds) (start at .pre .table)
@@ -165,12 +138,6 @@ with-added-requires c κs =
       row = equation-ready (a .p) (listed-positive (s .pre .table .listed)) _ _ _ (a .skeleton .now) (at .loop .i) (a .column) _ (e .equation .result)
           (opposite-below (e .before)) (is-equation e);
     }
-
-add-i : tie.Need-add-i Inv-loop μ-loop
-add-i c = search needs
-
-loop-less : tie.Need-loop-less Inv-loop μ-loop
-loop-less c = search needs
 
 -- either way the table has the equation
 added : (c : tie.Joined1 Inv-loop μ-loop) → let e = c .before .before in let l = loop (e .before) in
@@ -204,6 +171,6 @@ returns c =
 
 pub point-equations-spec : {M : Type 1} → statement M
 point-equations-spec =
-    tie.close (tie.spec Inv-loop μ-loop shared-slice-read-powers powers-requires shared-slice-read-powers-2 powers-requires-2
-    shared-slice-read-powers-3 powers-requires-3 loop-holds zero-requires mul-of shared-slice-read-of of-requires difference-requires cast-equation
-    equation-requires first-entry-requires with-added-requires add-i loop-less loop-again returns)
+    tie.close (tie.spec Inv-loop μ-loop (λ c. search needs) powers-requires (λ c. search needs) powers-requires-2 (λ c. search needs)
+    powers-requires-3 loop-holds (λ c κs. search needs) (λ c. search needs) (λ c. search needs) (λ c κs. search needs) difference-requires
+    (λ c. search needs) equation-requires (λ c κs. search needs) with-added-requires (λ c. search needs) (λ c. search needs) loop-again returns)

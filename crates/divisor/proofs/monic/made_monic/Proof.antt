@@ -29,12 +29,6 @@ Inv-loop p skeleton values inverse terms₀ count₀ i₀ terms count i = Reache
 abbrev μ-loop : tie.MeasureT-loop
 μ-loop p skeleton values inverse terms₀ count₀ i₀ terms count i = length skeleton - i
 
-leading-requires : tie.Need-leading-requires Inv-loop μ-loop
-leading-requires c κs = search needs
-
-of-requires : tie.Need-of-requires Inv-loop μ-loop
-of-requires c κs = search needs
-
 -- the leading coefficient
 lead-is : (c : tie.After-of Inv-loop μ-loop) → let a = c .before .before .before .args in
     c .of .result ≡ element (a .p) (leading (take (length (a .skeleton .now)) (a .t3)))
@@ -50,52 +44,10 @@ inverse-requires c κs =
       nonzero = s .pre .led;
     }
 
-loop-holds : tie.Need-loop-holds Inv-loop μ-loop
-loop-holds c = search needs
-
-mul-if1 : tie.Need-mul-if1 Inv-loop μ-loop
-mul-if1 c = search needs
-
-array-read-if1 : tie.Need-array-read-if1 Inv-loop μ-loop
-array-read-if1 c = search needs
-
-mul-of : tie.Need-mul-of Inv-loop μ-loop
-mul-of c = search needs
-
-array-read-of : tie.Need-array-read-of Inv-loop μ-loop
-array-read-of c = search needs
-
-of-requires-2 : tie.Need-of-requires-2 Inv-loop μ-loop
-of-requires-2 c κs = search needs
-
 product-requires : tie.Need-product-requires Inv-loop μ-loop
 product-requires c κs =
     let start = c .before .before .before .before .before .before .before .before in
     rw (c .of2 .ensures) (listed-positive (start .pre .listed))
-
-mul-term : tie.Need-mul-term Inv-loop μ-loop
-mul-term c = search needs
-
-shared-slice-read-term : tie.Need-shared-slice-read-term Inv-loop μ-loop
-shared-slice-read-term c = search needs
-
-term-requires : tie.Need-term-requires Inv-loop μ-loop
-term-requires c κs = search needs
-
-mul-terms : tie.Need-mul-terms Inv-loop μ-loop
-mul-terms c = search needs
-
-array-write-terms : tie.Need-array-write-terms Inv-loop μ-loop
-array-write-terms c = search needs
-
-add-count : tie.Need-add-count Inv-loop μ-loop
-add-count c = search needs
-
-add-i : tie.Need-add-i Inv-loop μ-loop
-add-i c = search needs
-
-loop-less : tie.Need-loop-less Inv-loop μ-loop
-loop-less c = search needs
 
 loop-again : tie.Need-loop-again Inv-loop μ-loop
 loop-again c =
@@ -148,6 +100,6 @@ returns c =
 
 pub made-monic-spec : {M : Type 1} → statement M
 made-monic-spec =
-    tie.close (tie.spec Inv-loop μ-loop leading-requires of-requires inverse-requires loop-holds mul-if1 array-read-if1 mul-of array-read-of
-    of-requires-2 product-requires mul-term shared-slice-read-term term-requires mul-terms array-write-terms add-count add-i loop-less loop-again
-    returns)
+    tie.close (tie.spec Inv-loop μ-loop (λ c κs. search needs) (λ c κs. search needs) inverse-requires (λ c. search needs) (λ c. search needs)
+    (λ c. search needs) (λ c. search needs) (λ c. search needs) (λ c κs. search needs) product-requires (λ c. search needs) (λ c. search needs)
+    (λ c κs. search needs) (λ c. search needs) (λ c. search needs) (λ c. search needs) (λ c. search needs) (λ c. search needs) loop-again returns)

@@ -24,24 +24,6 @@ abbrev μ-loop : tie.MeasureT-loop
 loop-holds : tie.Need-loop-holds Inv-loop μ-loop
 loop-holds c = (omega arith, looks-start)
 
-mul-at : tie.Need-mul-at Inv-loop μ-loop
-mul-at c = search needs
-
-add-image-at : tie.Need-add-image-at Inv-loop μ-loop
-add-image-at c = search needs
-
-mul-image-at : tie.Need-mul-image-at Inv-loop μ-loop
-mul-image-at c = search needs
-
-sub-image-at : tie.Need-sub-image-at Inv-loop μ-loop
-sub-image-at c = search needs
-
-part-image-at-start : tie.Need-part-image-at-start Inv-loop μ-loop
-part-image-at-start c = search needs
-
-part-image-at-end : tie.Need-part-image-at-end Inv-loop μ-loop
-part-image-at-end c = search needs
-
 -- where the loop begins, and the function
 abbrev turn : tie.After-image-at Inv-loop μ-loop → tie.At-loop Inv-loop μ-loop
 turn c = c .before .before .before
@@ -66,26 +48,11 @@ seen-is c =
     point-model (a .p) (a .first .now) (a .second .now) _ (s .pre .lists) _ (c .image-at .ensures)
     ∙ ap (image-of (a .p) (a .first .now) (a .second .now)) (part-is 3 (turn c .loop .i) (a .points .now))
 
-mul-sizes : tie.Need-mul-sizes Inv-loop μ-loop
-mul-sizes c = search needs
-
-array-write-sizes : tie.Need-array-write-sizes Inv-loop μ-loop
-array-write-sizes c = search needs
-
-mul-store : tie.Need-mul-store Inv-loop μ-loop
-mul-store c = search needs
-
 store-requires : tie.Need-store-requires Inv-loop μ-loop
 store-requires c κs =
     let l = turn (c .before .before) in
     let s = start l in
     record { within = omega (arith, s .pre .few); room = omega (arith, l .loop .inv .1 .same-length, s .pre .room) }
-
-add-i : tie.Need-add-i Inv-loop μ-loop
-add-i c = search needs
-
-loop-less : tie.Need-loop-less Inv-loop μ-loop
-loop-less c = search needs
 
 loop-again : tie.Need-loop-again Inv-loop μ-loop
 loop-again c =
@@ -111,24 +78,6 @@ returns c =
 
 pub look-spec : {M : Type 1} → statement M
 look-spec =
-    tie.close
-    (tie.spec
-    Inv-loop
-    μ-loop
-    loop-holds
-    mul-at
-    add-image-at
-    mul-image-at
-    sub-image-at
-    part-image-at-start
-    part-image-at-end
-    image-at-requires
-    mul-sizes
-    array-write-sizes
-    mul-store
-    store-requires
-    add-i
-    loop-less
-    loop-again
-    same-length
-    returns)
+    tie.close (tie.spec Inv-loop μ-loop loop-holds (λ c. search needs) (λ c. search needs) (λ c. search needs) (λ c. search needs) (λ c. search needs)
+    (λ c. search needs) image-at-requires (λ c. search needs) (λ c. search needs) (λ c. search needs) store-requires (λ c. search needs)
+    (λ c. search needs) loop-again same-length returns)

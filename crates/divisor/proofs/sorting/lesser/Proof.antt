@@ -21,4 +21,5 @@ unfolding lesser
 returns-4 c = rw (ne-eqb _ 0 (c .before .before .if1 .left), lesser) (rw (ne-eqb _ 0 (c .before .if2 .left), lesser) (rw (le-ltb _ _ (c .if3 .left), lesser)))
 
 pub lesser-spec : {M : Type 1} → statement M
-lesser-spec = tie.close (tie.spec returns returns-2 returns-3 returns-4)
+lesser-spec =
+    tie.close (tie.spec returns returns-2 returns-3 returns-4)

@@ -15,21 +15,6 @@ Inv-loop t last j₀ j = (j ≤ last) × (kind-from (last - j) j t ≡ kind t)
 abbrev μ-loop : tie.MeasureT-loop
 μ-loop t last j₀ j = last - j
 
-sub-last : tie.Need-sub-last Inv-loop μ-loop
-sub-last c = search needs
-
-mul-end : tie.Need-mul-end Inv-loop μ-loop
-mul-end c = search needs
-
-element-copy-out-end : tie.Need-element-copy-out-end Inv-loop μ-loop
-element-copy-out-end c = search needs
-
-mul-if1 : tie.Need-mul-if1 Inv-loop μ-loop
-mul-if1 c = search needs
-
-element-copy-out-if1 : tie.Need-element-copy-out-if1 Inv-loop μ-loop
-element-copy-out-if1 c = search needs
-
 returns : tie.Need-returns Inv-loop μ-loop
 returns c = sym (kind-none (c .before .before .before .args .t1) (c .if1 .taken))
 
@@ -38,29 +23,11 @@ loop-holds c =
     let t = c .before .before .before .args .t1 in
     (search needs, ap (λ n. kind-from n 0 t) (sub-zero (t .columns - 1)) ∙ sym (kind-some t (c .if1 .left)))
 
-mul-row : tie.Need-mul-row Inv-loop μ-loop
-mul-row c = search needs
-
-element-copy-out-row : tie.Need-element-copy-out-row Inv-loop μ-loop
-element-copy-out-row c = search needs
-
-mul-if2 : tie.Need-mul-if2 Inv-loop μ-loop
-mul-if2 c = search needs
-
-element-copy-out-if2 : tie.Need-element-copy-out-if2 Inv-loop μ-loop
-element-copy-out-if2 c = search needs
-
 returns-2 : tie.Need-returns-2 Inv-loop μ-loop
 returns-2 c =
     let at = c .before .before .before .before in
     let t = at .before .before .before .before .args .t1 in
     sym (kind-several t (at .loop .j) (t .columns - 1) (c .before .before .before .loop-test .taken) (c .if2 .taken)) ∙ at .loop .inv .1
-
-add-j : tie.Need-add-j Inv-loop μ-loop
-add-j c = search needs
-
-loop-less : tie.Need-loop-less Inv-loop μ-loop
-loop-less c = search needs
 
 loop-again : tie.Need-loop-again Inv-loop μ-loop
 loop-again c =
@@ -76,5 +43,6 @@ returns-3 c =
 
 pub kind-of-spec : {M : Type 1} → statement M
 kind-of-spec =
-    tie.close (tie.spec Inv-loop μ-loop sub-last mul-end element-copy-out-end mul-if1 element-copy-out-if1 returns loop-holds mul-row
-    element-copy-out-row mul-if2 element-copy-out-if2 returns-2 add-j loop-less loop-again returns-3)
+    tie.close (tie.spec Inv-loop μ-loop (λ c. search needs) (λ c. search needs) (λ c. search needs) (λ c. search needs) (λ c. search needs) returns
+    loop-holds (λ c. search needs) (λ c. search needs) (λ c. search needs) (λ c. search needs) returns-2 (λ c. search needs) (λ c. search needs)
+    loop-again returns-3)

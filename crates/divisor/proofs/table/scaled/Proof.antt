@@ -25,44 +25,8 @@ is-inverse : (c : tie.After-inverse Inv-loop μ-loop) → let a = c .before .bef
     Inverse (element (a .p) (cell (a .row) (a .j))) (c .inverse .result)
 is-inverse c = subst (λ e. Inverse e (c .inverse .result)) (c .before .of .ensures) (c .inverse .ensures)
 
-mul-of : tie.Need-mul-of Inv-loop μ-loop
-mul-of c = search needs
-
-element-copy-out-of : tie.Need-element-copy-out-of Inv-loop μ-loop
-element-copy-out-of c = search needs
-
-of-requires : tie.Need-of-requires Inv-loop μ-loop
-of-requires c κs = search needs
-
 inverse-requires : tie.Need-inverse-requires Inv-loop μ-loop
 inverse-requires c κs = subst Invertible (sym (c .of .ensures)) (search needs)
-
-loop-holds : tie.Need-loop-holds Inv-loop μ-loop
-loop-holds c = search needs
-
-mul-of-2 : tie.Need-mul-of-2 Inv-loop μ-loop
-mul-of-2 c = search needs
-
-element-copy-out-of-2 : tie.Need-element-copy-out-of-2 Inv-loop μ-loop
-element-copy-out-of-2 c = search needs
-
-of-requires-2 : tie.Need-of-requires-2 Inv-loop μ-loop
-of-requires-2 c κs = search needs
-
-product-requires : tie.Need-product-requires Inv-loop μ-loop
-product-requires c κs = search needs
-
-mul-r : tie.Need-mul-r Inv-loop μ-loop
-mul-r c = search needs
-
-element-write-r : tie.Need-element-write-r Inv-loop μ-loop
-element-write-r c = search needs
-
-add-i : tie.Need-add-i Inv-loop μ-loop
-add-i c = search needs
-
-loop-less : tie.Need-loop-less Inv-loop μ-loop
-loop-less c = search needs
 
 loop-again : tie.Need-loop-again Inv-loop μ-loop
 loop-again c =
@@ -90,5 +54,6 @@ returns c =
 
 pub scaled-spec : {M : Type 1} → statement M
 scaled-spec =
-    tie.close (tie.spec Inv-loop μ-loop mul-of element-copy-out-of of-requires inverse-requires loop-holds mul-of-2 element-copy-out-of-2
-    of-requires-2 product-requires mul-r element-write-r add-i loop-less loop-again returns)
+    tie.close (tie.spec Inv-loop μ-loop (λ c. search needs) (λ c. search needs) (λ c κs. search needs) inverse-requires (λ c. search needs)
+    (λ c. search needs) (λ c. search needs) (λ c κs. search needs) (λ c κs. search needs) (λ c. search needs) (λ c. search needs) (λ c. search needs)
+    (λ c. search needs) loop-again returns)

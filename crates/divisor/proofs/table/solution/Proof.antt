@@ -12,20 +12,8 @@ told : (c : tie.After-kind-of) {k : Kind} → c .kind-of .result ≡ k
     → solved-as k (c .before .args .p) (c .before .args .t) ≡ solved (c .before .args .p) (c .before .args .t)
 told c e = ap (λ k. solved-as k (c .before .args .p) (c .before .args .t)) (sym e ∙ c .kind-of .ensures)
 
-kind-of-requires : tie.Need-kind-of-requires
-kind-of-requires c κs = search needs
-
 enum-told : tie.Need-enum-told
 enum-told c = search needs
-
-enum-told-2 : tie.Need-enum-told-2
-enum-told-2 c = search needs
-
-enum-told-3 : tie.Need-enum-told-3
-enum-told-3 c = search needs
-
-values-of-requires : tie.Need-values-of-requires
-values-of-requires c κs = search needs
 
 returns : tie.Need-returns
 returns c = told (c .before .before) (c .enum-told .given .1)
@@ -38,4 +26,5 @@ returns-3 c =
     ap (λ v. record { kind = One; values = v }) (c .values-of .ensures) ∙ told (c .before .before .before) (c .before .enum-told3 .given .1)
 
 pub solution-spec : {M : Type 1} → statement M
-solution-spec = tie.close (tie.spec kind-of-requires enum-told enum-told-2 enum-told-3 values-of-requires returns returns-2 returns-3)
+solution-spec =
+    tie.close (tie.spec (λ c κs. search needs) enum-told (λ c. search needs) (λ c. search needs) (λ c κs. search needs) returns returns-2 returns-3)

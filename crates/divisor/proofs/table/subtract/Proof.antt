@@ -19,36 +19,6 @@ Inv-loop row₀ j columns p pivot factor i₀ row i =
 abbrev μ-loop : tie.MeasureT-loop
 μ-loop row₀ j columns p pivot factor i₀ row i = columns - i
 
-mul-of : tie.Need-mul-of Inv-loop μ-loop
-mul-of c = search needs
-
-element-copy-out-of : tie.Need-element-copy-out-of Inv-loop μ-loop
-element-copy-out-of c = search needs
-
-of-requires : tie.Need-of-requires Inv-loop μ-loop
-of-requires c κs = search needs
-
-loop-holds : tie.Need-loop-holds Inv-loop μ-loop
-loop-holds c = search needs
-
-mul-of-2 : tie.Need-mul-of-2 Inv-loop μ-loop
-mul-of-2 c = search needs
-
-element-copy-out-of-2 : tie.Need-element-copy-out-of-2 Inv-loop μ-loop
-element-copy-out-of-2 c = search needs
-
-of-requires-2 : tie.Need-of-requires-2 Inv-loop μ-loop
-of-requires-2 c κs = search needs
-
-mul-of-3 : tie.Need-mul-of-3 Inv-loop μ-loop
-mul-of-3 c = search needs
-
-element-copy-out-of-3 : tie.Need-element-copy-out-of-3 Inv-loop μ-loop
-element-copy-out-of-3 c = search needs
-
-of-requires-3 : tie.Need-of-requires-3 Inv-loop μ-loop
-of-requires-3 c κs = search needs
-
 minus-product-requires : tie.Need-minus-product-requires Inv-loop μ-loop
 minus-product-requires c κs =
     let cell-made = c .before .before in
@@ -57,18 +27,6 @@ minus-product-requires c κs =
       positive = omega (arith, ap (λ e. e .modulus) (cell-made .of2 .ensures));
       within = omega (arith, ap (λ e. e .modulus) (cell-made .of2 .ensures), ap (λ e. e .value) (factor-made .of .ensures));
     }
-
-mul-row : tie.Need-mul-row Inv-loop μ-loop
-mul-row c = search needs
-
-element-write-row : tie.Need-element-write-row Inv-loop μ-loop
-element-write-row c = search needs
-
-add-i : tie.Need-add-i Inv-loop μ-loop
-add-i c = search needs
-
-loop-less : tie.Need-loop-less Inv-loop μ-loop
-loop-less c = search needs
 
 loop-again : tie.Need-loop-again Inv-loop μ-loop
 loop-again c =
@@ -92,5 +50,6 @@ returns c =
 
 pub subtract-spec : {M : Type 1} → statement M
 subtract-spec =
-    tie.close (tie.spec Inv-loop μ-loop mul-of element-copy-out-of of-requires loop-holds mul-of-2 element-copy-out-of-2 of-requires-2 mul-of-3
-    element-copy-out-of-3 of-requires-3 minus-product-requires mul-row element-write-row add-i loop-less loop-again returns)
+    tie.close (tie.spec Inv-loop μ-loop (λ c. search needs) (λ c. search needs) (λ c κs. search needs) (λ c. search needs) (λ c. search needs)
+    (λ c. search needs) (λ c κs. search needs) (λ c. search needs) (λ c. search needs) (λ c κs. search needs) minus-product-requires
+    (λ c. search needs) (λ c. search needs) (λ c. search needs) (λ c. search needs) loop-again returns)

@@ -27,18 +27,6 @@ Inv-loop j last p row values sum₀ k₀ sum k = Reached j last p row values sum
 abbrev μ-loop : tie.MeasureT-loop
 μ-loop j last p row values sum₀ k₀ sum k = last - k
 
-mul-of : tie.Need-mul-of Inv-loop μ-loop
-mul-of c = search needs
-
-element-copy-out-of : tie.Need-element-copy-out-of Inv-loop μ-loop
-element-copy-out-of c = search needs
-
-of-requires : tie.Need-of-requires Inv-loop μ-loop
-of-requires c κs = search needs
-
-add-k : tie.Need-add-k Inv-loop μ-loop
-add-k c = search needs
-
 loop-holds : tie.Need-loop-holds Inv-loop μ-loop
 loop-holds c =
     let a = c .before .before .args in
@@ -48,33 +36,6 @@ loop-holds c =
       below = rw (c .of .ensures) (c .before .before .pre .below);
       comes-to = ap (λ e. total (a .last - (a .j + 1)) (a .j + 1) (a .p) (a .t1) (a .t2) (e .value)) (c .of .ensures);
     }
-
-mul-of-2 : tie.Need-mul-of-2 Inv-loop μ-loop
-mul-of-2 c = search needs
-
-element-copy-out-of-2 : tie.Need-element-copy-out-of-2 Inv-loop μ-loop
-element-copy-out-of-2 c = search needs
-
-of-requires-2 : tie.Need-of-requires-2 Inv-loop μ-loop
-of-requires-2 c κs = search needs
-
-mul-of-3 : tie.Need-mul-of-3 Inv-loop μ-loop
-mul-of-3 c = search needs
-
-array-read-of : tie.Need-array-read-of Inv-loop μ-loop
-array-read-of c = search needs
-
-of-requires-3 : tie.Need-of-requires-3 Inv-loop μ-loop
-of-requires-3 c κs = search needs
-
-plus-product-requires : tie.Need-plus-product-requires Inv-loop μ-loop
-plus-product-requires c κs = search needs
-
-add-k-2 : tie.Need-add-k-2 Inv-loop μ-loop
-add-k-2 c = search needs
-
-loop-less : tie.Need-loop-less Inv-loop μ-loop
-loop-less c = search needs
 
 loop-again : tie.Need-loop-again Inv-loop μ-loop
 loop-again c =
@@ -95,9 +56,6 @@ loop-again c =
           ap (λ e. total (a .last - (k + 1)) (k + 1) (a .p) (a .t1) (a .t2) (e .value)) made
           ∙ sym (total-turn k (a .last) (a .p) (a .t1) (a .t2) (sum .value) test) ∙ loop .loop .inv .comes-to;
     }
-
-zero-requires : tie.Need-zero-requires Inv-loop μ-loop
-zero-requires c κs = search needs
 
 difference-requires : tie.Need-difference-requires Inv-loop μ-loop
 difference-requires c κs =
@@ -120,5 +78,6 @@ returns c =
 
 pub value-at-spec : {M : Type 1} → statement M
 value-at-spec =
-    tie.close (tie.spec Inv-loop μ-loop mul-of element-copy-out-of of-requires add-k loop-holds mul-of-2 element-copy-out-of-2 of-requires-2
-    mul-of-3 array-read-of of-requires-3 plus-product-requires add-k-2 loop-less loop-again zero-requires difference-requires returns)
+    tie.close (tie.spec Inv-loop μ-loop (λ c. search needs) (λ c. search needs) (λ c κs. search needs) (λ c. search needs) loop-holds
+    (λ c. search needs) (λ c. search needs) (λ c κs. search needs) (λ c. search needs) (λ c. search needs) (λ c κs. search needs)
+    (λ c κs. search needs) (λ c. search needs) (λ c. search needs) loop-again (λ c κs. search needs) difference-requires returns)

@@ -16,21 +16,6 @@ Inv-loop p t last values₀ j₀ values j = (j ≤ last) × (back j p t values �
 abbrev μ-loop : tie.MeasureT-loop
 μ-loop p t last values₀ j₀ values j = j
 
-sub-last : tie.Need-sub-last Inv-loop μ-loop
-sub-last c = search needs
-
-loop-holds : tie.Need-loop-holds Inv-loop μ-loop
-loop-holds c = search needs
-
-sub-j : tie.Need-sub-j Inv-loop μ-loop
-sub-j c = search needs
-
-mul-row : tie.Need-mul-row Inv-loop μ-loop
-mul-row c = search needs
-
-element-copy-out-row : tie.Need-element-copy-out-row Inv-loop μ-loop
-element-copy-out-row c = search needs
-
 value-at-requires : tie.Need-value-at-requires Inv-loop μ-loop
 value-at-requires c κs =
     let at = c .before .before in
@@ -41,15 +26,6 @@ value-at-requires c κs =
       within = omega arith;
       most = omega (arith, at .before .pre .columns .some);
     }
-
-mul-values : tie.Need-mul-values Inv-loop μ-loop
-mul-values c = search needs
-
-array-write-values : tie.Need-array-write-values Inv-loop μ-loop
-array-write-values c = search needs
-
-loop-less : tie.Need-loop-less Inv-loop μ-loop
-loop-less c = search needs
 
 loop-again : tie.Need-loop-again Inv-loop μ-loop
 loop-again c =
@@ -68,5 +44,5 @@ returns c =
 
 pub values-of-spec : {M : Type 1} → statement M
 values-of-spec =
-    tie.close (tie.spec Inv-loop μ-loop sub-last loop-holds sub-j mul-row element-copy-out-row value-at-requires mul-values array-write-values
-    loop-less loop-again returns)
+    tie.close (tie.spec Inv-loop μ-loop (λ c. search needs) (λ c. search needs) (λ c. search needs) (λ c. search needs) (λ c. search needs)
+    value-at-requires (λ c. search needs) (λ c. search needs) (λ c. search needs) loop-again returns)

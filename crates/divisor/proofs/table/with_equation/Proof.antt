@@ -50,32 +50,8 @@ loop-holds c =
       same = refl;
     }
 
-mul-if1 : tie.Need-mul-if1 Inv-loop μ-loop
-mul-if1 c = search needs
-
-element-copy-out-if1 : tie.Need-element-copy-out-if1 Inv-loop μ-loop
-element-copy-out-if1 c = search needs
-
-mul-pivot : tie.Need-mul-pivot Inv-loop μ-loop
-mul-pivot c = search needs
-
-element-copy-out-pivot : tie.Need-element-copy-out-pivot Inv-loop μ-loop
-element-copy-out-pivot c = search needs
-
-mul-if2 : tie.Need-mul-if2 Inv-loop μ-loop
-mul-if2 c = search needs
-
-element-copy-out-if2 : tie.Need-element-copy-out-if2 Inv-loop μ-loop
-element-copy-out-if2 c = search needs
-
 scaled-requires : tie.Need-scaled-requires Inv-loop μ-loop
 scaled-requires c κs = column (c .before .before .before)
-
-mul-t24 : tie.Need-mul-t24 Inv-loop μ-loop
-mul-t24 c = search needs
-
-element-set-from-s : tie.Need-element-set-from-s Inv-loop μ-loop
-element-set-from-s c = search needs
 
 returns : tie.Need-returns Inv-loop μ-loop
 returns c =
@@ -91,12 +67,6 @@ returns c =
 
 subtract-requires : tie.Need-subtract-requires Inv-loop μ-loop
 subtract-requires c κs = column (c .before .before .before .before)
-
-add-j : tie.Need-add-j Inv-loop μ-loop
-add-j c = search needs
-
-loop-less : tie.Need-loop-less Inv-loop μ-loop
-loop-less c = search needs
 
 loop-again : tie.Need-loop-again Inv-loop μ-loop
 loop-again c =
@@ -136,5 +106,6 @@ returns-2 c =
 
 pub with-equation-spec : {M : Type 1} → statement M
 with-equation-spec =
-    tie.close (tie.spec Inv-loop μ-loop loop-holds mul-if1 element-copy-out-if1 mul-pivot element-copy-out-pivot mul-if2 element-copy-out-if2
-    scaled-requires mul-t24 element-set-from-s returns subtract-requires add-j loop-less loop-again returns-2)
+    tie.close (tie.spec Inv-loop μ-loop loop-holds (λ c. search needs) (λ c. search needs) (λ c. search needs) (λ c. search needs) (λ c. search needs)
+    (λ c. search needs) scaled-requires (λ c. search needs) (λ c. search needs) returns subtract-requires (λ c. search needs) (λ c. search needs)
+    loop-again returns-2)

@@ -38,9 +38,6 @@ slice-aggregate-list c =
 divides-both-requires : tie.Need-divides-both-requires
 divides-both-requires c κs = let m = c .before .before .before in can-divide (start m .pre) (m .made-monic .ensures) refl
 
-same-length : tie.Need-same-length
-same-length c = search needs
-
 returns : tie.Need-returns
 returns c =
     let d = c .before .before .before in
@@ -51,12 +48,6 @@ write-requires c κs =
     let d = c .before .before .before .before in
     fits-output (start (made d) .pre) (made d .made-monic .ensures) refl
 
-same-length-2 : tie.Need-same-length-2
-same-length-2 c = search needs
-
-same-length-3 : tie.Need-same-length-3
-same-length-3 c = search needs
-
 returns-2 : tie.Need-returns-2
 returns-2 c =
     let write = c .before .before in
@@ -66,5 +57,5 @@ returns-2 c =
 
 pub divided-spec : {M : Type 1} → statement M
 divided-spec =
-    tie.close (tie.spec made-monic-requires array-share-prefix-terms slice-aggregate-list divides-both-requires same-length returns write-requires
-    same-length-2 same-length-3 returns-2)
+    tie.close (tie.spec made-monic-requires array-share-prefix-terms slice-aggregate-list divides-both-requires (λ c. search needs) returns
+    write-requires (λ c. search needs) (λ c. search needs) returns-2)

@@ -4,12 +4,6 @@ use borrow.Author.Needs.{needs}
 use Rattle.divisor.proofs.verdict.divides_both.Statement.{statement}
 use Rattle.divisor.proofs.verdict.divides_both.Tie as tie
 
-divides-requires : tie.Need-divides-requires
-divides-requires c κs = search needs
-
-same-length : tie.Need-same-length
-same-length c = search needs
-
 returns : tie.Need-returns
 returns c = first-fails (c .before .before .before .divides .ensures) (c .if1 .taken)
 
@@ -18,13 +12,11 @@ divides-requires-2 c κs =
     divide-again (c .before .before .before .before .divides .ensures .room)
     (c .before .before .before .before .before .before .before .before .before .before .pre .second)
 
-same-length-2 : tie.Need-same-length-2
-same-length-2 c = search needs
-
 returns-2 : tie.Need-returns-2
 returns-2 c =
     then-second (c .before .before .before .before .before .before .before .divides .ensures) (c .before .before .before .before .if1 .left)
     (c .before .before .divides2 .ensures)
 
 pub divides-both-spec : {M : Type 1} → statement M
-divides-both-spec = tie.close (tie.spec divides-requires same-length returns divides-requires-2 same-length-2 returns-2)
+divides-both-spec =
+    tie.close (tie.spec (λ c κs. search needs) (λ c. search needs) returns divides-requires-2 (λ c. search needs) returns-2)

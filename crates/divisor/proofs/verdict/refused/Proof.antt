@@ -6,12 +6,6 @@ use Rattle.poly.specs.rooms.Laws.{zeroed-all}
 use Rattle.divisor.proofs.verdict.refused.Statement.{statement}
 use Rattle.divisor.proofs.verdict.refused.Tie as tie
 
-clear-requires : tie.Need-clear-requires
-clear-requires c κs = search needs
-
-same-length : tie.Need-same-length
-same-length c = search needs
-
 returns : tie.Need-returns
 returns c = record {
   is = refl;
@@ -19,4 +13,5 @@ returns c = record {
 }
 
 pub refused-spec : {M : Type 1} → statement M
-refused-spec = tie.close (tie.spec clear-requires same-length returns)
+refused-spec =
+    tie.close (tie.spec (λ c κs. search needs) (λ c. search needs) returns)

@@ -12,42 +12,18 @@ start c = c .before .before .before .before .before .before .before .before
 enum-told : tie.Need-enum-told
 enum-told c = search needs
 
-refused-requires : tie.Need-refused-requires
-refused-requires c κs = search needs
-
-enum-told-2 : tie.Need-enum-told-2
-enum-told-2 c = search needs
-
-refused-requires-2 : tie.Need-refused-requires-2
-refused-requires-2 c κs = search needs
-
-enum-told-3 : tie.Need-enum-told-3
-enum-told-3 c = search needs
-
 divided-requires : tie.Need-divided-requires
 divided-requires c κs =
     let told = c .before .before in
     only-ready (start told .args .solved) (told .enum-told3 .given .1) (start told .pre)
 
-same-length : tie.Need-same-length
-same-length c = search needs
-
 returns : tie.Need-returns
 returns c =
     settled-refused (unsolvable (c .before .before .before .before .enum-told .given .1)) (c .before .before .refused .ensures)
 
-same-length-2 : tie.Need-same-length-2
-same-length-2 c = search needs
-
 returns-2 : tie.Need-returns-2
 returns-2 c =
     settled-refused (several (c .before .before .before .before .enum-told2 .given .1)) (c .before .before .refused2 .ensures)
-
-same-length-3 : tie.Need-same-length-3
-same-length-3 c = search needs
-
-same-length-4 : tie.Need-same-length-4
-same-length-4 c = search needs
 
 returns-3 : tie.Need-returns-3
 returns-3 c =
@@ -57,5 +33,5 @@ returns-3 c =
 
 pub settle-spec : {M : Type 1} → statement M
 settle-spec =
-    tie.close (tie.spec enum-told refused-requires enum-told-2 refused-requires-2 enum-told-3 divided-requires same-length returns same-length-2
-    returns-2 same-length-3 same-length-4 returns-3)
+    tie.close (tie.spec enum-told (λ c κs. search needs) (λ c. search needs) (λ c κs. search needs) (λ c. search needs) divided-requires
+    (λ c. search needs) returns (λ c. search needs) returns-2 (λ c. search needs) (λ c. search needs) returns-3)

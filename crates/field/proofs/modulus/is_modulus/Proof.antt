@@ -14,4 +14,5 @@ unfolding listed
 returns-2 c = sym (among-false moduli (c .before .args .p) (c .match .rest .1))
 
 pub is-modulus-spec : {M : Type 1} → statement M
-is-modulus-spec = tie.close (tie.spec returns returns-2)
+is-modulus-spec =
+    tie.close (tie.spec returns returns-2)

@@ -5,12 +5,6 @@ use Rattle.field.specs.services.Laws.{operand-invertible, arithmetic-ref
 use Rattle.field.proofs.services.ask_inverse.Statement.{statement}
 use Rattle.field.proofs.services.ask_inverse.Tie as tie
 
-inverse-operand-fault-requires : tie.Need-inverse-operand-fault-requires
-inverse-operand-fault-requires c κs = search needs
-
-zero-requires : tie.Need-zero-requires
-zero-requires c κs = search needs
-
 inverse-requires : tie.Need-inverse-requires
 inverse-requires c κs =
     operand-invertible _ (tested-passes _ tt _ (c .before .before .inverse-operand-fault .ensures) (c .if1 .left) .0)
@@ -27,4 +21,4 @@ returns-2 c =
 
 pub ask-inverse-spec : {M : Type 1} → statement M
 ask-inverse-spec =
-    tie.close (tie.spec inverse-operand-fault-requires zero-requires inverse-requires returns returns-2)
+    tie.close (tie.spec (λ c κs. search needs) (λ c κs. search needs) inverse-requires returns returns-2)

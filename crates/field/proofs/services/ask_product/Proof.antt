@@ -6,12 +6,6 @@ use Rattle.field.specs.services.Laws.{operands-fit, arithmetic-refused, 
 use Rattle.field.proofs.services.ask_product.Statement.{statement}
 use Rattle.field.proofs.services.ask_product.Tie as tie
 
-two-operands-fault-requires : tie.Need-two-operands-fault-requires
-two-operands-fault-requires c κs = search needs
-
-zero-requires : tie.Need-zero-requires
-zero-requires c κs = search needs
-
 product-requires : tie.Need-product-requires
 product-requires c κs =
     let fit = operands-fit _ _ (tested-passes _ tt _ (c .before .before .two-operands-fault .ensures) (c .if1 .left) .0) in
@@ -29,4 +23,4 @@ returns-2 c =
 
 pub ask-product-spec : {M : Type 1} → statement M
 ask-product-spec =
-    tie.close (tie.spec two-operands-fault-requires zero-requires product-requires returns returns-2)
+    tie.close (tie.spec (λ c κs. search needs) (λ c κs. search needs) product-requires returns returns-2)

@@ -14,28 +14,16 @@ use Rattle.field.proofs.services.first_operand_fault.Tie as tie
 is-listed : (c : tie.Else1) → Listed (c .before .before .before .args .a .modulus)
 is-listed c = sym (c .before .before .is-modulus .ensures) ∙ not-false _ (c .if1 .left)
 
-is-modulus-requires : tie.Need-is-modulus-requires
-is-modulus-requires c κs = search needs
-
-at-requires : tie.Need-at-requires
-at-requires c κs = search needs
-
 returns : tie.Need-returns
 returns c =
     let then1 = c .before in
     let not-listed = sym (then1 .before .before .is-modulus .ensures) ∙ not-true _ (then1 .if1 .taken) in
     tested-line 0 (unlisted _ not-listed, refl) (c .at .ensures)
 
-at-requires-2 : tie.Need-at-requires-2
-at-requires-2 c κs = search needs
-
 returns-2 : tie.Need-returns-2
 returns-2 c =
     let large = ltb-false _ _ (not-true _ (c .before .if2 .taken)) in
     tested-past (placed-never (λ n. n (is-listed (c .before .before)))) (tested-line 0 (large, refl) (c .at2 .ensures))
-
-none-requires : tie.Need-none-requires
-none-requires c κs = search needs
 
 returns-3 : tie.Need-returns-3
 returns-3 c =
@@ -46,5 +34,4 @@ returns-3 c =
 
 pub first-operand-fault-spec : {M : Type 1} → statement M
 first-operand-fault-spec =
-    tie.close
-    (tie.spec is-modulus-requires at-requires returns at-requires-2 returns-2 none-requires returns-3)
+    tie.close (tie.spec (λ c κs. search needs) (λ c κs. search needs) returns (λ c κs. search needs) returns-2 (λ c κs. search needs) returns-3)

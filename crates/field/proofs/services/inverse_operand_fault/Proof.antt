@@ -13,22 +13,13 @@ left : (c : tie.Else1) {f : Fault} → Tested (no-inverse (c .before .before .be
     → Tested (inverse-operand (c .before .before .before .args .a)) f
 left c = tested-goes-on _ _ _ (c .before .before .first-operand-fault .ensures) tt (c .if1 .left)
 
-first-operand-fault-requires : tie.Need-first-operand-fault-requires
-first-operand-fault-requires c κs = search needs
-
 returns : tie.Need-returns
 returns c =
     let a = c .before .before .before .args .a in
     tested-stops (first-operand a) (no-inverse a) _ (c .before .before .first-operand-fault .ensures) (c .if1 .taken)
 
-at-requires : tie.Need-at-requires
-at-requires c κs = search needs
-
 returns-2 : tie.Need-returns-2
 returns-2 c = left (c .before .before .before) (tested-line 0 (c .before .if2 .taken, refl) (c .at .ensures))
-
-none-requires : tie.Need-none-requires
-none-requires c κs = search needs
 
 returns-3 : tie.Need-returns-3
 returns-3 c =
@@ -36,5 +27,4 @@ returns-3 c =
 
 pub inverse-operand-fault-spec : {M : Type 1} → statement M
 inverse-operand-fault-spec =
-    tie.close
-    (tie.spec first-operand-fault-requires returns at-requires returns-2 none-requires returns-3)
+    tie.close (tie.spec (λ c κs. search needs) returns (λ c κs. search needs) returns-2 (λ c κs. search needs) returns-3)

@@ -31,9 +31,6 @@ module _ (v m p : ℕ) where
   fit e (inl l) = let q : ltb v p ≡ false = le-ltb v p l in subst T (sym e ∙ ap (_&& eqb m p) q) tt
   fit e (inr n) = let q : eqb m p ≡ false = ne-eqb m p n in subst T (sym e ∙ ap (ltb v p &&_) q ∙ and-false (ltb v p)) tt
 
-first-operand-fault-requires : tie.Need-first-operand-fault-requires
-first-operand-fault-requires c κs = search needs
-
 returns : tie.Need-returns
 returns c =
     let args = c .before .before .before .args in
@@ -41,17 +38,11 @@ returns c =
     (c .before .before .first-operand-fault .ensures)
     (c .if1 .taken)
 
-at-requires : tie.Need-at-requires
-at-requires c κs = search needs
-
 returns-2 : tie.Need-returns-2
 returns-2 c =
     let then2 = c .before in
     second (then2 .before .before .before .before .before)
     (tested-line 1 (unfit _ _ _ (not-true _ (then2 .if2 .taken)), refl) (c .at .ensures))
-
-none-requires : tie.Need-none-requires
-none-requires c κs = search needs
 
 returns-3 : tie.Need-returns-3
 returns-3 c =
@@ -61,5 +52,4 @@ returns-3 c =
 
 pub two-operands-fault-spec : {M : Type 1} → statement M
 two-operands-fault-spec =
-    tie.close
-    (tie.spec first-operand-fault-requires returns at-requires returns-2 none-requires returns-3)
+    tie.close (tie.spec (λ c κs. search needs) returns (λ c κs. search needs) returns-2 (λ c κs. search needs) returns-3)

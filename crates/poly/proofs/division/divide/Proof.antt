@@ -108,23 +108,6 @@ returns-2 c =
 
 pub divide-spec : {M : Type 1} → statement M
 divide-spec =
-    tie.close
-    (tie.spec
-    most-requires
-    most-requires-2
-    (λ c κs. search needs)
-    returns
-    sub-of
-    (λ c. search needs)
-    (λ c κs. search needs)
-    (λ c κs. search needs)
-    inverse-requires
-    (λ c κs. search needs)
-    shared-slice-read-of
-    (λ c κs. search needs)
-    (λ c. search needs)
-    (λ c. search needs)
-    spread-requires
-    steps-requires
-    (λ c. search needs)
-    returns-2)
+    tie.close (tie.spec most-requires most-requires-2 (λ c κs. search needs) returns sub-of (λ c. search needs) (λ c κs. search needs)
+    (λ c κs. search needs) inverse-requires (λ c κs. search needs) shared-slice-read-of (λ c κs. search needs) (λ c. search needs) (λ c. search needs)
+    spread-requires steps-requires (λ c. search needs) returns-2)

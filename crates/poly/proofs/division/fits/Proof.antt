@@ -20,4 +20,5 @@ returns-2 c =
     fits-rest (a .lead) (a .bound .bits) (a .k) (sym (c .before .before .at-most .ensures) ∙ not-false _ (c .before .if1 .left)) (c .at-most2 .ensures)
 
 pub fits-spec : {M : Type 1} → statement M
-fits-spec = tie.close (tie.spec (λ c κs. search needs) returns sub-t8 (λ c κs. search needs) returns-2)
+fits-spec =
+    tie.close (tie.spec (λ c κs. search needs) returns sub-t8 (λ c κs. search needs) returns-2)

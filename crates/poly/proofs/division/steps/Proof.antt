@@ -167,34 +167,7 @@ returns-2 c =
 
 pub steps-spec : {M : Type 1} → statement M
 steps-spec =
-    tie.close
-    (tie.spec
-    Inv-loop
-    μ-loop
-    Inv-steps
-    μ-steps
-    steps-holds
-    (λ c. search needs)
-    (λ c. search needs)
-    (λ c. search needs)
-    (λ c. search needs)
-    (λ c. search needs)
-    (λ c κs. search needs)
-    (λ c. search needs)
-    loop-again
-    (λ c. search needs)
-    (λ c. search needs)
-    (λ c κs. search needs)
-    product-requires
-    sub-work
-    (λ c. search needs)
-    (λ c. search needs)
-    (λ c. search needs)
-    sub-subtract
-    subtract-requires
-    (λ c. search needs)
-    steps-again
-    (λ c. search needs)
-    returns
-    (λ c. search needs)
-    returns-2)
+    tie.close (tie.spec Inv-loop μ-loop Inv-steps μ-steps steps-holds (λ c. search needs) (λ c. search needs) (λ c. search needs) (λ c. search needs)
+    (λ c. search needs) (λ c κs. search needs) (λ c. search needs) loop-again (λ c. search needs) (λ c. search needs) (λ c κs. search needs)
+    product-requires sub-work (λ c. search needs) (λ c. search needs) (λ c. search needs) sub-subtract subtract-requires (λ c. search needs)
+    steps-again (λ c. search needs) returns (λ c. search needs) returns-2)

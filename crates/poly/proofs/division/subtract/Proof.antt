@@ -71,26 +71,6 @@ returns c = folding-end (c .before .loop .inv .folding) (c .loop-test .left)
 
 pub subtract-spec : {M : Type 1} → statement M
 subtract-spec =
-    tie.close
-    (tie.spec
-    Inv-loop
-    μ-loop
-    loop-holds
-    (λ c. search needs)
-    (λ c. search needs)
-    (λ c κs. search needs)
-    (λ c. search needs)
-    add-at
-    (λ c κs. search needs)
-    (λ c κs. search needs)
-    mul-of
-    slice-read-of
-    (λ c κs. search needs)
-    minus-product-requires
-    mul-cells
-    slice-write-cells
-    (λ c. search needs)
-    (λ c. search needs)
-    loop-again
-    (λ c. search needs)
-    returns)
+    tie.close (tie.spec Inv-loop μ-loop loop-holds (λ c. search needs) (λ c. search needs) (λ c κs. search needs) (λ c. search needs) add-at
+    (λ c κs. search needs) (λ c κs. search needs) mul-of slice-read-of (λ c κs. search needs) minus-product-requires mul-cells slice-write-cells
+    (λ c. search needs) (λ c. search needs) loop-again (λ c. search needs) returns)

@@ -81,20 +81,5 @@ returns c =
 
 pub gcd-spec : {M : Type 1} → statement M
 gcd-spec =
-    tie.close
-    (tie.spec
-    Inv-loop
-    μ-loop
-    (λ c κs. search needs)
-    (λ c. search needs)
-    monic-requires
-    (λ c κs. search needs)
-    loop-holds
-    (λ c. search needs)
-    monic-requires-2
-    (λ c. search needs)
-    remainder-requires
-    (λ c κs. search needs)
-    loop-less
-    loop-again
-    returns)
+    tie.close (tie.spec Inv-loop μ-loop (λ c κs. search needs) (λ c. search needs) monic-requires (λ c κs. search needs) loop-holds
+    (λ c. search needs) monic-requires-2 (λ c. search needs) remainder-requires (λ c κs. search needs) loop-less loop-again returns)

@@ -34,4 +34,5 @@ returns c =
     (inverse-val _ (v .inverse .result) (listed-prime (s .pre .is-listed)) (inverts v))
 
 pub monic-spec : {M : Type 1} → statement M
-monic-spec = tie.close (tie.spec (λ c. search needs) (λ c. search needs) (λ c κs. search needs) inverse-requires scaled-requires returns)
+monic-spec =
+    tie.close (tie.spec (λ c. search needs) (λ c. search needs) (λ c κs. search needs) inverse-requires scaled-requires returns)

@@ -146,24 +146,6 @@ returns-2 c =
 
 pub image-at-spec : {M : Type 1} → statement M
 image-at-spec =
-    tie.close
-    (tie.spec
-    (λ c. search needs)
-    powers-requires
-    (λ c. search needs)
-    powers-requires-2
-    (λ c. search needs)
-    powers-requires-3
-    value-requires
-    shared-slice-read-of
-    (λ c κs. search needs)
-    (λ c κs. search needs)
-    (λ c. search needs)
-    (λ c. search needs)
-    array-read-if1
-    returns
-    value-requires-2
-    gcd-requires
-    (λ c κs. search needs)
-    cast-t13
-    returns-2)
+    tie.close (tie.spec (λ c. search needs) powers-requires (λ c. search needs) powers-requires-2 (λ c. search needs) powers-requires-3 value-requires
+    shared-slice-read-of (λ c κs. search needs) (λ c κs. search needs) (λ c. search needs) (λ c. search needs) array-read-if1 returns value-requires-2
+    gcd-requires (λ c κs. search needs) cast-t13 returns-2)

@@ -11,4 +11,5 @@ returns-2 : tie.Need-returns-2
 returns-2 c = tested-goes-on _ _ _ (c .before .before .before .lists-fault .ensures) tt (c .before .if1 .left) (c .point-fault .ensures)
 
 pub image-fault-spec : {M : Type 1} → statement M
-image-fault-spec = tie.close (tie.spec (λ c κs. search needs) returns (λ c κs. search needs) returns-2)
+image-fault-spec =
+    tie.close (tie.spec (λ c κs. search needs) returns (λ c κs. search needs) returns-2)

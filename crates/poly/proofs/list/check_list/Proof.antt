@@ -8,4 +8,5 @@ returns : tie.Need-returns
 returns c = tested-without-modulus (c .before .before .args .terms .now) (c .list-fault .ensures)
 
 pub check-list-spec : {M : Type 1} → statement M
-check-list-spec = tie.close (tie.spec (λ c κs. search needs) returns)
+check-list-spec =
+    tie.close (tie.spec (λ c κs. search needs) returns)

@@ -34,11 +34,4 @@ returns-2 c =
 
 pub leading-part-spec : {M : Type 1} → statement M
 leading-part-spec =
-    tie.close
-    (tie.spec
-    (λ c κs. search needs)
-    (λ c. search needs)
-    returns
-    leading-length-requires
-    slice-aggregate-result-2
-    returns-2)
+    tie.close (tie.spec (λ c κs. search needs) (λ c. search needs) returns leading-length-requires slice-aggregate-result-2 returns-2)

@@ -33,15 +33,5 @@ returns-2 c = search-ends (c .before .loop .inv) (c .loop-test .left)
 
 pub first-large-spec : {M : Type 1} → statement M
 first-large-spec =
-    tie.close
-    (tie.spec
-    Inv-loop
-    μ-loop
-    loop-holds
-    (λ c. search needs)
-    (λ c. search needs)
-    returns
-    (λ c. search needs)
-    (λ c. search needs)
-    loop-again
+    tie.close (tie.spec Inv-loop μ-loop loop-holds (λ c. search needs) (λ c. search needs) returns (λ c. search needs) (λ c. search needs) loop-again
     returns-2)

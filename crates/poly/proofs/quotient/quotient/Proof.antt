@@ -27,5 +27,4 @@ returns-2 c = c .before .before .before .before .exact .ensures
 
 pub quotient-spec : {M : Type 1} → statement M
 quotient-spec =
-    tie.close
-    (tie.spec (λ c κs. search needs) returns exact-requires (λ c. search needs) (λ c. search needs) returns-2)
+    tie.close (tie.spec (λ c κs. search needs) returns exact-requires (λ c. search needs) (λ c. search needs) returns-2)

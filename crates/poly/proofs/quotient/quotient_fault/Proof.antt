@@ -13,4 +13,5 @@ returns-2 c =
     tested-goes-on _ _ _ (e .before .before .lists-fault .ensures) tt (e .if1 .left) (c .rooms-fault .ensures)
 
 pub quotient-fault-spec : {M : Type 1} → statement M
-quotient-fault-spec = tie.close (tie.spec (λ c κs. search needs) returns (λ c κs. search needs) returns-2)
+quotient-fault-spec =
+    tie.close (tie.spec (λ c κs. search needs) returns (λ c κs. search needs) returns-2)

@@ -7,12 +7,6 @@ use borrow.Author.Needs.{needs}
 use Rattle.field.proofs.elements.Element.difference.Statement.{statement}
 use Rattle.field.proofs.elements.Element.difference.Tie as tie
 
-sub-t4 : tie.Need-sub-t4
-sub-t4 c = search needs
-
-sub-t5 : tie.Need-sub-t5
-sub-t5 c = search needs
-
 returns : tie.Need-returns
 returns c =
     ap (element _) (difference-down _ _ _ (omega arith) (omega arith) (omega arith))
@@ -22,4 +16,5 @@ returns-2 c =
     ap (element _) (difference-up _ _ _ (omega arith) (omega arith) (omega arith))
 
 pub difference-spec : {M : Type 1} → statement M
-difference-spec = tie.close (tie.spec sub-t4 sub-t5 returns returns-2)
+difference-spec =
+    tie.close (tie.spec (λ c. search needs) (λ c. search needs) returns returns-2)

@@ -69,20 +69,4 @@ returns c =
 
 pub inverse-spec : {M : Type 1} → statement M
 inverse-spec =
-    tie.close
-    (tie.spec
-    Inv-loop
-    μ-loop
-    cast-p
-    cast-r
-    loop-holds
-    div-m
-    mul-m
-    rem-m
-    rem-r
-    sub-t
-    rem-t
-    loop-less
-    loop-again
-    cast-t9
-    returns)
+    tie.close (tie.spec Inv-loop μ-loop cast-p cast-r loop-holds div-m mul-m rem-m rem-r sub-t rem-t loop-less loop-again cast-t9 returns)

@@ -9,35 +9,18 @@ use borrow.Author.Needs.{needs}
 use Rattle.field.proofs.elements.Element.plus_product.Statement.{statement}
 use Rattle.field.proofs.elements.Element.plus_product.Tie as tie
 
-cast-v : tie.Need-cast-v
-cast-v c = search needs
-
-cast-v-2 : tie.Need-cast-v-2
-cast-v-2 c = search needs
-
-cast-v-3 : tie.Need-cast-v-3
-cast-v-3 c = search needs
-
 mul-v : tie.Need-mul-v
 mul-v c = record { fits = mul-below {m = residue-limit} (omega arith) (omega arith) }
 
 add-v : tie.Need-add-v
 add-v c = record { fits = plus-below {m = residue-limit} (omega arith) (omega arith) (omega arith) }
 
-cast-v-4 : tie.Need-cast-v-4
-cast-v-4 c = search needs
-
-rem-v : tie.Need-rem-v
-rem-v c = search needs
-
 cast-t11 : tie.Need-cast-t11
 cast-t11 c =
     let start = c .before .before .before .before in
     omega (arith, mod-lt (start .args .self .value + start .args .a .value * start .args .b .value) (start .pre))
 
-returns : tie.Need-returns
-returns c = search needs
-
 pub plus-product-spec : {M : Type 1} → statement M
 plus-product-spec =
-    tie.close (tie.spec cast-v cast-v-2 cast-v-3 mul-v add-v cast-v-4 rem-v cast-t11 returns)
+    tie.close (tie.spec (λ c. search needs) (λ c. search needs) (λ c. search needs) mul-v add-v (λ c. search needs) (λ c. search needs) cast-t11
+    (λ c. search needs))

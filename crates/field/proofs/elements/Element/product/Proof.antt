@@ -9,28 +9,14 @@ use borrow.Author.Needs.{needs}
 use Rattle.field.proofs.elements.Element.product.Statement.{statement}
 use Rattle.field.proofs.elements.Element.product.Tie as tie
 
-cast-v : tie.Need-cast-v
-cast-v c = search needs
-
-cast-v-2 : tie.Need-cast-v-2
-cast-v-2 c = search needs
-
 mul-v : tie.Need-mul-v
 mul-v c = record { fits = mul-below {m = residue-limit} (omega arith) (omega arith) }
-
-cast-v-3 : tie.Need-cast-v-3
-cast-v-3 c = search needs
-
-rem-v : tie.Need-rem-v
-rem-v c = search needs
 
 cast-t8 : tie.Need-cast-t8
 cast-t8 c =
     let start = c .before .before .before in
     omega (arith, mod-lt (start .args .self .value * start .args .other .value) (start .pre))
 
-returns : tie.Need-returns
-returns c = search needs
-
 pub product-spec : {M : Type 1} → statement M
-product-spec = tie.close (tie.spec cast-v cast-v-2 mul-v cast-v-3 rem-v cast-t8 returns)
+product-spec =
+    tie.close (tie.spec (λ c. search needs) (λ c. search needs) mul-v (λ c. search needs) (λ c. search needs) cast-t8 (λ c. search needs))

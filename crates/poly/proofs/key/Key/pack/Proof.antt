@@ -7,4 +7,5 @@ returns : tie.Need-returns
 returns c = keyed (c .args .x) (c .args .y) (c .args .z) (c .args .w) (c .pre)
 
 pub pack-spec : {M : Type 1} → statement M
-pack-spec = tie.close (tie.spec returns)
+pack-spec =
+    tie.close (tie.spec returns)

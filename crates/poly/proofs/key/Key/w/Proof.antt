@@ -7,4 +7,5 @@ returns : tie.Need-returns
 returns c = and-mask _ 3
 
 pub w-spec : {M : Type 1} → statement M
-w-spec = tie.close (tie.spec returns)
+w-spec =
+    tie.close (tie.spec returns)

@@ -7,4 +7,5 @@ returns : tie.Need-returns
 returns c = and-mask _ 3
 
 pub y-spec : {M : Type 1} → statement M
-y-spec = tie.close (tie.spec returns)
+y-spec =
+    tie.close (tie.spec returns)

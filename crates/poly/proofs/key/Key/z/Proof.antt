@@ -7,4 +7,5 @@ returns : tie.Need-returns
 returns c = and-mask _ 3
 
 pub z-spec : {M : Type 1} → statement M
-z-spec = tie.close (tie.spec returns)
+z-spec =
+    tie.close (tie.spec returns)
