@@ -44,8 +44,8 @@ module _ (f : Format) where
   in-order [] c = []
   in-order (k ∷ ks) c = records k (c k) ++ in-order ks c
 
-  unfoldable pub written : Case → List ℕ
-  written c = in-order (order f) c
+  unfoldable pub file-of : Case → List ℕ
+  file-of c = in-order (order f) c
 
   -- a case that a file can hold
   pub record Storable (c : Case) : Type 0 where

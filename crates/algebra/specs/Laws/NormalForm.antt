@@ -5,7 +5,7 @@ use Prim.Native.Nat.{ℕ, zero, suc, _+_ as _+ₙ_, _*_ as _*ₙ_, compare, Orde
 use Prim.Native.Nat.{compare·suc-suc}
 use native.Mathlib.Nat.{suc-add, zero-add as zero-addₙ, suc-mul, zero-mul as zero-mulₙ}
 use Rattle.algebra.specs.Ring.{CommRing}
-use Rattle.algebra.specs.Models.NormalForm.{_⊕_, Expr, var, k0, k1, _⊗_, ⊝, Sum, none, more, choose, insert, join, then, order, put, both, scaled}
+use Rattle.algebra.specs.Models.NormalForm.{_⊕_, Expr, var, k0, k1, _⊗_, ⊝, Sum, empty, more, choose, insert, join, then, order, put, both, scaled}
 use Rattle.algebra.specs.Models.NormalForm.{times, NormalForm, normal, EqualAnd, Equal, Same, Agree}
 use Rattle.algebra.specs.Laws.Ring.{zero-add, add-left-comm, mul-left-comm, one-mul, distrib-l, add-neg-cancel, zero-mul, mul-zero, neg-mul, mul-neg}
 use Rattle.algebra.specs.Laws.Ring.{neg-neg, neg-zero, neg-dist}
@@ -75,7 +75,7 @@ module _ (R : CommRing) where
   product (i ∷ m) ρ = nth ρ i * product m ρ
 
   total : Sum → List Car → Car
-  total none ρ = 𝟘
+  total empty ρ = 𝟘
   total (more k m s) ρ = nat k * product m ρ + total s ρ
 
   nat-add : (a b : ℕ) → nat (a +ₙ b) ≡ nat a + nat b
@@ -100,7 +100,7 @@ module _ (R : CommRing) where
 
   total-put : (k : ℕ) (m : List ℕ) (s : Sum) (ρ : List Car) → total (put k m s) ρ ≡ nat k * product m ρ + total s ρ
   unfolding total
-  total-put k m none ρ = refl
+  total-put k m empty ρ = refl
   total-put k m (more j n s) ρ = chosen (λ t. total t ρ ≡ nat k * product m ρ + (nat j * product n ρ + total s ρ)) (order m n) _ _ _ refl
       (λ e. ap (_+ total s ρ) (ap (_* product n ρ) (nat-add k j) ∙ R .distrib _ _ _
       ∙ ap (λ u. nat k * product u ρ + nat j * product n ρ) (sym (order-eq m n e)))
@@ -109,7 +109,7 @@ module _ (R : CommRing) where
 
   total-both : (s t : Sum) (ρ : List Car) → total (both s t) ρ ≡ total s ρ + total t ρ
   unfolding total
-  total-both none t ρ = sym (zero-add R _)
+  total-both empty t ρ = sym (zero-add R _)
   total-both (more k m s) t ρ = total-put k m (both s t) ρ ∙ ap (nat k * product m ρ +_) (total-both s t ρ) ∙ sym (R .add-assoc _ _ _)
 
   mul-mul-comm : (a b c d : Car) → (a * b) * (c * d) ≡ (a * c) * (b * d)
@@ -117,21 +117,21 @@ module _ (R : CommRing) where
 
   total-scaled : (k : ℕ) (m : List ℕ) (t : Sum) (ρ : List Car) → total (scaled k m t) ρ ≡ nat k * product m ρ * total t ρ
   unfolding total
-  total-scaled k m none ρ = sym (mul-zero R _)
+  total-scaled k m empty ρ = sym (mul-zero R _)
   total-scaled k m (more j n s) ρ = total-put (k *ₙ j) (join m n) (scaled k m s) ρ
       ∙ ap₂ _+_ (ap₂ _*_ (nat-mul k j) (product-join m n ρ) ∙ mul-mul-comm _ _ _ _) (total-scaled k m s ρ)
       ∙ sym (distrib-l R _ _ _)
 
   total-times : (s t : Sum) (ρ : List Car) → total (times s t) ρ ≡ total s ρ * total t ρ
   unfolding total
-  total-times none t ρ = sym (zero-mul R _)
+  total-times empty t ρ = sym (zero-mul R _)
   total-times (more k m s) t ρ = total-both (scaled k m t) (times s t) ρ ∙ ap₂ _+_ (total-scaled k m t ρ) (total-times s t ρ) ∙ sym (R .distrib _ _ _)
 
   total-same : (s t : Sum) (ρ : List Car) → Same s t → total s ρ ≡ total t ρ
   unfolding total
-  total-same none none ρ p = refl
-  total-same none (more j n t) ρ p = absurd p
-  total-same (more k m s) none ρ p = absurd p
+  total-same empty empty ρ p = refl
+  total-same empty (more j n t) ρ p = absurd p
+  total-same (more k m s) empty ρ p = absurd p
   total-same (more k m s) (more j n t) ρ p =
       let q = equal-rest (compare k j) _ p in
       ap₂ _+_ (ap₂ _*_ (ap nat (compare-eq k j (equal-first (compare k j) _ p))) (ap (λ u. product u ρ) (order-eq m n (equal-first (order m n) _ q))))

@@ -16,7 +16,7 @@ a ⊖ b = a ⊕ ⊝ b
 
 -- a sum of monomials, each so many times; a monomial is the sorted list of its factors' places
 pub data Sum : Type 0 where
-  none : Sum
+  empty : Sum
   more : ℕ → List ℕ → Sum → Sum
 
 -- one of three, by the order of two things
@@ -48,19 +48,19 @@ order (i ∷ m) (j ∷ n) = then (compare i j) (order m n)
 
 -- sums: k times the monomial m more, the sum of two, k times m times one, and the product of two
 abbrev pub put : ℕ → List ℕ → Sum → Sum
-put k m none = more k m none
+put k m empty = more k m empty
 put k m (more j n s) = choose (order m n) (more k m (more j n s)) (more (k +ₙ j) n s) (more j n (put k m s))
 
 abbrev pub both : Sum → Sum → Sum
-both none t = t
+both empty t = t
 both (more k m s) t = put k m (both s t)
 
 abbrev pub scaled : ℕ → List ℕ → Sum → Sum
-scaled k m none = none
+scaled k m empty = empty
 scaled k m (more j n s) = put (k *ₙ j) (join m n) (scaled k m s)
 
 abbrev pub times : Sum → Sum → Sum
-times none t = none
+times empty t = empty
 times (more k m s) t = both (scaled k m t) (times s t)
 
 -- a normal form: what is added, and what is taken off
@@ -78,9 +78,9 @@ multiply-forms a b = record {
 }
 
 abbrev pub normal : Expr → NormalForm
-normal (var i) = record { pos = more 1 (i ∷ []) none; neg = none }
-normal k0 = record { pos = none; neg = none }
-normal k1 = record { pos = more 1 [] none; neg = none }
+normal (var i) = record { pos = more 1 (i ∷ []) empty; neg = empty }
+normal k0 = record { pos = empty; neg = empty }
+normal k1 = record { pos = more 1 [] empty; neg = empty }
 normal (a ⊕ b) = add-forms (normal a) (normal b)
 normal (a ⊗ b) = multiply-forms (normal a) (normal b)
 normal (⊝ a) = record { pos = (normal a) .neg; neg = (normal a) .pos }
@@ -95,9 +95,9 @@ abbrev pub Equal : Ordering → Type 0
 Equal o = EqualAnd o (Unit {0})
 
 abbrev pub Same : Sum → Sum → Type 0
-Same none none = Unit {0}
-Same none (more j n t) = ⊥
-Same (more k m s) none = ⊥
+Same empty empty = Unit {0}
+Same empty (more j n t) = ⊥
+Same (more k m s) empty = ⊥
 Same (more k m s) (more j n t) = EqualAnd (compare k j) (EqualAnd (order m n) (Same s t))
 
 -- the difference of the two is nothing

@@ -7,7 +7,7 @@ use Rattle.field.specs.Refusal.{none}
 use Rattle.case_file.specs.Format.{today, known, kind-of, follows, little}
 use Rattle.case_file.specs.Case.{added, flat}
 use Rattle.case_file.specs.Reading.{refused, fault-number, reading, read-one-in, alone, read-in, read}
-use Rattle.case_file.specs.Written.{written, in-order, records, packed, bytes}
+use Rattle.case_file.specs.Written.{file-of, in-order, records, packed, bytes}
 use Rattle.case_file.specs.Handed.{contents, padded, case}
 
 abbrev pub example : List ℕ
@@ -41,8 +41,8 @@ pub example-read :
 unfolding read-in read-one-in reading alone fault-number added flat known kind-of follows little
 example-read = refl
 
-pub example-written : written today (case (read example)) ≡ example
-unfolding read-in read-one-in reading alone fault-number added flat known kind-of follows little written in-order records packed bytes
+pub example-written : file-of today (case (read example)) ≡ example
+unfolding read-in read-one-in reading alone fault-number added flat known kind-of follows little file-of in-order records packed bytes
 example-written = refl
 
 pub refusals :

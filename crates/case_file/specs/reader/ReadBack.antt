@@ -10,7 +10,7 @@ use Rattle.field.specs.Numbers.{NO_END}
 use Rattle.case_file.specs.Format.{Format, WellFormed, base, first-byte, last-byte, order, member, known, rises, widths, body, content}
 use Rattle.case_file.specs.Case.{Case, no-records, added}
 use Rattle.case_file.specs.Reading.{Reading, whole, reading, read-one-in}
-use Rattle.case_file.specs.Written.{packed, records, in-order, written, Below, EachFits, Storable}
+use Rattle.case_file.specs.Written.{packed, records, in-order, file-of, Below, EachFits, Storable}
 use Rattle.case_file.specs.record.Tests.{risen, by-member, Passed, passed, not-first, not-below}
 use Rattle.case_file.specs.record.Packing.{packed-numbers, numbers-fit}
 use Rattle.case_file.specs.reader.Steps.{refused-no-case, by-record}
@@ -52,13 +52,13 @@ module _ (f : Format) where
   -- where reading stands: the bytes passed are the records of the case so far
   record Stored (before : ℕ) (c : Case) (done : List ℕ) : Type 0 where
     standing : Standing f before c
-    exact : done ≡ written f c
+    exact : done ≡ file-of f c
     bodies : (j : ℕ) → EachFits (widths f j) (c j)
     begun : 1 ≤ before → 1 ≤ length (c (first-byte f))
 
 module _ (f : Format) (w : WellFormed f) where
   stored-start : Stored f 0 no-records []
-  unfolding written
+  unfolding file-of
   stored-start =
       record {
         standing = standing-start f;
@@ -76,7 +76,7 @@ module _ (f : Format) (w : WellFormed f) where
         (first-byte f) refl
 
     stored-more : Below base bs → Stored f k (added k (content f k bs ∷ []) c) (done ++ k ∷ packed (widths f k) (content f k bs))
-    unfolding written known
+    unfolding file-of known
     stored-more b =
         let up : before ≤ k = not-below f before k (p .in-order) in
         let later : (j : ℕ) → k < j → c j ≡ [] = λ j h. s .standing .later j (omega arith) in
@@ -93,7 +93,7 @@ module _ (f : Format) (w : WellFormed f) where
   -- what was read is the written form of the case, and what stands after it
   record Back (done bs : List ℕ) (c : Case) : Type 0 where
     rest : List ℕ
-    same : done ++ bs ≡ written f c ++ rest
+    same : done ++ bs ≡ file-of f c ++ rest
     storable : Storable f c
 
   module _ (before k : ℕ) (c : Case) (bs done : List ℕ) (s : Stored f before c done) (b : Below base bs) (p : Passed f before k (length (c k)) (length bs))
@@ -143,10 +143,10 @@ module _ (f : Format) (w : WellFormed f) where
 
   -- what was read is the written form of a case that can be stored, with what stands after it; reading stops after the case
   pub written-of-read-one : (bs : List ℕ) (c : Case) (n : ℕ) → Below base bs → read-one-in f bs ≡ whole c n
-      → (rest : List ℕ) × (bs ≡ written f c ++ rest) × (n + length rest ≡ length bs) × Storable f c
+      → (rest : List ℕ) × (bs ≡ file-of f c ++ rest) × (n + length rest ≡ length bs) × Storable f c
   unfolding read-one-in
   written-of-read-one bs c n b e =
       let r = back c n 0 0 0 no-records bs [] stored-start b e in
-      let again : whole c (length (written f c)) ≡ whole c n = sym (read-one-of-written f w c (r .storable) (r .rest)) ∙ rw (← r .same) e in
-      let l : length (written f c) ≡ n = cc in
+      let again : whole c (length (file-of f c)) ≡ whole c n = sym (read-one-of-written f w c (r .storable) (r .rest)) ∙ rw (← r .same) e in
+      let l : length (file-of f c) ≡ n = cc in
       (r .rest, r .same, omega (arith, simp length-append at (ap length (r .same))), r .storable)

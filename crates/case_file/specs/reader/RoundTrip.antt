@@ -12,7 +12,7 @@ use lib.Seq.{drop-at}
 use Rattle.case_file.specs.Format.{Kind, Format, WellFormed, first-byte, last-byte, bytes-of, order, member, known, rises, widths, limit, body, follows}
 use Rattle.case_file.specs.Case.{Case, no-records, added}
 use Rattle.case_file.specs.Reading.{Reading, whole, reading, read-one-in}
-use Rattle.case_file.specs.Written.{packed, records, in-order, written, Fits, EachFits, Storable}
+use Rattle.case_file.specs.Written.{packed, records, in-order, file-of, Fits, EachFits, Storable}
 use Rattle.case_file.specs.record.Tests.{risen, unknown-kind, room-known, may-follow, may-begin, passes}
 use Rattle.case_file.specs.record.Packing.{length-packed, numbers-packed}
 use Rattle.case_file.specs.reader.Steps.{passed-over, goes-on, ends}
@@ -142,8 +142,8 @@ module _ (f : Format) (w : WellFormed f) (c : Case) (s : Storable f c) where
       ∙ rw length-append (ap (whole c) (omega arith))))
 
   -- reading what is written gives the case; what stands after it is left
-  pub read-one-of-written : (rest : List ℕ) → read-one-in f (written f c ++ rest) ≡ whole c (length (written f c))
-  unfolding read-one-in written in-order
+  pub read-one-of-written : (rest : List ℕ) → read-one-in f (file-of f c ++ rest) ≡ whole c (length (file-of f c))
+  unfolding read-one-in file-of in-order
   read-one-of-written rest =
       let k : ℕ = first-byte f in
       let after : List ℕ = in-order f (with-last f (f .between)) c in
