@@ -12,7 +12,8 @@ use Rattle.divisor.proofs.checks.points_fault.Statement.{statement}
 use Rattle.divisor.proofs.checks.points_fault.Tie as tie
 
 -- past the three tests the count is right
-counted : (c : tie.Else3) → let points = c .before .before .before .before .args .points .now in ¬ (Count most-point-numbers points ⊎ (¬ (length points % 3 ≡ 0)))
+counted : (c : tie.Else3) → let points = c .before .before .before .before .args .points .now in
+    ¬ (Count most-point-numbers points ⊎ (¬ (length points % 3 ≡ 0)))
 counted c =
     ⊎-elim (well-counted most-point-numbers (c .before .before .before .before .args .points .now) (c .before .before .if1 .left) (c .before .if2 .left))
     (λ n. n (c .if3 .left))
