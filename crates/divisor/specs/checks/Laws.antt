@@ -1,21 +1,14 @@
--- The checks of skeleton and points: what the searches settle, line by line.
+-- The search of the first wrong key: how it begins, goes on and ends.
 use mathlib.Core.Path.{_≡_, ap}
-use mathlib.Core.Logic.{_⊎_, inl, inr}
 use mathlib.Core.List.{List}
-use Prim.Native.Nat.{ℕ, _+_, _%_, _≤_, _<_}
+use Prim.Native.Nat.{ℕ, _+_, _≤_, _<_}
 use native.Mathlib.Omega.{arith}
 use lib.ListN.{length, getD}
-use Rattle.field.specs.Numbers.{SKELETON_KEY, POINT_NUMBER}
-use Rattle.field.specs.Refusal.{fault, none, Tested}
-use Rattle.field.specs.faults.Laws.{placed-never, tested-line, tested-past, tested-end}
-use Rattle.field.specs.declared.faults.Fault.{Fault}
 use Rattle.poly.specs.Keys.{keys}
-use Rattle.poly.specs.Lists.{Count, WrongKey, above, not-below, WrongNumber}
+use Rattle.poly.specs.Lists.{WrongKey, above, not-below}
 use Rattle.poly.specs.Search.{Searched}
 use Rattle.poly.specs.list.Searching.{Searching}
-use Rattle.poly.specs.list.Search.{search-begins, search-goes-on, search-stops, search-ends, searched-first, searched-none}
-use Rattle.poly.specs.points.Check.{numbers-end}
-use Rattle.divisor.specs.Candidate.{most-keys, most-point-numbers, of-skeleton, of-points}
+use Rattle.poly.specs.list.Search.{search-begins, search-goes-on, search-stops, search-ends}
 
 -- the key before place i: above every key at the start
 pub data Before (ks : List ℕ) : ℕ → ℕ → Type 0 where
@@ -58,30 +51,3 @@ module _ (ks : List ℕ) where
   pub keys-beyond : (i : ℕ) → length ks ≤ i → ¬ WrongKey ks i
   keys-beyond i l (above b m) = omega arith
   keys-beyond i l (not-below j e b m) = omega arith
-
-  module _ (n : ¬ (length ks ≡ 0)) (m : length ks ≤ most-keys) (place : ℕ) (s : Searched (WrongKey ks) (length ks) place) where
-    counted : ¬ Count most-keys ks
-    counted (inl e) = n e
-    counted (inr l) = omega arith
-
-    pub skeleton-wrong : place < length ks → {f : Fault} → f ≡ fault SKELETON_KEY place → Tested (of-skeleton ks) f
-    skeleton-wrong l e = tested-past (placed-never counted) (tested-line place (searched-first (WrongKey ks) (length ks) keys-beyond place s l) e)
-
-    pub skeleton-right : length ks ≤ place → {f : Fault} → f ≡ none → Tested (of-skeleton ks) f
-    skeleton-right l e = tested-past (placed-never counted) (tested-past (searched-none (WrongKey ks) (length ks) keys-beyond place s l) (tested-end e))
-
-module _ (p : ℕ) (points : List ℕ) (n : ¬ (length points ≡ 0)) (m : length points ≤ most-point-numbers) (t : length points % 3 ≡ 0)
-    (place : ℕ) (s : Searched (WrongNumber p points) (length points) place) where
-  well-counted : ¬ (Count most-point-numbers points ⊎ (¬ (length points % 3 ≡ 0)))
-  well-counted (inl (inl e)) = n e
-  well-counted (inl (inr l)) = omega arith
-  well-counted (inr q) = q t
-
-  pub points-wrong : place < length points → {f : Fault} → f ≡ fault POINT_NUMBER place → Tested (of-points p points) f
-  points-wrong l e =
-      tested-past (placed-never well-counted) (tested-line place (searched-first (WrongNumber p points) (length points) (numbers-end p points) place s l) e)
-
-  pub points-right : length points ≤ place → {f : Fault} → f ≡ none → Tested (of-points p points) f
-  points-right l e =
-      tested-past (placed-never well-counted)
-      (tested-past (searched-none (WrongNumber p points) (length points) (numbers-end p points) place s l) (tested-end e))

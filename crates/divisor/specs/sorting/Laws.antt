@@ -9,6 +9,7 @@ use native.Mathlib.Omega.{arith}
 use lib.Dec.{eqb}
 use lib.ListN.{length}
 use borrow.Author.Tests.{eq-eqb, ne-eqb, lt-ltb, le-ltb}
+use Rattle.field.specs.loops.Fold.{fold}
 use Rattle.field.specs.Prime.{Prime}
 use Rattle.field.specs.Modulo.{Modulo}
 use Rattle.poly.specs.declared.PointImage.{PointImage}
@@ -18,7 +19,7 @@ use Rattle.poly.specs.Coefficients.{series}
 use Rattle.poly.specs.PointImage.{Image}
 use Rattle.poly.specs.ImageCall.{PointAnswer, bad, good}
 use Rattle.divisor.specs.Rule.{Kept, Sorted, AllBad, done, bad as bad-point, unlucky, keep}
-use Rattle.divisor.specs.sorting.Model.{sizes-of, lesser, least-from, alike, kept-of}
+use Rattle.divisor.specs.sorting.Model.{sizes-of, lesser, with-size, alike, kept-of}
 
 -- what the lesser of two sizes is
 pub data Lesser (a b : ℕ) : ℕ → Type 0 where
@@ -86,10 +87,10 @@ alike-two a b n (s ∷ l) = go (ℕ-discrete s a) (ℕ-discrete s b) (alike-two 
     go (no d) (no e) h = rw (ne-eqb s a d, alike) (rw (ne-eqb s b e, alike) (omega arith))
 
 -- the least size is the least
-pub least-is : (a : ℕ) (sizes : List ℕ) → Least a sizes (least-from a sizes)
-unfolding least-from
+pub least-is : (a : ℕ) (sizes : List ℕ) → Least a sizes (fold with-size sizes a)
+unfolding fold
 least-is a [] = record { below-first = inr (omega arith); below = tt; zero-first = λ e. e; zero = λ e. tt; reached = inl refl }
-least-is a (s ∷ sizes) = go (lesser a s) (lesser-is a s) (least-from (lesser a s) sizes) (least-is (lesser a s) sizes)
+least-is a (s ∷ sizes) = go (lesser a s) (lesser-is a s) (fold with-size sizes (lesser a s)) (least-is (lesser a s) sizes)
   where
     go : (b : ℕ) → Lesser a s b → (m : ℕ) → Least b sizes m → Least a (s ∷ sizes) m
     go b (first h) m l = record {

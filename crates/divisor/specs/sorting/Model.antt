@@ -3,6 +3,7 @@ use mathlib.Core.Bool.{true, false}
 use mathlib.Core.List.{List, [], _∷_, map}
 use Prim.Native.Nat.{ℕ, suc}
 use lib.Dec.{eqb, ltb}
+use Rattle.field.specs.loops.Fold.{fold}
 use Rattle.field.specs.Prime.{Prime}
 use Rattle.field.specs.Modulo.{Modulo}
 use Rattle.poly.specs.declared.PointImage.{PointImage}
@@ -17,13 +18,13 @@ sizes-of looks = map (λ (r : PointImage). r .size) looks
 unfoldable pub lesser : ℕ → ℕ → ℕ
 lesser a b = elim (eqb b 0) [ true ↦ a | false ↦ elim (eqb a 0) [ true ↦ b | false ↦ elim (ltb b a) [ true ↦ b | false ↦ a ] ] ]
 
--- the least size but 0, or 0
-unfoldable pub least-from : ℕ → List ℕ → ℕ
-least-from a [] = a
-least-from a (s ∷ sizes) = least-from (lesser a s) sizes
+-- the least so far, with one more size
+abbrev pub with-size : ℕ → ℕ → ℕ
+with-size s m = lesser m s
 
+-- the least size but 0, or 0
 abbrev pub least : List ℕ → ℕ
-least sizes = least-from 0 sizes
+least sizes = fold with-size sizes 0
 
 -- how many sizes are m
 unfoldable pub alike : ℕ → List ℕ → ℕ

@@ -8,7 +8,7 @@ use lib.ListN.{length, getD, take, drop, set, drop-of-length-le}
 use lib.Seq.{drop-cons, getD-take, length-take-le, take-suc-set}
 use borrow.Author.Tests.{eq-eqb, ne-eqb}
 use Rattle.poly.specs.Terms.{keyed}
-use Rattle.divisor.specs.sorting.Model.{lesser, least-from, alike}
+use Rattle.divisor.specs.sorting.Model.{alike}
 use Rattle.divisor.specs.monic.Model.{leading, scaled-terms}
 use Rattle.divisor.specs.monic.Terms.{leading-zero, leading-here, scaled-zero, scaled-here}
 
@@ -21,14 +21,6 @@ module _ (list : List ℕ) (n i : ℕ) where
 
   none-left : n ≤ length list → n ≤ i → drop i (take n list) ≡ []
   none-left l h = drop-of-length-le (take n list) {i = i} (let e = length-take-le n list l in omega arith)
-
-  pub least-next : (m : ℕ) → n ≤ length list → i < n → least-from m (drop i (take n list)) ≡ least-from (lesser m (getD list i 0)) (drop (i + 1) (take n list))
-  unfolding least-from
-  least-next m l h = ap (least-from m) (next-left l h)
-
-  pub least-end : (m : ℕ) → n ≤ length list → n ≤ i → least-from m (drop i (take n list)) ≡ m
-  unfolding least-from
-  least-end m l h = ap (least-from m) (none-left l h)
 
   pub alike-same : (m : ℕ) → n ≤ length list → i < n → getD list i 0 ≡ m → alike m (drop i (take n list)) ≡ suc (alike m (drop (i + 1) (take n list)))
   unfolding alike

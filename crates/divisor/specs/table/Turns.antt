@@ -13,7 +13,8 @@ use Rattle.poly.specs.Search.{Searched}
 use Rattle.divisor.specs.declared.table.Row.{Row}
 use Rattle.divisor.specs.declared.table.Table.{Table}
 use Rattle.divisor.specs.declared.table.Kind.the-variants.{None, One, Several}
-use Rattle.divisor.specs.table.Model.{most-columns, row-at, cell, Entry, diagonal, altered, minus, kept, insert, with-row, kind-from, kind, total, value, back}
+use Rattle.divisor.specs.table.Model.{most-columns, row-at, cell, Entry, diagonal, altered, minus, kept, insert, with-row}
+use Rattle.divisor.specs.table.Model.{kind-from, kind, total, value, back}
 
 -- what is left of n turns at turn i
 turns-left : (i n : ℕ) → i < n → n - i ≡ suc (n - (i + 1))
@@ -23,14 +24,33 @@ no-turns-left : (i n : ℕ) → n ≤ i → n - i ≡ 0
 no-turns-left i n h = omega arith
 
 module _ (g : ℕ → ℕ → ℕ) (i n : ℕ) (l : List ℕ) where
-  pub altered-turn : i < n → altered g i (n - i) l ≡ altered g (i + 1) (n - (i + 1)) (set l i (g i (getD l i 0)))
+  altered-turn : i < n → altered g i (n - i) l ≡ altered g (i + 1) (n - (i + 1)) (set l i (g i (getD l i 0)))
   unfolding altered
   altered-turn h =
       ap (λ m. altered g i m l) (turns-left i n h) ∙ ap (λ k. altered g k (n - (i + 1)) (set l i (g i (getD l i 0)))) (sym (add-one i))
 
-  pub altered-end : n ≤ i → altered g i (n - i) l ≡ l
+  altered-end : n ≤ i → altered g i (n - i) l ≡ l
   unfolding altered
   altered-end h = ap (λ m. altered g i m l) (no-turns-left i n h)
+
+-- a row of which the places from j up to n are altered one by one, at place i: altering what is left gives what altering all of them gave
+pub record Altering (g : ℕ → ℕ → ℕ) (j n : ℕ) (old : List ℕ) (i : ℕ) (l : List ℕ) : Type 0 where
+  pub within : i ≤ n
+  pub same : altered g i (n - i) l ≡ altered g j (n - j) old
+
+module _ {g : ℕ → ℕ → ℕ} {j n : ℕ} {old : List ℕ} where
+  pub altering-start : j ≤ n → Altering g j n old j old
+  altering-start h = record { within = h; same = refl }
+
+  module _ {i : ℕ} {l : List ℕ} (h : Altering g j n old i l) where
+    pub altering-next : i < n → {v : ℕ} → v ≡ g i (getD l i 0) → Altering g j n old (i + 1) (set l i v)
+    altering-next b e = record {
+      within = omega arith;
+      same = ap (λ (v : ℕ). altered g (i + 1) (n - (i + 1)) (set l i v)) e ∙ sym (altered-turn g i n l b) ∙ h .same;
+    }
+
+    pub altering-end : n ≤ i → l ≡ altered g j (n - j) old
+    altering-end b = sym (altered-end g i n l b) ∙ h .same
 
 -- a step at one column
 module _ (p : ℕ) (t : Table) (e : Row) (j n : ℕ) where

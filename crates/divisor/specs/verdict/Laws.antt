@@ -1,13 +1,14 @@
--- Two trial divisions one after the other, the terms written into the output one by one, and what a solution settles.
+-- Two trial divisions one after the other, the output filled with terms, and what a solution settles.
 use mathlib.Core.Path.{_≡_, refl, sym, _∙_, ap, subst}
 use mathlib.Core.Bool.{Bool, true, false, not, true≢false}
-use mathlib.Core.List.{List, [], _∷_, _++_}
-use Prim.Native.Nat.{ℕ, zero, suc, _+_, _≤_, _<_}
-use native.Mathlib.Numerals.{add-one}
+use mathlib.Core.List.{List, [], _++_}
+use Prim.Native.Nat.{ℕ, _+_, _-_, _≤_, _<_}
+use native.Mathlib.Decide.{decLt}
 use native.Mathlib.Omega.{arith}
-use lib.ListN.{length, getD, set, take, drop}
-use lib.Seq.{length-take-le, take-length}
+use lib.ListN.{length, getD, take, drop, length-append, length-drop, List·getD-append}
+use lib.Seq.{length-take-le, ext-getD, getD-drop, getD-append-add}
 use borrow.Author.Tests.{not-true, not-false}
+use Rattle.field.specs.loops.Filled.{Filled}
 use Rattle.field.specs.Prime.{Prime}
 use Rattle.field.specs.Numbers.{DOES_NOT_DIVIDE}
 use Rattle.poly.specs.Room.{work-room, written, cleared}
@@ -55,20 +56,22 @@ module _ {p : ℕ} {A B G work after : List ℕ} {first : Bool} (divided : Trial
     room = later .room ∙ ap cleared (divided .room) ∙ cleared-again work;
   }
 
--- a copy from the front, one store a turn
-copy-suc : (i : ℕ) (new old : List ℕ) → i < length new → i < length old → set (take i new ++ drop i old) i (getD new i 0) ≡ take (suc i) new ++ drop (suc i) old
-copy-suc i [] old l m = absurd (omega arith)
-copy-suc i (x ∷ new) [] l m = absurd (omega arith)
-copy-suc zero (x ∷ new) (y ∷ old) l m = refl
-copy-suc (suc i) (x ∷ new) (y ∷ old) l m = ap (x ∷_) (copy-suc i new old (omega arith) (omega arith))
+-- an output that is filled with the terms, and left from there on, has them written first
+pub filled-written : (new old : List ℕ) {r : List ℕ} {i : ℕ} → Filled (λ j. getD new j 0) (length old) old i r → i ≡ length new → r ≡ written new old
+filled-written new old {r} {i} f e = ext-getD 0 r (new ++ rest) sized (λ j l. go j (decLt j (length new)))
+  where
+    rest : List ℕ
+    rest = drop (length new) old
 
-pub copy-more : (i : ℕ) (new old : List ℕ) → i < length new → i < length old
-    → set (take i new ++ drop i old) i (getD new i 0) ≡ take (i + 1) new ++ drop (i + 1) old
-copy-more i new old l m =
-    subst (λ (k : ℕ). set (take i new ++ drop i old) i (getD new i 0) ≡ take k new ++ drop k old) (sym (add-one i)) (copy-suc i new old l m)
+    sized : length r ≡ length (new ++ rest)
+    sized = omega (arith, length-append new rest, length-drop (length new) old, f .within, f .long)
 
-pub copy-all : (i : ℕ) (new old : List ℕ) → i ≡ length new → take i new ++ drop i old ≡ written new old
-copy-all i new old e = ap (λ (k : ℕ). take k new ++ drop k old) e ∙ ap (λ (l : List ℕ). l ++ drop (length new) old) (take-length new)
+    go : (j : ℕ) → Dec (j < length new) → getD r j 0 ≡ getD (new ++ rest) j 0
+    go j (yes l) = f .done j (omega arith) ∙ sym (List·getD-append new rest 0 j l)
+    go j (no l) =
+        let s : j ≡ length new + (j - length new) = omega arith in
+        f .left j (omega arith) ∙ ap (λ (k : ℕ). getD old k 0) s ∙ sym (getD-drop (length new) old (j - length new) 0)
+        ∙ sym (getD-append-add new rest (j - length new) 0) ∙ ap (λ (k : ℕ). getD (new ++ rest) k 0) (sym s)
 
 -- the only solution makes a divisor, which is divided into both lists
 module _ {p : ℕ} {A B ks values output work : List ℕ} (ready : VerdictReady p A B ks (only values) output work) {r : Divisor} (made : IsDivisor p ks values r)

@@ -1,32 +1,41 @@
 -- `divisor::checks::points_fault` meets its contract: each way out is an answer of the check.
-use mathlib.Core.Path.{refl}
-use mathlib.Core.Logic.{inl, inr}
-use Rattle.field.specs.faults.Laws.{tested-line}
-use Rattle.divisor.specs.checks.Laws.{points-wrong, points-right}
+use mathlib.Core.Path.{_≡_}
+use mathlib.Core.Logic.{_⊎_, inl, inr, ⊎-elim}
+use Prim.Native.Nat.{_%_}
+use lib.ListN.{length}
+use Rattle.poly.specs.Lists.{Count}
+use Rattle.poly.specs.points.Check.{numbers-end}
+use Rattle.poly.specs.list.Counted.{well-counted, count-wrong, place-wrong, places-right}
+use Rattle.divisor.specs.Candidate.{most-point-numbers}
 use borrow.Author.Needs.{needs}
 use Rattle.divisor.proofs.checks.points_fault.Statement.{statement}
 use Rattle.divisor.proofs.checks.points_fault.Tie as tie
 
+-- past the three tests the count is right
+counted : (c : tie.Else3) → let points = c .before .before .before .before .args .points .now in
+    ¬ (Count most-point-numbers points ⊎ (¬ (length points % 3 ≡ 0)))
+counted c =
+    ⊎-elim (well-counted most-point-numbers (c .before .before .before .before .args .points .now) (c .before .before .if1 .left) (c .before .if2 .left))
+    (λ n. n (c .if3 .left))
+
 returns : tie.Need-returns
-returns c = tested-line 0 (inl (inl (c .before .if1 .taken)), refl) (c .at .ensures)
+returns c = count-wrong (inl (inl (c .before .if1 .taken))) (c .at .ensures)
 
 returns-2 : tie.Need-returns-2
-returns-2 c = tested-line 0 (inl (inr (c .before .if2 .taken)), refl) (c .at2 .ensures)
+returns-2 c = count-wrong (inl (inr (c .before .if2 .taken))) (c .at2 .ensures)
 
 returns-3 : tie.Need-returns-3
-returns-3 c = tested-line 0 (inr (c .before .if3 .taken), refl) (c .at3 .ensures)
+returns-3 c = count-wrong (inr (c .before .if3 .taken)) (c .at3 .ensures)
 
 returns-4 : tie.Need-returns-4
 returns-4 c =
-    let else3 = c .before .before .before in
-    points-wrong _ _ (else3 .before .before .if1 .left) (else3 .before .if2 .left) (else3 .if3 .left) _ (c .before .before .first-large .ensures)
-    (c .before .if4 .taken) (c .at4 .ensures)
+    let search = c .before .before in
+    place-wrong (counted (search .before)) (numbers-end _ _) (search .first-large .ensures) (c .before .if4 .taken) (c .at4 .ensures)
 
 returns-5 : tie.Need-returns-5
 returns-5 c =
-    let else3 = c .before .before .before in
-    points-right _ _ (else3 .before .before .if1 .left) (else3 .before .if2 .left) (else3 .if3 .left) _ (c .before .before .first-large .ensures)
-    (c .before .if4 .left) (c .none .ensures)
+    let search = c .before .before in
+    places-right (counted (search .before)) (numbers-end _ _) (search .first-large .ensures) (c .before .if4 .left) (c .none .ensures)
 
 pub points-fault-spec : {M : Type 1} → statement M
 points-fault-spec =

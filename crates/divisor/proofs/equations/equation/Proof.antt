@@ -2,6 +2,7 @@
 use borrow.Author.Needs.{needs}
 use mathlib.Core.Path.{sym, _∙_, ap, ap₂}
 use mathlib.Core.Logic.{⊎-elim}
+use mathlib.Core.List.{List}
 use Prim.Native.Nat.{ℕ, _*_, _%_, _-_, _≤_, _<_}
 use native.Mathlib.Omega.{arith}
 use lib.ListN.{length, getD}
@@ -13,8 +14,12 @@ use Rattle.divisor.specs.equations.Turns.{number-at, equation-start, equ
 use Rattle.divisor.proofs.equations.equation.Statement.{statement}
 use Rattle.divisor.proofs.equations.equation.Tie as tie
 
+record Reached (p : ℕ) (ys zs ws ks : List ℕ) (i : ℕ) (cells : List ℕ) (j : ℕ) : Type 0 where
+  within : j ≤ length ks
+  filled : Filled (number-at p ys zs ws ks i) most-columns zeros j cells
+
 abbrev Inv-loop : tie.InvT-loop
-Inv-loop skeleton i column u ys zs ws p row₀ j₀ row j = (j ≤ length skeleton) × Filled (number-at p ys zs ws skeleton i) most-columns zeros j (row .cells)
+Inv-loop skeleton i column u ys zs ws p row₀ j₀ row j = Reached p ys zs ws skeleton i (row .cells) j
 
 abbrev μ-loop : tie.MeasureT-loop
 μ-loop skeleton i column u ys zs ws p row₀ j₀ row j = length skeleton - j
@@ -22,7 +27,7 @@ abbrev μ-loop : tie.MeasureT-loop
 loop-holds : tie.Need-loop-holds Inv-loop μ-loop
 loop-holds c =
     let a = c .before .args in
-    (omega arith, equation-start (a .u .modulus) (a .t1) (a .t2) (a .t3) (a .skeleton .now) (a .i))
+    record { within = omega arith; filled = equation-start (a .u .modulus) (a .t1) (a .t2) (a .t3) (a .skeleton .now) (a .i) }
 
 -- the coefficient begun has the modulus
 positive : (c : tie.After-of Inv-loop μ-loop) → 0 < c .of .result .modulus
@@ -48,21 +53,22 @@ loop-again c =
     ⊎-elim
     (λ w.
     let yz = w .5 .ensures ∙ (λ n. product-of (w .2 .ensures n) (w .4 .ensures n)) in
-    let yzw = w .8 .ensures ∙ (λ n. product-of (yz n) (w .7 .ensures n)) in (
-      omega arith,
-      rw (w .9)
-          (equation-taken p (a .t1) (a .t2) (a .t3) (a .skeleton .now) (a .i) (l .j) (l .row) (l .inv .1) (w .8 .result .value) (sym x ∙ w .0 .taken)
+    let yzw = w .8 .ensures ∙ (λ n. product-of (yz n) (w .7 .ensures n)) in
+    record {
+      within = omega arith;
+      filled = rw (w .9)
+          (equation-taken p (a .t1) (a .t2) (a .t3) (a .skeleton .now) (a .i) (l .j) (l .row) (l .inv .filled) (w .8 .result .value) (sym x ∙ w .0 .taken)
           (omega (arith, s .pre .behind, s .pre .within))
           (ap (λ e. e .value) yzw
           ∙ ap₂ (λ (m n : ℕ). m * getD (a .t3) n 0 % p)
-          (ap₂ (λ (m n : ℕ). (getD (a .t1) m 0 * getD (a .t2) n 0) % p) (w .1 .ensures) (w .3 .ensures)) (w .6 .ensures))),
-    ))
-    (λ w. (
-      omega arith,
-      rw (w .1)
-          (equation-passed p (a .t1) (a .t2) (a .t3) (a .skeleton .now) (a .i) (l .j) (l .row) (l .inv .1)
-          (omega (arith, s .pre .behind, s .pre .within)) (λ e. w .0 .left (x ∙ e))),
-    ))
+          (ap₂ (λ (m n : ℕ). (getD (a .t1) m 0 * getD (a .t2) n 0) % p) (w .1 .ensures) (w .3 .ensures)) (w .6 .ensures)));
+    })
+    (λ w. record {
+      within = omega arith;
+      filled = rw (w .1)
+          (equation-passed p (a .t1) (a .t2) (a .t3) (a .skeleton .now) (a .i) (l .j) (l .row) (l .inv .filled)
+          (omega (arith, s .pre .behind, s .pre .within)) (λ e. w .0 .left (x ∙ e)));
+    })
     (c .if1 .came)
 
 returns : tie.Need-returns Inv-loop μ-loop
@@ -70,8 +76,8 @@ returns c =
     let s = c .before .before .before in
     let l = c .before .loop in
     let a = s .args in
-    equation-end (a .u .modulus) (a .t1) (a .t2) (a .t3) (a .skeleton .now) (a .i) (l .j) (l .row) (l .inv .1) (a .column)
-    (a .u .value) (c .loop-test .left) (l .inv .0) (s .pre .behind) (s .pre .within)
+    equation-end (a .u .modulus) (a .t1) (a .t2) (a .t3) (a .skeleton .now) (a .i) (l .j) (l .row) (l .inv .filled) (a .column)
+    (a .u .value) (c .loop-test .left) (l .inv .within) (s .pre .behind) (s .pre .within)
 
 pub equation-spec : {M : Type 1} → statement M
 equation-spec =

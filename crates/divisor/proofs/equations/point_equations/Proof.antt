@@ -12,6 +12,7 @@ use Rattle.field.specs.Contract.{element, difference-of}
 use Rattle.poly.specs.Coefficients.{Eight}
 use Rattle.poly.specs.value.PowersModel.{powers}
 use Rattle.poly.specs.value.PowersLaws.{powers-eight, powers-model}
+use Rattle.divisor.specs.declared.table.Table.{Table}
 use Rattle.divisor.specs.table.Model.{with-row, TableReady}
 use Rattle.divisor.specs.equations.Model.{EquationReady, IsEquation, Equations-to}
 use Rattle.divisor.specs.table.Turns.{blank-adds-nothing}
@@ -21,8 +22,12 @@ use Rattle.divisor.specs.table.Added.{adds-ready}
 use Rattle.divisor.proofs.equations.point_equations.Statement.{statement}
 use Rattle.divisor.proofs.equations.point_equations.Tie as tie
 
+record Reached (p : ℕ) (ks point image : List ℕ) (column : ℕ) (old t : Table) (i : ℕ) : Type 0 where
+  within : i ≤ 8
+  added : Equations-to i p old ks point image column t
+
 abbrev Inv-loop : tie.InvT-loop
-Inv-loop p skeleton point image column ys zs ws s₀ i₀ s i = (i ≤ 8) × Equations-to i p s₀ skeleton point image column s
+Inv-loop p skeleton point image column ys zs ws s₀ i₀ s i = Reached p skeleton point image column s₀ s i
 
 abbrev μ-loop : tie.MeasureT-loop
 μ-loop p skeleton point image column ys zs ws s₀ i₀ s i = 8 - i
@@ -68,7 +73,7 @@ powers-requires-3 c κs =
     listed-positive (start .pre .table .listed)
 
 loop-holds : tie.Need-loop-holds Inv-loop μ-loop
-loop-holds c = (omega arith, point-start _ _ _ _ _ _)
+loop-holds c = record { within = omega arith; added = point-start _ _ _ _ _ _ }
 
 difference-requires : tie.Need-difference-requires Inv-loop μ-loop
 difference-requires c κs =
@@ -125,7 +130,7 @@ is-equation c =
 
 -- the table so far is ready
 ready : (l : tie.At-loop Inv-loop μ-loop) → TableReady (start l .args .p) (l .loop .s)
-ready at = adds-ready _ (at .loop .inv .1 .adds) (start at .pre .table)
+ready at = adds-ready _ (at .loop .inv .added .adds) (start at .pre .table)
 
 with-added-requires : tie.Need-with-added-requires Inv-loop μ-loop
 with-added-requires c κs =
@@ -155,11 +160,12 @@ loop-again c =
     let at = loop (e .before) in
     let s = start at in
     let a = s .args in
-    let l = at .loop in (
-      omega (arith, e .before .before .before .before .before .loop-test .taken),
-      point-next (a .p) (a .t) (a .skeleton .now) (a .point .now) (a .image .now) (a .column) (l .i) (l .s) _ (e .equation .result) (c .if1 .s)
-          (listed-positive (s .pre .table .listed)) (s .pre .eight .below (l .i)) refl (is-equation e) (l .inv .1) (added c),
-    )
+    let l = at .loop in
+    record {
+      within = omega (arith, e .before .before .before .before .before .loop-test .taken);
+      added = point-next (a .p) (a .t) (a .skeleton .now) (a .point .now) (a .image .now) (a .column) (l .i) (l .s) _ (e .equation .result) (c .if1 .s)
+          (listed-positive (s .pre .table .listed)) (s .pre .eight .below (l .i)) refl (is-equation e) (l .inv .added) (added c);
+    }
 
 returns : tie.Need-returns Inv-loop μ-loop
 returns c =
@@ -167,7 +173,7 @@ returns c =
     let a = s .args in
     let l = c .before .loop in
     let e : l .i ≡ 8 = omega arith in
-    subst (λ (j : ℕ). Equations-to j (a .p) (a .t) (a .skeleton .now) (a .point .now) (a .image .now) (a .column) (l .s)) e (l .inv .1)
+    subst (λ (j : ℕ). Equations-to j (a .p) (a .t) (a .skeleton .now) (a .point .now) (a .image .now) (a .column) (l .s)) e (l .inv .added)
 
 pub point-equations-spec : {M : Type 1} → statement M
 point-equations-spec =

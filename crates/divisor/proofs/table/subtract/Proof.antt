@@ -1,20 +1,19 @@
 -- `divisor::table::subtract` meets its contract. The loop's invariant: altering the row as it is from column i on gives what altering the row that came
 -- gives from column j on. The measure is the number of columns left.
-use lib.ListN.{getD, set}
-use mathlib.Core.Path.{_≡_, sym, ap, _∙_}
-use Prim.Native.Nat.{ℕ, _+_, _-_, _*_, _%_, _≤_}
+use lib.ListN.{getD}
+use mathlib.Core.Path.{ap, _∙_}
+use Prim.Native.Nat.{_+_, _-_, _*_, _%_}
 use native.Mathlib.Omega.{arith}
 use Rattle.field.specs.Contract.{minus-product-of}
-use Rattle.divisor.specs.table.Model.{cell, altered}
-use Rattle.divisor.specs.table.Turns.{altered-turn, altered-end}
+use Rattle.divisor.specs.table.Model.{cell}
+use Rattle.divisor.specs.table.Turns.{Altering, altering-start, altering-next, altering-end}
 use borrow.Author.Needs.{needs}
 use Rattle.divisor.proofs.table.subtract.Statement.{statement}
 use Rattle.divisor.proofs.table.subtract.Tie as tie
 
 abbrev Inv-loop : tie.InvT-loop
 Inv-loop row₀ j columns p pivot factor i₀ row i =
-    let less : ℕ → ℕ → ℕ = λ k a. (a + (p - getD row₀ j 0) * cell pivot k) % p in
-    (i ≤ columns) × (altered less i (columns - i) row ≡ altered less j (columns - j) row₀)
+    Altering (λ k a. (a + (p - getD row₀ j 0) * cell pivot k) % p) j columns row₀ i row
 
 abbrev μ-loop : tie.MeasureT-loop
 μ-loop row₀ j columns p pivot factor i₀ row i = columns - i
@@ -28,28 +27,23 @@ minus-product-requires c κs =
       within = omega (arith, ap (λ e. e .modulus) (cell-made .of2 .ensures), ap (λ e. e .value) (factor-made .of .ensures));
     }
 
+loop-holds : tie.Need-loop-holds Inv-loop μ-loop
+loop-holds c = altering-start (search needs)
+
 loop-again : tie.Need-loop-again Inv-loop μ-loop
 loop-again c =
     let cell-made = c .before .before .before in
     let loop = cell-made .before .before .before in
-    let factor-made = loop .before in
-    let a = factor-made .before .before .args in
-    let less : ℕ → ℕ → ℕ = λ k x. (x + (a .p - getD (a .row .now) (a .j) 0) * cell (a .t2) k) % a .p in
     let made = c .minus-product .ensures
-    ∙ (λ n. minus-product-of (cell-made .of2 .ensures n) (factor-made .of .ensures n) (c .before .of3 .ensures n)) in (
-      search needs,
-      ap (λ e. altered less (loop .loop .i + 1) (a .columns - (loop .loop .i + 1)) (set (loop .loop .row) (loop .loop .i) (e .value))) made
-          ∙ sym (altered-turn less (loop .loop .i) (a .columns) (loop .loop .row) (cell-made .before .before .loop-test .taken)) ∙ loop .loop .inv .1,
-    )
+    ∙ (λ n. minus-product-of (cell-made .of2 .ensures n) (loop .before .of .ensures n) (c .before .of3 .ensures n)) in
+    altering-next (loop .loop .inv) (cell-made .before .before .loop-test .taken) (ap (λ e. e .value) made)
 
 returns : tie.Need-returns Inv-loop μ-loop
 returns c =
-    let loop = c .before in
-    let a = loop .before .before .before .args in
-    ap (λ x. record { cells = x }) (sym (altered-end _ (loop .loop .i) (a .columns) (loop .loop .row) (c .loop-test .left)) ∙ loop .loop .inv .1)
+    ap (λ x. record { cells = x }) (altering-end (c .before .loop .inv) (c .loop-test .left))
 
 pub subtract-spec : {M : Type 1} → statement M
 subtract-spec =
-    tie.close (tie.spec Inv-loop μ-loop (λ c. search needs) (λ c. search needs) (λ c κs. search needs) (λ c. search needs) (λ c. search needs)
+    tie.close (tie.spec Inv-loop μ-loop (λ c. search needs) (λ c. search needs) (λ c κs. search needs) loop-holds (λ c. search needs)
     (λ c. search needs) (λ c κs. search needs) (λ c. search needs) (λ c. search needs) (λ c κs. search needs) minus-product-requires
     (λ c. search needs) (λ c. search needs) (λ c. search needs) (λ c. search needs) loop-again returns)

@@ -1,37 +1,40 @@
 -- `divisor::verdict::write` meets its contract. The invariant: the first i terms are written, the rest is left.
-use mathlib.Core.Path.{_≡_, refl, _∙_, ap}
-use mathlib.Core.List.{List, _++_}
-use Prim.Native.Nat.{ℕ, _-_, _≤_, _<_}
+use mathlib.Core.Path.{refl}
+use mathlib.Core.List.{List}
+use Prim.Native.Nat.{ℕ, _-_, _≤_}
 use native.Mathlib.Omega.{arith}
-use lib.ListN.{length, getD, set, take, drop, length-set}
-use Rattle.divisor.specs.verdict.Laws.{copy-more, copy-all}
+use lib.ListN.{length, getD}
+use Rattle.field.specs.loops.Filled.{Filled}
+use Rattle.field.specs.loops.Cells.{filled-start, filled-next}
+use Rattle.divisor.specs.verdict.Laws.{filled-written}
 use borrow.Author.Needs.{needs}
 use Rattle.divisor.proofs.verdict.write.Statement.{statement}
 use Rattle.divisor.proofs.verdict.write.Tie as tie
 
+record Reached (terms old output : List ℕ) (i : ℕ) : Type 0 where
+  within : i ≤ length terms
+  filled : Filled (λ j. getD terms j 0) (length old) old i output
+
 abbrev Inv-loop : tie.InvT-loop
-Inv-loop terms output₀ i₀ output i = (i ≤ length terms) × (length output ≡ length output₀) × (output ≡ take i terms ++ drop i output₀)
+Inv-loop terms output₀ i₀ output i = Reached terms output₀ output i
 
 abbrev μ-loop : tie.MeasureT-loop
 μ-loop terms output₀ i₀ output i = length terms - i
 
 loop-holds : tie.Need-loop-holds Inv-loop μ-loop
-loop-holds c = (omega arith, refl, refl)
+loop-holds c = record { within = omega arith; filled = filled-start (omega arith) refl (λ j l. absurd (omega arith)) }
 
 loop-again : tie.Need-loop-again Inv-loop μ-loop
 loop-again c =
     let a = c .before .before in
-    let terms = a .before .args .terms .now in
-    let old = a .before .args .output .now in
-    let l : a .loop .i < length terms = c .before .loop-test .taken in
-    let h : a .loop .i < length old = omega (arith, a .before .pre, l) in
-    let step = ap (λ (o : List ℕ). set o (a .loop .i) (getD terms (a .loop .i) 0)) (a .loop .inv .2) ∙ copy-more (a .loop .i) terms old l h in
-    (omega arith, simp length-set (a .loop .inv .1), step)
+    let l = c .before .loop-test .taken in
+    record { within = omega arith; filled = filled-next (a .loop .inv .filled) (omega (arith, a .before .pre, l)) refl }
 
 returns : tie.Need-returns Inv-loop μ-loop
 returns c =
-    let a = c .before in
-    a .loop .inv .2 ∙ copy-all (a .loop .i) (a .before .args .terms .now) (a .before .args .output .now) (omega arith)
+    let a = c .before .before .args in
+    let l = c .before .loop in
+    filled-written (a .terms .now) (a .output .now) (l .inv .filled) (omega (arith, l .inv .within, c .loop-test .left))
 
 pub write-spec : {M : Type 1} → statement M
 write-spec =
