@@ -13,7 +13,8 @@ use Rattle.poly.specs.Search.{Searched}
 use Rattle.divisor.specs.declared.table.Row.{Row}
 use Rattle.divisor.specs.declared.table.Table.{Table}
 use Rattle.divisor.specs.declared.table.Kind.the-variants.{None, One, Several}
-use Rattle.divisor.specs.table.Model.{most-columns, row-at, cell, Entry, diagonal, altered, minus, kept, insert, with-row, kind-from, kind, total, value, back}
+use Rattle.divisor.specs.table.Model.{most-columns, row-at, cell, Entry, diagonal, altered, minus, kept, insert, with-row, kind-from, kind}
+use Rattle.divisor.specs.table.Model.{total, value, back}
 
 -- what is left of n turns at turn i
 turns-left : (i n : ℕ) → i < n → n - i ≡ suc (n - (i + 1))

@@ -72,7 +72,8 @@ add-at c =
     let t = more (c .before) .before in
     let d = t .before in
     let l = d .before .before in
-    omega (arith, fits-in (l .before .loop .inv) (l .loop-test .taken) (d .fault-of .ensures) (t .if1 .left), c .body .ensures, start (l .before .before) .good .0)
+    let s = start (l .before .before) in
+    omega (arith, fits-in (l .before .loop .inv) (l .loop-test .taken) (d .fault-of .ensures) (t .if1 .left), c .body .ensures, s .good .0)
 
 loop-less : tie.Need-loop-less Inv-loop μ-loop
 loop-less c =

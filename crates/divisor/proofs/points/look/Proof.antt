@@ -1,6 +1,7 @@
 -- `divisor::points::look` meets its contract. The invariant: the sizes and the images of the points passed stand.
 use borrow.Author.Needs.{needs}
 use mathlib.Core.Path.{_≡_, sym, _∙_, ap, subst}
+use mathlib.Core.List.{List}
 use Prim.Native.Nat.{ℕ, _-_, _/_, _≤_}
 use native.Mathlib.Omega.{arith}
 use lib.ListN.{length}
@@ -15,14 +16,19 @@ use Rattle.divisor.specs.points.Looking.{point-fine, look-eight}
 use Rattle.divisor.proofs.points.look.Statement.{statement}
 use Rattle.divisor.proofs.points.look.Tie as tie
 
+-- what the loop keeps
+record Looking (p : ℕ) (first second points work₀ work sizes : List ℕ) (i : ℕ) : Type 0 where
+  within : i ≤ length points / 3
+  looks : Looks i p first second points work₀ work sizes
+
 abbrev Inv-loop : tie.InvT-loop
-Inv-loop p first second points work₀ sizes₀ i₀ work sizes i = (i ≤ length points / 3) × Looks i p first second points work₀ work sizes
+Inv-loop p first second points work₀ sizes₀ i₀ work sizes i = Looking p first second points work₀ work sizes i
 
 abbrev μ-loop : tie.MeasureT-loop
 μ-loop p first second points work₀ sizes₀ i₀ work sizes i = length points / 3 - i
 
 loop-holds : tie.Need-loop-holds Inv-loop μ-loop
-loop-holds c = (omega arith, looks-start)
+loop-holds c = record { within = omega arith; looks = looks-start }
 
 -- where the loop begins, and the function
 abbrev turn : tie.After-image-at Inv-loop μ-loop → tie.At-loop Inv-loop μ-loop
@@ -52,7 +58,7 @@ store-requires : tie.Need-store-requires Inv-loop μ-loop
 store-requires c κs =
     let l = turn (c .before .before) in
     let s = start l in
-    record { within = omega (arith, s .pre .few); room = omega (arith, l .loop .inv .1 .same-length, s .pre .room) }
+    record { within = omega (arith, s .pre .few); room = omega (arith, l .loop .inv .looks .same-length, s .pre .room) }
 
 loop-again : tie.Need-loop-again Inv-loop μ-loop
 loop-again c =
@@ -60,11 +66,13 @@ loop-again c =
     let seen = stored .before .before .before in
     let l = turn seen in
     let s = start l in
-    let e = seen-is seen in (
-      omega arith,
-      looks-next (omega (arith, s .pre .few)) (s .pre .room) (l .loop .inv .1) e
-          (ap (λ (r : PointImage). length (r .coefficients)) e ∙ look-eight (s .pre) (l .loop .i) .eight) (stored .store .ensures),
-    )
+    let e = seen-is seen in
+    record {
+      within = omega arith;
+      looks =
+          looks-next (omega (arith, s .pre .few)) (s .pre .room) (l .loop .inv .looks) e
+          (ap (λ (r : PointImage). length (r .coefficients)) e ∙ look-eight (s .pre) (l .loop .i) .eight) (stored .store .ensures);
+    }
 
 same-length : tie.Need-same-length Inv-loop μ-loop
 same-length c = search needs
@@ -74,7 +82,7 @@ returns c =
     let a = start (c .before) .args in
     let l = c .before .loop in
     let e : l .i ≡ length (a .points .now) / 3 = omega arith in
-    subst (λ (n : ℕ). Looks n (a .p) (a .first .now) (a .second .now) (a .points .now) (a .work .now) (l .work) (l .sizes)) e (l .inv .1)
+    subst (λ (n : ℕ). Looks n (a .p) (a .first .now) (a .second .now) (a .points .now) (a .work .now) (l .work) (l .sizes)) e (l .inv .looks)
 
 pub look-spec : {M : Type 1} → statement M
 look-spec =

@@ -4,18 +4,18 @@ use lib.ListN.{set}
 use Rattle.field.specs.modulus.Laws.{listed-prime}
 use Rattle.field.specs.Contract.{element, product-of, Invertible, Inverse}
 use Rattle.field.specs.elements.Link.{inverse-val}
-use mathlib.Core.Path.{_≡_, sym, ap, _∙_, subst}
-use Prim.Native.Nat.{ℕ, _+_, _-_, _*_, _%_, _≤_}
+use mathlib.Core.Path.{sym, ap, _∙_, subst}
+use Prim.Native.Nat.{ℕ, _+_, _-_, _*_, _%_}
 use Rattle.divisor.specs.table.Model.{cell, altered}
 use Rattle.divisor.specs.table.Turns.{altered-turn, altered-end}
 use borrow.Author.Needs.{needs}
+use Rattle.divisor.proofs.table.Altering.{Altering}
 use Rattle.divisor.proofs.table.scaled.Statement.{statement}
 use Rattle.divisor.proofs.table.scaled.Tie as tie
 
 abbrev Inv-loop : tie.InvT-loop
 Inv-loop j columns p r₀ inverse i₀ r i =
-    let times : ℕ → ℕ → ℕ = λ k a. inverse .value * a % p in
-    (i ≤ columns) × (altered times i (columns - i) (r .cells) ≡ altered times j (columns - j) (r₀ .cells))
+    Altering (λ k a. inverse .value * a % p) j columns (r₀ .cells) i (r .cells)
 
 abbrev μ-loop : tie.MeasureT-loop
 μ-loop j columns p r₀ inverse i₀ r i = columns - i
@@ -36,12 +36,14 @@ loop-again c =
     let a = inverse .before .before .before .args in
     let times : ℕ → ℕ → ℕ → ℕ = λ m k x. inverse .inverse .result .value * x % m in
     let made = c .product .ensures ∙ ap (product-of (inverse .inverse .result)) (cell-made .of2 .ensures)
-    ∙ ap (λ m. element m (inverse .inverse .result .value * cell (loop .loop .r) (loop .loop .i) % m)) (is-inverse inverse .same) in (
-      search needs,
-      ap (λ e. altered (times (a .p)) (loop .loop .i + 1) (a .columns - (loop .loop .i + 1)) (set (loop .loop .r .cells) (loop .loop .i) (e .value))) made
+    ∙ ap (λ m. element m (inverse .inverse .result .value * cell (loop .loop .r) (loop .loop .i) % m)) (is-inverse inverse .same) in
+    record {
+      within = search needs;
+      same =
+          ap (λ e. altered (times (a .p)) (loop .loop .i + 1) (a .columns - (loop .loop .i + 1)) (set (loop .loop .r .cells) (loop .loop .i) (e .value))) made
           ∙ sym (altered-turn (times (a .p)) (loop .loop .i) (a .columns) (loop .loop .r .cells) (cell-made .before .before .loop-test .taken))
-          ∙ loop .loop .inv .1,
-    )
+          ∙ loop .loop .inv .same;
+    }
 
 returns : tie.Need-returns Inv-loop μ-loop
 returns c =
@@ -49,7 +51,7 @@ returns c =
     let start = loop .before .before .before .before in
     let a = start .args in
     let is = inverse-val _ _ (listed-prime (start .pre .listed)) (is-inverse (loop .before)) in
-    ap (λ x. record { cells = x }) (sym (altered-end _ (loop .loop .i) (a .columns) (loop .loop .r .cells) (c .loop-test .left)) ∙ loop .loop .inv .1)
+    ap (λ x. record { cells = x }) (sym (altered-end _ (loop .loop .i) (a .columns) (loop .loop .r .cells) (c .loop-test .left)) ∙ loop .loop .inv .same)
     ∙ ap (λ f. record { cells = altered (λ k x. f * x % a .p) (a .j) (a .columns - a .j) (a .row .cells) }) is
 
 pub scaled-spec : {M : Type 1} → statement M

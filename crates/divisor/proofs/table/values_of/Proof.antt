@@ -1,17 +1,24 @@
 -- `divisor::table::values_of` meets its contract. The loop's invariant: back substitution from column j on the values so far gives what it gives from the
 -- last column on zeros. The measure is j.
 use mathlib.Core.Path.{_≡_, sym, ap, _∙_}
-use Prim.Native.Nat.{_-_, _≤_}
+use mathlib.Core.List.{List}
+use Prim.Native.Nat.{ℕ, _-_, _≤_}
 use native.Mathlib.Omega.{arith}
 use lib.ListN.{set}
+use Rattle.divisor.specs.declared.table.Table.{Table}
 use Rattle.divisor.specs.table.Model.{zeros, back}
 use Rattle.divisor.specs.table.Turns.{back-turn, back-end}
 use borrow.Author.Needs.{needs}
 use Rattle.divisor.proofs.table.values_of.Statement.{statement}
 use Rattle.divisor.proofs.table.values_of.Tie as tie
 
+-- what the loop keeps
+record Substituting (p : ℕ) (t : Table) (last : ℕ) (values : List ℕ) (j : ℕ) : Type 0 where
+  within : j ≤ last
+  same : back j p t values ≡ back last p t zeros
+
 abbrev Inv-loop : tie.InvT-loop
-Inv-loop p t last values₀ j₀ values j = (j ≤ last) × (back j p t values ≡ back last p t zeros)
+Inv-loop p t last values₀ j₀ values j = Substituting p t last values j
 
 abbrev μ-loop : tie.MeasureT-loop
 μ-loop p t last values₀ j₀ values j = j
@@ -30,17 +37,19 @@ value-at-requires c κs =
 loop-again : tie.Need-loop-again Inv-loop μ-loop
 loop-again c =
     let at = c .before .before .before in
-    let a = at .before .args in (
-      search needs,
-      ap (λ e. back (at .loop .j - 1) (a .p) (a .t1) (set (at .loop .values) (at .loop .j - 1) (e .value))) (c .value-at .ensures)
-          ∙ sym (back-turn (a .p) (a .t1) (at .loop .values) (at .loop .j) (c .before .before .loop-test .taken)) ∙ at .loop .inv .1,
-    )
+    let a = at .before .args in
+    record {
+      within = search needs;
+      same =
+          ap (λ e. back (at .loop .j - 1) (a .p) (a .t1) (set (at .loop .values) (at .loop .j - 1) (e .value))) (c .value-at .ensures)
+          ∙ sym (back-turn (a .p) (a .t1) (at .loop .values) (at .loop .j) (c .before .before .loop-test .taken)) ∙ at .loop .inv .same;
+    }
 
 returns : tie.Need-returns Inv-loop μ-loop
 returns c =
     let at = c .before in
     let a = at .before .args in
-    sym (back-end (a .p) (a .t1) (at .loop .values) (at .loop .j) (c .loop-test .left)) ∙ at .loop .inv .1
+    sym (back-end (a .p) (a .t1) (at .loop .values) (at .loop .j) (c .loop-test .left)) ∙ at .loop .inv .same
 
 pub values-of-spec : {M : Type 1} → statement M
 values-of-spec =

@@ -9,14 +9,20 @@ use borrow.Author.Needs.{needs}
 use Rattle.divisor.proofs.verdict.write.Statement.{statement}
 use Rattle.divisor.proofs.verdict.write.Tie as tie
 
+-- what the loop keeps
+record Writing (terms output₀ : List ℕ) (i : ℕ) (output : List ℕ) : Type 0 where
+  within : i ≤ length terms
+  same-length : length output ≡ length output₀
+  written : output ≡ take i terms ++ drop i output₀
+
 abbrev Inv-loop : tie.InvT-loop
-Inv-loop terms output₀ i₀ output i = (i ≤ length terms) × (length output ≡ length output₀) × (output ≡ take i terms ++ drop i output₀)
+Inv-loop terms output₀ i₀ output i = Writing terms output₀ i output
 
 abbrev μ-loop : tie.MeasureT-loop
 μ-loop terms output₀ i₀ output i = length terms - i
 
 loop-holds : tie.Need-loop-holds Inv-loop μ-loop
-loop-holds c = (omega arith, refl, refl)
+loop-holds c = record { within = omega arith; same-length = refl; written = refl }
 
 loop-again : tie.Need-loop-again Inv-loop μ-loop
 loop-again c =
@@ -25,13 +31,13 @@ loop-again c =
     let old = a .before .args .output .now in
     let l : a .loop .i < length terms = c .before .loop-test .taken in
     let h : a .loop .i < length old = omega (arith, a .before .pre, l) in
-    let step = ap (λ (o : List ℕ). set o (a .loop .i) (getD terms (a .loop .i) 0)) (a .loop .inv .2) ∙ copy-more (a .loop .i) terms old l h in
-    (omega arith, simp length-set (a .loop .inv .1), step)
+    let step = ap (λ (o : List ℕ). set o (a .loop .i) (getD terms (a .loop .i) 0)) (a .loop .inv .written) ∙ copy-more (a .loop .i) terms old l h in
+    record { within = omega arith; same-length = simp length-set (a .loop .inv .same-length); written = step }
 
 returns : tie.Need-returns Inv-loop μ-loop
 returns c =
     let a = c .before in
-    a .loop .inv .2 ∙ copy-all (a .loop .i) (a .before .args .terms .now) (a .before .args .output .now) (omega arith)
+    a .loop .inv .written ∙ copy-all (a .loop .i) (a .before .args .terms .now) (a .before .args .output .now) (omega arith)
 
 pub write-spec : {M : Type 1} → statement M
 write-spec =

@@ -1,0 +1,2 @@
+-- What the proofs of the table share.
+pub mod Altering
