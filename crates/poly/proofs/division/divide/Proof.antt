@@ -23,7 +23,10 @@ opened c = c .before .before .before .before .before
 abbrev passed : tie.After-of → tie.Else1
 passed c = c .before .before .before .before .before
 
--- where the greatest key is known, from where the dividend is spread
+-- where the dividend is spread, from where the steps are called, and where its greatest key is known
+abbrev laid : tie.After-steps-arg → tie.After-spread
+laid c = c .before .before .before
+
 abbrev topped : tie.After-spread → tie.After-of3
 topped c = c .before .before .before
 
@@ -104,7 +107,7 @@ spread-requires c κs =
 
 steps-requires : tie.Need-steps-requires
 steps-requires c κs =
-    let w = c .before .before .before in
+    let w = laid c in
     let h = topped w in
     let o = h .before .before in
     let z = start o in
@@ -114,7 +117,7 @@ steps-requires c κs =
 returns-2 : tie.Need-returns-2
 returns-2 c =
     let s = c .before .before in
-    let w = s .before .before .before .before in
+    let w = laid (s .before) in
     let o = topped w .before .before in
     let z = start o in
     begun-ends (z .args .p) (z .args .dividend .now) (z .args .divisor .now) (z .args .work .now) (z .pre .lists) (kept o) (kept-is o) _
