@@ -21,9 +21,12 @@ question s =
     let a = s .args in
     candidate-call (a .p) (a .first .now) (a .second .now) (a .skeleton .now) (a .points .now) (a .out .now) (a .work .now)
 
--- after the look at the points: where the routine began
+-- before the look at the points, and after it: where the routine began
+abbrev opened : tie.After-look-arg → tie.Start
+opened c = c .before .before .before .before .before .before .before
+
 abbrev start : tie.After-look → tie.Start
-start c = c .before .before .before .before .before .before .before .before
+start c = opened (c .before)
 
 -- what the look says, and the room that it leaves
 module _ (l : tie.After-look) where
@@ -36,9 +39,13 @@ module _ (l : tie.After-look) where
   room : work-room ≤ length (l .look .last .1 .1 .1 .1 .0)
   room = room-after asked (start l .pre) _ (l .look .result) (l .look .ensures)
 
+-- after the least size: the look
+abbrev looked : tie.After-least-size → tie.After-look
+looked c = c .before .before .before
+
 -- after the counts of points: the look, and what is found
 abbrev seen : tie.After-alike2 → tie.After-look
-seen c = c .before .before .before .before .before .before
+seen c = looked (c .before .before .before)
 
 good : (c : tie.After-alike2) → let l = seen c in
     SomeGood (asked l) (l .look .last .1 .1 .1 .1 .0) (l .look .result) (c .before .before .before .least-size .result) (c .alike2 .result)
@@ -54,20 +61,23 @@ good c = record {
 fit : (c : tie.After-alike2) → c .before .alike .result + c .alike2 .result ≤ length (start (seen c) .args .points .now) / 3
 fit c = counts-fit (good c) (c .before .alike .result) (c .before .alike .ensures)
 
--- after the verdict: the counts of points
+-- after the verdict: the counts of points, and at the end: the verdict
 abbrev counted : tie.After-settle → tie.After-alike2
 counted c = c .before .before .before .before .before .before
 
+abbrev settled : tie.After-at → tie.After-settle
+settled c = c .before .before .before .before .before
+
 look-requires : tie.Need-look-requires
 look-requires c κs =
-    let s = c .before .before .before .before .before .before .before in
+    let s = opened c in
     look-ready (question s) (s .pre)
 
 least-size-requires : tie.Need-least-size-requires
 least-size-requires c κs = points-within (c .before .before)
 
 no-good-point-requires : tie.Need-no-good-point-requires
-no-good-point-requires c κs = room (c .before .before .before .before .before)
+no-good-point-requires c κs = room (looked (c .before .before))
 
 same-length : tie.Need-same-length
 same-length c = search needs
@@ -77,15 +87,15 @@ returns c =
     let r = c .before .before in
     let test = r .before .before in
     let least = test .before in
-    let l = least .before .before .before in
+    let l = looked least in
     nothing-good (asked l) (start l .pre) _ (l .look .result) (l .look .ensures) (sym (least .least-size .ensures) ∙ test .if1 .taken) _
     (r .no-good-point .result) (r .no-good-point .ensures)
 
 alike-requires : tie.Need-alike-requires
-alike-requires c κs = points-within (c .before .before .before .before)
+alike-requires c κs = points-within (looked (c .before))
 
 alike-requires-2 : tie.Need-alike-requires-2
-alike-requires-2 c κs = points-within (c .before .before .before .before .before)
+alike-requires-2 c κs = points-within (looked (c .before .before))
 
 add-columns : tie.Need-add-columns
 add-columns c = let small = count-small (good c) in omega arith
@@ -98,25 +108,25 @@ solution-requires c κs = ready-table (good (c .before .before)) (c .equations .
 
 settle-requires : tie.Need-settle-requires
 settle-requires c κs =
-    let t = c .before .before .before .equations in
-    let v = c .before .before .solution in
-    ready-verdict (good (c .before .before .before .before .before)) (t .result) (t .ensures) (v .result) (v .ensures)
+    let s = c .before .before in
+    let t = s .before in
+    ready-verdict (good (t .before .before)) (t .equations .result) (t .equations .ensures) (s .solution .result) (s .solution .ensures)
 
 sub-t31 : tie.Need-sub-t31
-sub-t31 c = omega (arith, fit (counted (c .before .before .before .before .before)))
+sub-t31 c = omega (arith, fit (counted (settled c)))
 
 sub-t32 : tie.Need-sub-t32
-sub-t32 c = omega (arith, fit (counted (c .before .before .before .before .before)))
+sub-t32 c = omega (arith, fit (counted (settled c)))
 
 same-length-3 : tie.Need-same-length-3
 same-length-3 c =
-    let v = c .before .before .before .before .before in
+    let v = settled c in
     let l = seen (counted v) in
     ap length (v .settle .ensures .clears) ∙ zeroed-length work-room _ (room l) ∙ l .look .ensures .same-length
 
 returns-2 : tie.Need-returns-2
 returns-2 c =
-    let v = c .before .before .before .before .before in
+    let v = settled c in
     let s = v .before .before .before in
     let t = s .before in
     let e = counted v in

@@ -9,10 +9,11 @@ use Rattle.divisor.proofs.no_good_point.Tie as tie
 
 returns : tie.Need-returns
 returns c =
-    let s = c .before .before .before .before .before .before in
+    let cleared = c .before .before .before in
+    let s = cleared .before .before .before in
     record {
       is = ap (λ (f : Fault). record { fault = f; degree = 0; bad = s .args .n; unlucky = 0; kept = 0; terms = 0 }) (c .at .ensures);
-      clears = zeroed-all work-room _ (s .pre) (c .before .before .before .clear .ensures);
+      clears = zeroed-all work-room _ (s .pre) (cleared .clear .ensures);
     }
 
 pub no-good-point-spec : {M : Type 1} → statement M

@@ -23,7 +23,8 @@ use Rattle.poly.specs.Divides.{Divides}
 use Rattle.poly.specs.PointImage.{Image}
 use Rattle.poly.specs.Room.{written, cleared}
 use Rattle.poly.specs.image.Laws.{image-within}
-use Rattle.divisor.specs.Rule.{Counts, none-good, report, Kept, Sorted, Unknowns, Solution, OnlySolution, without-zeros, made-monic, divisor, Verdict, unsolvable, several, rejected, accepted, all-bad, some-good}
+use Rattle.divisor.specs.Rule.{Counts, none-good, report, Kept, Sorted, Unknowns, Solution, OnlySolution, without-zeros, made-monic, divisor}
+use Rattle.divisor.specs.Rule.{Verdict, unsolvable, several, rejected, accepted, all-bad, some-good}
 use Rattle.divisor.specs.Candidate.{Call, table, prime, Numbers, A, B, monomials, lent-points, Result, Candidate, answered}
 use Rattle.divisor.specs.table.Meaning.{entries}
 use Rattle.divisor.specs.equations.Rows.{all-rows, with-coefficients, unknowns-of}

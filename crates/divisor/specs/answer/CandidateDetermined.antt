@@ -11,7 +11,8 @@ use Rattle.poly.specs.Room.{of-rooms, written, cleared}
 use Rattle.poly.specs.list.Check.{lists-one-place}
 use Rattle.divisor.specs.declared.CandidateRecord.{CandidateRecord}
 use Rattle.divisor.specs.Rule.{RuleAnswer}
-use Rattle.divisor.specs.Candidate.{Call, table, prime, Numbers, A, B, monomials, lent-points, refused-record, Result, Candidate, refused, answered, of-skeleton, of-points}
+use Rattle.divisor.specs.Candidate.{Call, table, prime, Numbers, A, B, monomials, lent-points, refused-record, Result, Candidate, refused}
+use Rattle.divisor.specs.Candidate.{answered, of-skeleton, of-points}
 use Rattle.divisor.specs.answer.Determined.{answer-determined}
 
 table-one-place : (c : Call) → OnePlaceEach (table c)

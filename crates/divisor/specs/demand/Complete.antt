@@ -21,7 +21,8 @@ use Rattle.poly.specs.PointValue.{Point, value, x-degree}
 use Rattle.poly.specs.PointImage.{Image}
 use Rattle.poly.specs.image.Laws.{image-top}
 use Rattle.poly.specs.value.Laws.{polynomial-finite, value-finite, value-of-polynomial, WithinX}
-use Rattle.divisor.specs.Rule.{report, DividesBoth, Kept, Sorted, Unknowns, Equations, Solution, OnlySolution, without-zeros, divided-by, made-monic, divisor, Verdict, accepted, RuleAnswer, some-good}
+use Rattle.divisor.specs.Rule.{report, DividesBoth, Kept, Sorted, Unknowns, Equations, Solution, OnlySolution, without-zeros, divided-by}
+use Rattle.divisor.specs.Rule.{made-monic, divisor, Verdict, accepted, RuleAnswer, some-good}
 use Rattle.divisor.specs.Demands.{DegreeX}
 use Rattle.divisor.specs.monic.Value.{value-divided}
 use Rattle.divisor.specs.monic.Laws.{monic-of-multiple, monic-divides, divided-monomials}

@@ -25,7 +25,8 @@ use Rattle.poly.specs.PointImage.{Bad, Image}
 use Rattle.poly.specs.image.Laws.{image-within}
 use Rattle.poly.specs.value.Laws.{polynomial-finite, valued, value-of-polynomial, WithinX, polynomial-ends}
 use Rattle.divisor.specs.declared.CandidateRecord.{CandidateRecord}
-use Rattle.divisor.specs.Rule.{DividesBoth, Kept, Sorted, done, bad, unlucky, keep, First, Equations, Unknowns, Solution, without-zeros, divisor, Verdict, unsolvable, several, rejected, accepted, RuleAnswer, all-bad, some-good}
+use Rattle.divisor.specs.Rule.{DividesBoth, Kept, Sorted, done, bad, unlucky, keep, First, Equations, Unknowns, Solution, without-zeros}
+use Rattle.divisor.specs.Rule.{divisor, Verdict, unsolvable, several, rejected, accepted, RuleAnswer, all-bad, some-good}
 use Rattle.divisor.specs.Demands.{DegreeX, IsPolynomial, GreatestInX}
 use Rattle.divisor.specs.monic.Value.{value-without-zeros, without-zeros-nonzero, made-monic-nonzero}
 

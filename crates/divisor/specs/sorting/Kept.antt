@@ -18,7 +18,8 @@ use Rattle.divisor.specs.table.Model.{Columns}
 use Rattle.divisor.specs.points.PartsModel.{Within}
 use Rattle.divisor.specs.sorting.Model.{sizes-of, least, alike, kept-of}
 use Rattle.divisor.specs.points.Model.{Looks, kept-before, EquationsReady}
-use Rattle.divisor.specs.checks.Passed.{point-count, looks-of, right-lists, keys-most, keys-small, right-points, few-points, work-fits, look-ready, looked}
+use Rattle.divisor.specs.checks.Passed.{point-count, looks-of, right-lists, keys-most, keys-small, right-points, few-points, work-fits}
+use Rattle.divisor.specs.checks.Passed.{look-ready, looked}
 use Rattle.divisor.specs.sorting.Laws.{alike-most, alike-two, Least, AtLeast, least-is, kept-count}
 use Rattle.divisor.specs.points.Looking.{look-eight}
 use Rattle.divisor.specs.points.Seen.{sizes-seen, kept-seen}

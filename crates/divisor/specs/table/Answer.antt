@@ -44,7 +44,10 @@ module _ (p : ℕ) (P : Prime p) where
 
       go : (b f : Bool) → has-free T ≡ f
           → Meets K n (rows-of p n es)
-          (elim b [ true ↦ unsolvable | false ↦ elim f [ false ↦ one (solution K (el p 0) T) | true ↦ several (solution K (el p 0) T) (solution K (el p 1) T) ] ])
+          (elim b [
+            | true ↦ unsolvable
+            | false ↦ elim f [ false ↦ one (solution K (el p 0) T) | true ↦ several (solution K (el p 0) T) (solution K (el p 1) T) ]
+          ])
           → Says p P n (rows-of p n es) (solved-as (kind-as b f) p t .kind) (solved-as (kind-as b f) p t .values)
       go true f e m = m
       go false true e m = (solution K (el p 0) T, solution K (el p 1) T, m)

@@ -10,7 +10,8 @@ use Rattle.field.specs.modulus.Laws.{listed-positive}
 use Rattle.field.specs.loops.Places.{replicate-all, set-all}
 use Rattle.divisor.specs.declared.table.Row.{Row}
 use Rattle.divisor.specs.declared.table.Table.{Table}
-use Rattle.divisor.specs.table.Model.{most-columns, no-row, row-at, cell, diagonal, zeros, empty-table, minus, scaled-row, kept, insert, with-row, Columns, RowReady, TableReady}
+use Rattle.divisor.specs.table.Model.{most-columns, no-row, row-at, cell, diagonal, zeros, empty-table, minus, scaled-row, kept, insert}
+use Rattle.divisor.specs.table.Model.{with-row, Columns, RowReady, TableReady}
 use Rattle.divisor.specs.table.Rows.{minus-ready, scaled-below}
 
 -- every cell of the empty table is 0

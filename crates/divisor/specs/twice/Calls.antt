@@ -15,7 +15,8 @@ use Rattle.field.specs.declared.faults.Fault.{Fault}
 use Rattle.poly.specs.Lists.{Count, WrongNumber}
 use Rattle.poly.specs.Room.{of-rooms}
 use Rattle.poly.specs.ImageCall.{point-of}
-use Rattle.divisor.specs.Candidate.{most-point-numbers, Call, of-skeleton, table, of-points, point-at, points-of, prime, Numbers, A, B, monomials, Result, Candidate, refused, answered}
+use Rattle.divisor.specs.Candidate.{most-point-numbers, Call, of-skeleton, table, of-points, point-at, points-of, prime, Numbers, A, B}
+use Rattle.divisor.specs.Candidate.{monomials, Result, Candidate, refused, answered}
 use Rattle.divisor.specs.Repeated.{once-more, again, lines-before-points, AlikeButOne, Repeated}
 use Rattle.divisor.specs.twice.Equations.{Inserted, here, there, Again, behind, later}
 use Rattle.divisor.specs.twice.Rule.{repeated-point}

@@ -10,7 +10,8 @@ use Rattle.algebra.specs.Field.{Field}
 use Rattle.algebra.specs.Four.{Exponents}
 use Rattle.poly.specs.Terms.{Polynomial}
 use Rattle.poly.specs.PointValue.{value}
-use Rattle.divisor.specs.Rule.{DividesBoth, Kept, Unknowns, First, Equations, Solution, OnlySolution, divisor, Verdict, unsolvable, several, rejected, accepted}
+use Rattle.divisor.specs.Rule.{DividesBoth, Kept, Unknowns, First, Equations, Solution, OnlySolution, divisor, Verdict, unsolvable, several}
+use Rattle.divisor.specs.Rule.{rejected, accepted}
 
 -- ys is xs with x once more, at some place
 pub data Inserted {X : Type 0} (x : X) : List X → List X → Type 0 where

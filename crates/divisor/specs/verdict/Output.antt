@@ -20,7 +20,8 @@ use Rattle.poly.specs.Room.{written}
 use Rattle.poly.specs.key.Laws.{Digits, digits-of, exponents-of-key}
 use Rattle.poly.specs.key.Terms.{key-of-term, coefficient-of-term}
 use Rattle.divisor.specs.declared.CandidateRecord.{CandidateRecord}
-use Rattle.divisor.specs.Rule.{Kept, Unknowns, Solution, without-zeros, divided-by, made-monic, divisor, Verdict, unsolvable, several, rejected, accepted, all-bad, some-good}
+use Rattle.divisor.specs.Rule.{Kept, Unknowns, Solution, without-zeros, divided-by, made-monic, divisor, Verdict, unsolvable, several, rejected}
+use Rattle.divisor.specs.Rule.{accepted, all-bad, some-good}
 use Rattle.divisor.specs.Candidate.{Call, prime, Numbers, A, B, monomials, handed-out}
 use Rattle.divisor.specs.answer.CandidateDetermined.{answer-of, result-of}
 

@@ -12,7 +12,8 @@ use Rattle.field.specs.elements.Fp.{el-below-inj}
 use Rattle.field.specs.elements.Inverse.{inverse-unique}
 use Rattle.field.specs.elements.Link.{inverse-mul}
 use Rattle.field.specs.Refusal.{Line, none, Passes, Tested}
-use Rattle.field.specs.faults.Laws.{OnePlaceEach, placed-one-place, whole-one-place, never-placed, refuses-determined, not-passes-and-refuses, numbered, tested-passes, tested-refuses}
+use Rattle.field.specs.faults.Laws.{OnePlaceEach, placed-one-place, whole-one-place, never-placed}
+use Rattle.field.specs.faults.Laws.{refuses-determined, not-passes-and-refuses, numbered, tested-passes, tested-refuses}
 use Rattle.field.specs.Contract.{element, Fit, Invertible, sum-of, difference-of, product-of, Inverse}
 use Rattle.field.specs.Arithmetic.{two-operands, inverse-operand, Arithmetic, refused, answered, AskSum, AskDifference, AskProduct, AskInverse}
 use Rattle.field.specs.declared.faults.Fault.{Fault}

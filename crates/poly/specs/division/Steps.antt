@@ -11,7 +11,8 @@ use lib.ListN.{length, getD, set}
 use Rattle.poly.specs.Keys.{keys}
 use Rattle.poly.specs.Terms.{keyed}
 use Rattle.poly.specs.division.SpreadModel.{spread}
-use Rattle.poly.specs.division.Model.{most-key, at-most, Setting, less-product, fits, factor, less, Outcome, divide-from, found-from, setting, divided, found}
+use Rattle.poly.specs.division.Model.{most-key, at-most, Setting, less-product, fits, factor, less, Outcome, divide-from, found-from, setting}
+use Rattle.poly.specs.division.Model.{divided, found}
 
 module _ (d : Setting) where
   outcome-passed : (k : ℕ) (l c : List ℕ) → getD l k 0 ≡ 0 → divide-from d (suc k) l c ≡ divide-from d k l c

@@ -10,7 +10,8 @@ use Rattle.field.specs.Moduli.{Listed}
 use Rattle.field.specs.modulus.Laws.{listed-prime, listed-unique}
 use Rattle.field.specs.Numbers.{NO_GOOD_POINT}
 use Rattle.field.specs.Refusal.{fault, none, Passes, Tested}
-use Rattle.field.specs.faults.Laws.{OnePlaceEach, whole-one-place, first-one-place, one-place-append, refuses-determined, not-passes-and-refuses, passes-front, passes-back, tested-passes, tested-refuses}
+use Rattle.field.specs.faults.Laws.{OnePlaceEach, whole-one-place, first-one-place, one-place-append, refuses-determined, not-passes-and-refuses}
+use Rattle.field.specs.faults.Laws.{passes-front, passes-back, tested-passes, tested-refuses}
 use Rattle.field.specs.declared.faults.Fault.{Fault}
 use Rattle.poly.specs.declared.ImageRecord.{ImageRecord}
 use Rattle.poly.specs.declared.PointImage.{PointImage}

@@ -11,7 +11,8 @@ use Rattle.field.specs.faults.Laws.{OnePlaceEach, whole-one-place, first-one-pl
 use Rattle.field.specs.declared.faults.Fault.{Fault}
 use Rattle.poly.specs.Keys.{keys}
 use Rattle.poly.specs.Terms.{key-of, coefficient-of, coefficient-limit}
-use Rattle.poly.specs.Lists.{WrongKey, above, not-below, WrongTerm, wrong-key, coefficient-zero, WrongModulo, wrong-term, coefficient-large, of-terms, of-lists}
+use Rattle.poly.specs.Lists.{WrongKey, above, not-below, WrongTerm, wrong-key, coefficient-zero, WrongModulo, wrong-term, coefficient-large}
+use Rattle.poly.specs.Lists.{of-terms, of-lists}
 use Rattle.poly.specs.LeadingPart.{of-list}
 use Rattle.poly.specs.list.Model.{key-before}
 

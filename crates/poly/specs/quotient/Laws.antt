@@ -13,7 +13,8 @@ use Rattle.field.specs.Moduli.{Listed}
 use Rattle.field.specs.modulus.Laws.{listed-prime, listed-unique}
 use Rattle.field.specs.Modulo.{Modulo}
 use Rattle.field.specs.Refusal.{Line, none, Passes}
-use Rattle.field.specs.faults.Laws.{OnePlaceEach, whole-one-place, one-place-append, never-placed, refuses-determined, not-passes-and-refuses, passes-front, passes-back}
+use Rattle.field.specs.faults.Laws.{OnePlaceEach, whole-one-place, one-place-append, never-placed, refuses-determined, not-passes-and-refuses}
+use Rattle.field.specs.faults.Laws.{passes-front, passes-back}
 use Rattle.poly.specs.Keys.{exponents, keys}
 use Rattle.poly.specs.Terms.{key-of, poly}
 use Rattle.poly.specs.Divides.{Divides}

@@ -4,25 +4,34 @@ use Rattle.case_file.specs.reader.Alone.{nothing-after, refused-before, 
 use Rattle.case_file.proofs.reader.read_into.Statement.{statement}
 use Rattle.case_file.proofs.reader.read_into.Tie as tie
 
--- in what follows d is the place after the case was read, start the call
+-- the call, from where the case is read
+abbrev start : tie.After-read-one-into → tie.Start
+start d = d .before .before .before .before .before .before
+
+-- where the case is read, from the test whether it is refused
+abbrev read : tie.After-struct-known2 → tie.After-read-one-into
+read c = c .before .before .before
+
+-- past that test, from where the record of nothing is made
+abbrev more : tie.After-nothing → tie.Else2
+more c = c .before .before .before .before .before
+
+-- in what follows d is the place where the case is read
 returns : tie.Need-returns
 returns c =
     let d = c .before .before in
-    let start = d .before .before .before .before .before .before in
-    nothing-after (start .args .bytes .now) (d .read-one-into .ensures) (c .if1 .taken)
+    nothing-after (start d .args .bytes .now) (d .read-one-into .ensures) (c .if1 .taken)
 
 returns-2 : tie.Need-returns-2
 returns-2 c =
-    let d = c .before .before .before .before in
-    let start = d .before .before .before .before .before .before in
-    refused-before (start .args .bytes .now) (d .read-one-into .ensures) (c .if2 .taken)
+    let d = read (c .before) in
+    refused-before (start d .args .bytes .now) (d .read-one-into .ensures) (c .if2 .taken)
 
 returns-3 : tie.Need-returns-3
 returns-3 c =
-    let t = c .before .before .before .before .before in
-    let d = t .before .before .before .before in
-    let start = d .before .before .before .before .before .before in
-    rw (bytes-after (start .args .bytes .now) (d .read-one-into .ensures) (t .before .before .if1 .left) (t .if2 .left)) (c .nothing .ensures)
+    let t = more c in
+    let d = read (t .before) in
+    rw (bytes-after (start d .args .bytes .now) (d .read-one-into .ensures) (t .before .before .if1 .left) (t .if2 .left)) (c .nothing .ensures)
 
 pub read-into-spec : {M : Type 1} → statement M
 read-into-spec =

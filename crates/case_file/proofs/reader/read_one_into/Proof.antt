@@ -18,15 +18,27 @@ abbrev μ-loop : tie.MeasureT-loop
 μ-loop bytes first₀ second₀ skeleton₀ points₀ counts₀ before₀ at₀ first second skeleton points counts before at =
     length bytes - at
 
-loop-holds : tie.Need-loop-holds Inv-loop μ-loop
-loop-holds c =
-    let start = c .before .before .before .before .before .before in
-    begun (start .args .bytes .now) (c .nothing .ensures)
+-- the call, from where the record of nothing read is made
+abbrev start : tie.After-nothing Inv-loop μ-loop → tie.Start Inv-loop μ-loop
+start c = c .before .before .before .before .before .before
 
--- in what follows d is the place where a record was tested, l the loop's entry before it, t the branch behind it
+-- the test that found a fault, the one past which the record is added, and the loop's end
+abbrev faulty : tie.After-nothing2 Inv-loop μ-loop → tie.Then1 Inv-loop μ-loop
+faulty c = c .before .before .before .before .before
+
+abbrev more : tie.After-with-record Inv-loop μ-loop → tie.Else2 Inv-loop μ-loop
+more c = c .before .before .before .before .before
+
+abbrev over : tie.After-nothing3 Inv-loop μ-loop → tie.After-loop Inv-loop μ-loop
+over c = c .before .before .before .before .before
+
+loop-holds : tie.Need-loop-holds Inv-loop μ-loop
+loop-holds c = begun (start c .args .bytes .now) (c .nothing .ensures)
+
+-- in what follows d is the place where a record was tested, l the turn it belongs to, t the branch behind it
 returns : tie.Need-returns Inv-loop μ-loop
 returns c =
-    let t = c .before .before .before .before .before in
+    let t = faulty c in
     let d = t .before in
     let l = d .before .before in
     rw (stopped (l .before .loop .inv) (l .loop-test .taken) (d .fault-of .ensures) (t .if1 .taken)) (c .nothing2 .ensures)
@@ -49,7 +61,7 @@ with-record-requires c κs =
 
 body-requires : tie.Need-body-requires Inv-loop μ-loop
 body-requires c κs =
-    let t = c .before .before .before .before .before in
+    let t = more c in
     let d = t .before .before in
     let l = d .before .before in
     let r = ready (l .before .loop .inv) (l .loop-test .taken) (d .fault-of .ensures) (t .before .if1 .left) (t .if2 .left) in
@@ -57,22 +69,22 @@ body-requires c κs =
 
 add-at : tie.Need-add-at Inv-loop μ-loop
 add-at c =
-    let t = c .before .before .before .before .before .before .before in
+    let t = more (c .before) .before in
     let d = t .before in
     let l = d .before .before in
-    let start = l .before .before .before .before .before .before .before .before in
-    omega (arith, fits-in (l .before .loop .inv) (l .loop-test .taken) (d .fault-of .ensures) (t .if1 .left), c .body .ensures, start .good .0)
+    let s = start (l .before .before) in
+    omega (arith, fits-in (l .before .loop .inv) (l .loop-test .taken) (d .fault-of .ensures) (t .if1 .left), c .body .ensures, s .good .0)
 
 loop-less : tie.Need-loop-less Inv-loop μ-loop
 loop-less c =
-    let t = c .before .before .before .before .before .before .before in
+    let t = more (c .before) .before in
     let d = t .before in
     let l = d .before .before in
     omega (arith, fits-in (l .before .loop .inv) (l .loop-test .taken) (d .fault-of .ensures) (t .if1 .left), c .body .ensures)
 
 loop-again : tie.Need-loop-again Inv-loop μ-loop
 loop-again c =
-    let t = c .before .before .before .before .before .before in
+    let t = more (c .before) in
     let d = t .before .before in
     let l = d .before .before in
     rw (c .body .ensures)
@@ -80,7 +92,7 @@ loop-again c =
 
 returns-3 : tie.Need-returns-3 Inv-loop μ-loop
 returns-3 c =
-    let l = c .before .before .before .before .before in
+    let l = over c in
     rw (out (l .before .loop .inv) (l .loop-test .left)) (c .nothing3 .ensures)
 
 pub read-one-into-spec : {M : Type 1} → statement M

@@ -2,24 +2,26 @@
 use borrow.Author.Needs.{needs}
 use mathlib.Core.Path.{sym, _∙_, ap, ap₂}
 use mathlib.Core.Logic.{⊎-elim}
-use mathlib.Core.List.{List}
 use Prim.Native.Nat.{ℕ, _*_, _%_, _-_, _≤_, _<_}
 use native.Mathlib.Omega.{arith}
+use mathlib.Core.List.{List}
 use lib.ListN.{length, getD}
 use Rattle.field.specs.Contract.{product-of}
 use Rattle.field.specs.modulus.Laws.{listed-positive}
 use Rattle.field.specs.loops.Filled.{Filled}
+use Rattle.divisor.specs.declared.table.Row.{Row}
 use Rattle.divisor.specs.table.Model.{most-columns, zeros}
 use Rattle.divisor.specs.equations.Turns.{number-at, equation-start, equation-passed, equation-taken, equation-end}
 use Rattle.divisor.proofs.equations.equation.Statement.{statement}
 use Rattle.divisor.proofs.equations.equation.Tie as tie
 
-record Reached (p : ℕ) (ys zs ws ks : List ℕ) (i : ℕ) (cells : List ℕ) (j : ℕ) : Type 0 where
-  within : j ≤ length ks
-  filled : Filled (number-at p ys zs ws ks i) most-columns zeros j cells
+-- what the loop keeps
+record Placing (p : ℕ) (ys zs ws skeleton : List ℕ) (i j : ℕ) (row : Row) : Type 0 where
+  within : j ≤ length skeleton
+  filled : Filled (number-at p ys zs ws skeleton i) most-columns zeros j (row .cells)
 
 abbrev Inv-loop : tie.InvT-loop
-Inv-loop skeleton i column u ys zs ws p row₀ j₀ row j = Reached p ys zs ws skeleton i (row .cells) j
+Inv-loop skeleton i column u ys zs ws p row₀ j₀ row j = Placing p ys zs ws skeleton i j row
 
 abbrev μ-loop : tie.MeasureT-loop
 μ-loop skeleton i column u ys zs ws p row₀ j₀ row j = length skeleton - j
@@ -29,11 +31,13 @@ loop-holds c =
     let a = c .before .args in
     record { within = omega arith; filled = equation-start (a .u .modulus) (a .t1) (a .t2) (a .t3) (a .skeleton .now) (a .i) }
 
+-- with the power of x known: where the function began
+abbrev start : tie.After-x Inv-loop μ-loop → tie.Start Inv-loop μ-loop
+start c = c .before .before .before .before .before
+
 -- the coefficient begun has the modulus
 positive : (c : tie.After-of Inv-loop μ-loop) → 0 < c .of .result .modulus
-positive c =
-    let start = c .before .before .before .before .before .before .before .before in
-    rw (c .of .ensures) (listed-positive (start .pre .listed))
+positive c = rw (c .of .ensures) (listed-positive (start (c .before .before .before) .pre .listed))
 
 product-requires : tie.Need-product-requires Inv-loop μ-loop
 product-requires c κs = positive (c .before .before)
@@ -45,7 +49,7 @@ product-requires-2 c κs =
 
 loop-again : tie.Need-loop-again Inv-loop μ-loop
 loop-again c =
-    let s = c .before .before .before .before .before .before in
+    let s = start (c .before) in
     let l = c .before .before .before .before .loop in
     let a = s .args in
     let p = a .u .modulus in
@@ -56,7 +60,8 @@ loop-again c =
     let yzw = w .8 .ensures ∙ (λ n. product-of (yz n) (w .7 .ensures n)) in
     record {
       within = omega arith;
-      filled = rw (w .9)
+      filled =
+          rw (w .9)
           (equation-taken p (a .t1) (a .t2) (a .t3) (a .skeleton .now) (a .i) (l .j) (l .row) (l .inv .filled) (w .8 .result .value) (sym x ∙ w .0 .taken)
           (omega (arith, s .pre .behind, s .pre .within))
           (ap (λ e. e .value) yzw
@@ -65,7 +70,8 @@ loop-again c =
     })
     (λ w. record {
       within = omega arith;
-      filled = rw (w .1)
+      filled =
+          rw (w .1)
           (equation-passed p (a .t1) (a .t2) (a .t3) (a .skeleton .now) (a .i) (l .j) (l .row) (l .inv .filled)
           (omega (arith, s .pre .behind, s .pre .within)) (λ e. w .0 .left (x ∙ e)));
     })

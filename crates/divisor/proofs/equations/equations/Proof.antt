@@ -16,7 +16,8 @@ use Rattle.divisor.specs.sorting.Model.{alike}
 use Rattle.divisor.specs.points.Model.{kept-before, Equations-before}
 use Rattle.divisor.specs.sorting.Turns.{alike-same, alike-other}
 use Rattle.divisor.specs.points.Parts.{part-is, part-length}
-use Rattle.divisor.specs.points.Turns.{equations-start, equations-other, equations-same, points-sized, next-fits, equations-to-at, length-none, length-same, length-other}
+use Rattle.divisor.specs.points.Turns.{equations-start, equations-other, equations-same, points-sized, next-fits, equations-to-at, length-none}
+use Rattle.divisor.specs.points.Turns.{length-same, length-other}
 use Rattle.divisor.proofs.equations.equations.Statement.{statement}
 use Rattle.divisor.proofs.equations.equations.Tie as tie
 

@@ -22,19 +22,27 @@ use Rattle.divisor.specs.table.Added.{adds-ready}
 use Rattle.divisor.proofs.equations.point_equations.Statement.{statement}
 use Rattle.divisor.proofs.equations.point_equations.Tie as tie
 
-record Reached (p : ℕ) (ks point image : List ℕ) (column : ℕ) (old t : Table) (i : ℕ) : Type 0 where
+-- what the loop keeps
+record Passing (p : ℕ) (skeleton point image : List ℕ) (column : ℕ) (s₀ s : Table) (i : ℕ) : Type 0 where
   within : i ≤ 8
-  added : Equations-to i p old ks point image column t
+  equations : Equations-to i p s₀ skeleton point image column s
 
 abbrev Inv-loop : tie.InvT-loop
-Inv-loop p skeleton point image column ys zs ws s₀ i₀ s i = Reached p skeleton point image column s₀ s i
+Inv-loop p skeleton point image column ys zs ws s₀ i₀ s i = Passing p skeleton point image column s₀ s i
 
 abbrev μ-loop : tie.MeasureT-loop
 μ-loop p skeleton point image column ys zs ws s₀ i₀ s i = 8 - i
 
--- at the loop: where the function began
+-- with the first table worked: where the function began
+abbrev opened : tie.After-powers Inv-loop μ-loop → tie.Start Inv-loop μ-loop
+opened c = c .before .before .before .before .before
+
+-- at the loop: the first table, and where the function began
+abbrev first : tie.At-loop Inv-loop μ-loop → tie.After-powers Inv-loop μ-loop
+first l = l .before .before .before .before .before
+
 abbrev start : tie.At-loop Inv-loop μ-loop → tie.Start Inv-loop μ-loop
-start l = l .before .before .before .before .before .before .before .before .before .before
+start l = opened (first l)
 
 -- at the loop: the tables of powers are the model's
 module _ (l : tie.At-loop Inv-loop μ-loop) where
@@ -42,7 +50,7 @@ module _ (l : tie.At-loop Inv-loop μ-loop) where
   coordinate k = getD (start l .args .point .now) k 0
 
   abbrev ys : List ℕ
-  ys = l .before .before .before .before .before .powers .result
+  ys = first l .powers .result
 
   abbrev zs : List ℕ
   zs = l .before .before .before .powers2 .result
@@ -51,7 +59,7 @@ module _ (l : tie.At-loop Inv-loop μ-loop) where
   ws = l .before .powers3 .result
 
   y-table : ys ≡ powers (start l .args .p) (coordinate 0)
-  y-table = powers-model _ _ _ (l .before .before .before .before .before .powers .ensures)
+  y-table = powers-model _ _ _ (first l .powers .ensures)
 
   z-table : zs ≡ powers (start l .args .p) (coordinate 1)
   z-table = powers-model _ _ _ (l .before .before .before .powers2 .ensures)
@@ -63,17 +71,13 @@ powers-requires : tie.Need-powers-requires Inv-loop μ-loop
 powers-requires c κs = listed-positive (c .before .before .before .before .pre .table .listed)
 
 powers-requires-2 : tie.Need-powers-requires-2 Inv-loop μ-loop
-powers-requires-2 c κs =
-    let start = c .before .before .before .before .before .before in
-    listed-positive (start .pre .table .listed)
+powers-requires-2 c κs = listed-positive (opened (c .before) .pre .table .listed)
 
 powers-requires-3 : tie.Need-powers-requires-3 Inv-loop μ-loop
-powers-requires-3 c κs =
-    let start = c .before .before .before .before .before .before .before .before in
-    listed-positive (start .pre .table .listed)
+powers-requires-3 c κs = listed-positive (opened (c .before .before .before) .pre .table .listed)
 
 loop-holds : tie.Need-loop-holds Inv-loop μ-loop
-loop-holds c = record { within = omega arith; added = point-start _ _ _ _ _ _ }
+loop-holds c = record { within = omega arith; equations = point-start _ _ _ _ _ _ }
 
 difference-requires : tie.Need-difference-requires Inv-loop μ-loop
 difference-requires c κs =
@@ -87,8 +91,11 @@ difference-requires c κs =
 
 -- the multiplier's number
 module _ (c : tie.After-difference Inv-loop μ-loop) where
+  abbrev turn : tie.In-loop Inv-loop μ-loop
+  turn = c .before .before .before .before
+
   abbrev loop : tie.At-loop Inv-loop μ-loop
-  loop = c .before .before .before .before .before
+  loop = turn .before
 
   abbrev opposite : ℕ
   opposite = (start loop .args .p - getD (start loop .args .image .now) (loop .loop .i) 0) % start loop .args .p
@@ -130,7 +137,7 @@ is-equation c =
 
 -- the table so far is ready
 ready : (l : tie.At-loop Inv-loop μ-loop) → TableReady (start l .args .p) (l .loop .s)
-ready at = adds-ready _ (at .loop .inv .added .adds) (start at .pre .table)
+ready at = adds-ready _ (at .loop .inv .equations .adds) (start at .pre .table)
 
 with-added-requires : tie.Need-with-added-requires Inv-loop μ-loop
 with-added-requires c κs =
@@ -162,9 +169,10 @@ loop-again c =
     let a = s .args in
     let l = at .loop in
     record {
-      within = omega (arith, e .before .before .before .before .before .loop-test .taken);
-      added = point-next (a .p) (a .t) (a .skeleton .now) (a .point .now) (a .image .now) (a .column) (l .i) (l .s) _ (e .equation .result) (c .if1 .s)
-          (listed-positive (s .pre .table .listed)) (s .pre .eight .below (l .i)) refl (is-equation e) (l .inv .added) (added c);
+      within = omega (arith, turn (e .before) .loop-test .taken);
+      equations =
+          point-next (a .p) (a .t) (a .skeleton .now) (a .point .now) (a .image .now) (a .column) (l .i) (l .s) _ (e .equation .result) (c .if1 .s)
+          (listed-positive (s .pre .table .listed)) (s .pre .eight .below (l .i)) refl (is-equation e) (l .inv .equations) (added c);
     }
 
 returns : tie.Need-returns Inv-loop μ-loop
@@ -173,7 +181,7 @@ returns c =
     let a = s .args in
     let l = c .before .loop in
     let e : l .i ≡ 8 = omega arith in
-    subst (λ (j : ℕ). Equations-to j (a .p) (a .t) (a .skeleton .now) (a .point .now) (a .image .now) (a .column) (l .s)) e (l .inv .added)
+    subst (λ (j : ℕ). Equations-to j (a .p) (a .t) (a .skeleton .now) (a .point .now) (a .image .now) (a .column) (l .s)) e (l .inv .equations)
 
 pub point-equations-spec : {M : Type 1} → statement M
 point-equations-spec =

@@ -46,7 +46,9 @@ inverse-requires c κs =
 
 product-requires : tie.Need-product-requires Inv-loop μ-loop
 product-requires c κs =
-    let start = c .before .before .before .before .before .before .before .before in
+    let turn = c .before .before .before in
+    let inverse = turn .before .before in
+    let start = inverse .before .before .before in
     rw (c .of2 .ensures) (listed-positive (start .pre .listed))
 
 loop-again : tie.Need-loop-again Inv-loop μ-loop

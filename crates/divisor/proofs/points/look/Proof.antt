@@ -16,12 +16,13 @@ use Rattle.divisor.specs.points.Looking.{point-fine, look-eight}
 use Rattle.divisor.proofs.points.look.Statement.{statement}
 use Rattle.divisor.proofs.points.look.Tie as tie
 
-record Reached (p : ℕ) (first second points old work sizes : List ℕ) (i : ℕ) : Type 0 where
+-- what the loop keeps
+record Looking (p : ℕ) (first second points work₀ work sizes : List ℕ) (i : ℕ) : Type 0 where
   within : i ≤ length points / 3
-  looks : Looks i p first second points old work sizes
+  looks : Looks i p first second points work₀ work sizes
 
 abbrev Inv-loop : tie.InvT-loop
-Inv-loop p first second points work₀ sizes₀ i₀ work sizes i = Reached p first second points work₀ work sizes i
+Inv-loop p first second points work₀ sizes₀ i₀ work sizes i = Looking p first second points work₀ work sizes i
 
 abbrev μ-loop : tie.MeasureT-loop
 μ-loop p first second points work₀ sizes₀ i₀ work sizes i = length points / 3 - i
@@ -68,7 +69,8 @@ loop-again c =
     let e = seen-is seen in
     record {
       within = omega arith;
-      looks = looks-next (omega (arith, s .pre .few)) (s .pre .room) (l .loop .inv .looks) e
+      looks =
+          looks-next (omega (arith, s .pre .few)) (s .pre .room) (l .loop .inv .looks) e
           (ap (λ (r : PointImage). length (r .coefficients)) e ∙ look-eight (s .pre) (l .loop .i) .eight) (stored .store .ensures);
     }
 

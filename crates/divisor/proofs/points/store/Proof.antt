@@ -9,12 +9,13 @@ use Rattle.divisor.specs.points.Stores.{stored-start, stored-next}
 use Rattle.divisor.proofs.points.store.Statement.{statement}
 use Rattle.divisor.proofs.points.store.Tie as tie
 
-record Reached (at : ℕ) (old coefficients work : List ℕ) (j : ℕ) : Type 0 where
+-- what the loop keeps
+record Storing (at : ℕ) (work₀ coefficients work : List ℕ) (j : ℕ) : Type 0 where
   within : j ≤ 8
-  stored : Stored j coefficients at old work
+  stored : Stored j coefficients at work₀ work
 
 abbrev Inv-loop : tie.InvT-loop
-Inv-loop at work₀ coefficients j₀ work j = Reached at work₀ coefficients work j
+Inv-loop at work₀ coefficients j₀ work j = Storing at work₀ coefficients work j
 
 abbrev μ-loop : tie.MeasureT-loop
 μ-loop at work₀ coefficients j₀ work j = 8 - j
@@ -26,10 +27,8 @@ loop-again : tie.Need-loop-again Inv-loop μ-loop
 loop-again c =
     let s = c .before .before in
     let l = c .before .loop in
-    record {
-      within = omega arith;
-      stored = stored-next (omega (arith, l .inv .stored .same-length, s .pre .within, s .pre .room)) (l .inv .stored);
-    }
+    let stored = l .inv .stored in
+    record { within = omega arith; stored = stored-next (omega (arith, stored .same-length, s .pre .within, s .pre .room)) stored }
 
 same-length : tie.Need-same-length Inv-loop μ-loop
 same-length c = search needs

@@ -16,8 +16,10 @@ use prog.Wp.{Heap, Calls, Loops, WpFn, Tables}
 use ghost.Atoms.{Atoms, sem}
 use contract.Monad.{Fun, fact}
 use contract.Running.{givenOf, tables, tablesOf}
-use types.Kit.{Given, ‵, raw, some, later, _⊛_, _$_, _∵_, !, qed, by, move, keep, drop, use1, split, join, pick, fsplit, fsplit3, fjoin, fjoin3, feqI, suffices, frame, await, done}
-use types.Run.{look, look-raw, init, store-raw, forget, stop, hop, from, load, unit-lit, of-opd, and-then, no-more, assigns, land, returns, enter, alloc1, alloc0, params1, pass1, pass0, free1, free0}
+use types.Kit.{Given, ‵, raw, some, later, _⊛_, _$_, _∵_, !, qed, by, move, keep, drop, use1, split, join, pick, fsplit, fsplit3, fjoin, fjoin3, feqI}
+use types.Kit.{suffices, frame, await, done}
+use types.Run.{look, look-raw, init, store-raw, forget, stop, hop, from, load, unit-lit, of-opd, and-then, no-more, assigns, land, returns, enter}
+use types.Run.{alloc1, alloc0, params1, pass1, pass0, free1, free0}
 use types.SemTy.{Body}
 use sound.WpLaws.{FmC, fmOf, WpFn-mono}
 use denote.RattleType.{owns}
@@ -106,12 +108,14 @@ module _ {M : Type 1} (𝓤 : URA M) (H : Heap 𝓤) (A : Atoms 𝓤) (W : Given
 
   goes-step : StepReady p h e → ent 𝓤 (sem 𝓤 H A (T.the-row .own h (tvals h))) (With 𝓤 H A at-mem run .pre to-step)
   goes-step ready =
-      qed W (‵ (T.the-row .own h (tvals h)) ∷ []) ∵ says ! ready $ nothing ! $ owned ! residue (Is residue) (uint-makes 𝓤 H A W residue-width) p _ (refl, p-fits) $ fjoin ! $
+      qed W (‵ (T.the-row .own h (tvals h)) ∷ []) ∵ says ! ready $ nothing ! $
+      owned ! residue (Is residue) (uint-makes 𝓤 H A W residue-width) p _ (refl, p-fits) $ fjoin ! $
       owned ! R.the-row (Is R.the-row) (LL.makes R.the-type R′.the-plain 𝓤 H A) e _ e-is $ fjoin ! $ move ! (1 ∷ 0 ∷ []) $ fjoin ! $ nothing ! $ frame ! $
       done !
 
   module _ (C : Calls 𝓤 H) (Λ : Loops 𝓤 H) (fm : FmC 𝓤 H (W .laws) C) (known : Triple 𝓤 (C #with-equation) (With 𝓤 H A at-mem run)) where
-    walk : StepReady p h e → ent 𝓤 (onEntry 𝓤 H A add.signature (κ, tt) (q, tt) x at) (WpFn 𝓤 H C Λ code.function (vptr b o ∷ rval e ∷ vint residue-width p ∷ []) Post)
+    walk : StepReady p h e
+        → ent 𝓤 (onEntry 𝓤 H A add.signature (κ, tt) (q, tt) x at) (WpFn 𝓤 H C Λ code.function (vptr b o ∷ rval e ∷ vint residue-width p ∷ []) Post)
     walk ready =
         qed W ((‵ (flft κ q) ⊛ ‵ ftrue) ∷ ‵ (owns (MutRef (named 0) κ T.the-row ∷ R.the-row ∷ residue ∷ []) x at) ∷ []) ∵ split ! $ move ! (2 ∷ []) $ fsplit ! $
         fsplit3 ! $ drop ! $ move ! (0 ∷ 1 ∷ 3 ∷ []) $

@@ -10,12 +10,13 @@ use borrow.Author.Needs.{needs}
 use Rattle.divisor.proofs.table.kind_of.Statement.{statement}
 use Rattle.divisor.proofs.table.kind_of.Tie as tie
 
-record Reached (t : Table) (last j : ℕ) : Type 0 where
+-- what the loop keeps
+record Telling (t : Table) (last j : ℕ) : Type 0 where
   within : j ≤ last
   same : kind-from (last - j) j t ≡ kind t
 
 abbrev Inv-loop : tie.InvT-loop
-Inv-loop t last j₀ j = Reached t last j
+Inv-loop t last j₀ j = Telling t last j
 
 abbrev μ-loop : tie.MeasureT-loop
 μ-loop t last j₀ j = last - j

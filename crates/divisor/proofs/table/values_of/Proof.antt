@@ -1,6 +1,6 @@
 -- `divisor::table::values_of` meets its contract. The loop's invariant: back substitution from column j on the values so far gives what it gives from the
 -- last column on zeros. The measure is j.
-use mathlib.Core.Path.{_≡_, refl, sym, ap, _∙_}
+use mathlib.Core.Path.{_≡_, sym, ap, _∙_}
 use mathlib.Core.List.{List}
 use Prim.Native.Nat.{ℕ, _-_, _≤_}
 use native.Mathlib.Omega.{arith}
@@ -12,18 +12,16 @@ use borrow.Author.Needs.{needs}
 use Rattle.divisor.proofs.table.values_of.Statement.{statement}
 use Rattle.divisor.proofs.table.values_of.Tie as tie
 
-record Reached (p : ℕ) (t : Table) (last : ℕ) (values : List ℕ) (j : ℕ) : Type 0 where
+-- what the loop keeps
+record Substituting (p : ℕ) (t : Table) (last : ℕ) (values : List ℕ) (j : ℕ) : Type 0 where
   within : j ≤ last
   same : back j p t values ≡ back last p t zeros
 
 abbrev Inv-loop : tie.InvT-loop
-Inv-loop p t last values₀ j₀ values j = Reached p t last values j
+Inv-loop p t last values₀ j₀ values j = Substituting p t last values j
 
 abbrev μ-loop : tie.MeasureT-loop
 μ-loop p t last values₀ j₀ values j = j
-
-loop-holds : tie.Need-loop-holds Inv-loop μ-loop
-loop-holds c = record { within = omega arith; same = refl }
 
 value-at-requires : tie.Need-value-at-requires Inv-loop μ-loop
 value-at-requires c κs =
@@ -41,8 +39,9 @@ loop-again c =
     let at = c .before .before .before in
     let a = at .before .args in
     record {
-      within = omega arith;
-      same = ap (λ e. back (at .loop .j - 1) (a .p) (a .t1) (set (at .loop .values) (at .loop .j - 1) (e .value))) (c .value-at .ensures)
+      within = search needs;
+      same =
+          ap (λ e. back (at .loop .j - 1) (a .p) (a .t1) (set (at .loop .values) (at .loop .j - 1) (e .value))) (c .value-at .ensures)
           ∙ sym (back-turn (a .p) (a .t1) (at .loop .values) (at .loop .j) (c .before .before .loop-test .taken)) ∙ at .loop .inv .same;
     }
 
@@ -54,5 +53,5 @@ returns c =
 
 pub values-of-spec : {M : Type 1} → statement M
 values-of-spec =
-    tie.close (tie.spec Inv-loop μ-loop (λ c. search needs) loop-holds (λ c. search needs) (λ c. search needs) (λ c. search needs)
+    tie.close (tie.spec Inv-loop μ-loop (λ c. search needs) (λ c. search needs) (λ c. search needs) (λ c. search needs) (λ c. search needs)
     value-at-requires (λ c. search needs) (λ c. search needs) (λ c. search needs) loop-again returns)

@@ -7,9 +7,12 @@ use borrow.Author.Needs.{needs}
 use Rattle.divisor.proofs.verdict.divided.Statement.{statement}
 use Rattle.divisor.proofs.verdict.divided.Tie as tie
 
--- with the divisor made: where the routine began
+-- with the lists known, and with the divisor made: where the routine began
+abbrev opened : tie.After-slice-known2 → tie.Start
+opened c = c .before .before .before .before .before
+
 abbrev start : tie.After-made-monic → tie.Start
-start m = m .before .before .before .before .before .before
+start m = opened (m .before)
 
 -- with the divisions done: the divisor that was made
 abbrev made : tie.After-divides-both → tie.After-made-monic
@@ -17,7 +20,7 @@ made d = d .before .before .before .before
 
 made-monic-requires : tie.Need-made-monic-requires
 made-monic-requires c κs =
-    let s = c .before .before .before .before .before in
+    let s = opened c in
     record {
       listed = s .pre .lists .is-listed;
       few = s .pre .few;

@@ -4,18 +4,27 @@ use borrow.Author.Needs.{needs}
 use Rattle.divisor.proofs.verdict.divides_both.Statement.{statement}
 use Rattle.divisor.proofs.verdict.divides_both.Tie as tie
 
+-- after the first division: where the routine began
+abbrev start : tie.After-divides → tie.Start
+start d = d .before .before .before .before .before .before
+
+-- past the test of the first division: that division
+abbrev first : tie.Else1 → tie.After-divides
+first e = e .before .before .before
+
 returns : tie.Need-returns
 returns c = first-fails (c .before .before .before .divides .ensures) (c .if1 .taken)
 
 divides-requires-2 : tie.Need-divides-requires-2
 divides-requires-2 c κs =
-    divide-again (c .before .before .before .before .divides .ensures .room)
-    (c .before .before .before .before .before .before .before .before .before .before .pre .second)
+    let d = first (c .before) in
+    divide-again (d .divides .ensures .room) (start d .pre .second)
 
 returns-2 : tie.Need-returns-2
 returns-2 c =
-    then-second (c .before .before .before .before .before .before .before .divides .ensures) (c .before .before .before .before .if1 .left)
-    (c .before .before .divides2 .ensures)
+    let second = c .before .before in
+    let test = second .before .before in
+    then-second (first test .divides .ensures) (test .if1 .left) (second .divides2 .ensures)
 
 pub divides-both-spec : {M : Type 1} → statement M
 divides-both-spec =

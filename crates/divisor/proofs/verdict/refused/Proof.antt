@@ -7,10 +7,10 @@ use Rattle.divisor.proofs.verdict.refused.Statement.{statement}
 use Rattle.divisor.proofs.verdict.refused.Tie as tie
 
 returns : tie.Need-returns
-returns c = record {
-  is = refl;
-  clears = zeroed-all work-room _ (c .before .before .before .before .before .pre) (c .before .before .clear .ensures);
-}
+returns c =
+    let cleared = c .before .before in
+    let start = cleared .before .before .before in
+    record { is = refl; clears = zeroed-all work-room _ (start .pre) (cleared .clear .ensures) }
 
 pub refused-spec : {M : Type 1} → statement M
 refused-spec =

@@ -15,8 +15,23 @@ use borrow.Author.Needs.{needs}
 use Rattle.poly.proofs.division.divide.Statement.{statement}
 use Rattle.poly.proofs.division.divide.Tie as tie
 
+-- where the function begins, from where both greatest exponents are known
+abbrev opened : tie.After-most2 → tie.Start
+opened c = c .before .before .before .before .before
+
+-- where the test is passed, from where the lead's coefficient is known
+abbrev passed : tie.After-of → tie.Else1
+passed c = c .before .before .before .before .before
+
+-- where the dividend is spread, from where the steps are called, and where its greatest key is known
+abbrev laid : tie.After-steps-arg → tie.After-spread
+laid c = c .before .before .before
+
+abbrev topped : tie.After-spread → tie.After-of3
+topped c = c .before .before .before
+
 -- the test is that of the lists' greatest exponents
-tests : (c : tie.After-at-most) → let a = c .before .before .before .before .before .before .args in
+tests : (c : tie.After-at-most) → let a = opened (c .before) .args in
     c .at-most .result ≡ at-most (most-key (a .divisor .now)) (most-key (a .dividend .now))
 tests c = c .at-most .ensures ∙ ap₂ at-most (c .before .most2 .ensures) (c .before .before .most .ensures)
 
@@ -24,10 +39,10 @@ tests c = c .at-most .ensures ∙ ap₂ at-most (c .before .most2 .ensures) (c .
 module _ (c : tie.After-of2) where
   -- both greatest exponents are known
   abbrev mosts : tie.After-most2
-  mosts = c .before .before .before .before .before .before .before .before .before
+  mosts = passed (c .before .before) .before .before
 
   abbrev start : tie.Start
-  start = mosts .before .before .before .before .before
+  start = opened mosts
 
   abbrev kept : Setting
   kept =
@@ -54,8 +69,8 @@ module _ (c : tie.After-of2) where
 
   narrow : at-most (most-key (start .args .divisor .now)) (most-key (start .args .dividend .now)) ≡ true
   narrow =
-      sym (tests (c .before .before .before .before .before .before .before .before))
-      ∙ not-false _ (c .before .before .before .before .before .before .before .if1 .left)
+      let e = passed (c .before .before) in
+      sym (tests (e .before)) ∙ not-false _ (e .if1 .left)
 
 most-requires : tie.Need-most-requires
 most-requires c κs =
@@ -69,7 +84,7 @@ most-requires-2 c κs =
 
 returns : tie.Need-returns
 returns c =
-    let z = c .before .before .before .before .before .before .before in
+    let z = opened (c .before .before) in
     begun-wide (z .args .p) (z .args .dividend .now) (z .args .divisor .now) (z .args .work .now) (z .pre .lists)
     (sym (tests (c .before)) ∙ not-true _ (c .if1 .taken))
 
@@ -78,7 +93,7 @@ sub-of c = at-most-key _ _ (sym (c .before .before .before .at-most .ensures) �
 
 inverse-requires : tie.Need-inverse-requires
 inverse-requires c κs =
-    let z = c .before .before .before .before .before .before .before .before .before .before .before .before in
+    let z = opened (passed c .before .before) in
     lead-invertible (z .args .p) (z .args .dividend .now) (z .args .divisor .now) (z .args .work .now) (z .pre .lists) _
     (ap (λ (v : Element). v .modulus) (c .of .ensures)) (ap (λ (v : Element). v .value) (c .of .ensures) ∙ c .before .coefficient-of .ensures)
 
@@ -92,19 +107,21 @@ spread-requires c κs =
 
 steps-requires : tie.Need-steps-requires
 steps-requires c κs =
-    let h = c .before .before .before .before .before .before in
+    let w = laid c in
+    let h = topped w in
     let o = h .before .before in
     let z = start o in
     begun-can-step (z .args .p) (z .args .dividend .now) (z .args .divisor .now) (z .args .work .now) (z .pre .lists) (kept o) (kept-is o) _
-    (c .before .before .before .spread .ensures) (z .pre .empty) _ (ap (λ (k : ℕ). k + 1) (h .of3 .ensures))
+    (w .spread .ensures) (z .pre .empty) _ (ap (λ (k : ℕ). k + 1) (h .of3 .ensures))
 
 returns-2 : tie.Need-returns-2
 returns-2 c =
     let s = c .before .before in
-    let o = s .before .before .before .before .before .before .before .before .before in
+    let w = laid (s .before) in
+    let o = topped w .before .before in
     let z = start o in
     begun-ends (z .args .p) (z .args .dividend .now) (z .args .divisor .now) (z .args .work .now) (z .pre .lists) (kept o) (kept-is o) _
-    (s .before .before .before .before .spread .ensures) (narrow o) _ _ (s .steps .ensures)
+    (w .spread .ensures) (narrow o) _ _ (s .steps .ensures)
 
 pub divide-spec : {M : Type 1} → statement M
 divide-spec =

@@ -16,19 +16,23 @@ Inv-loop terms cells₀ i₀ cells i = FoldingCells store terms cells₀ i cells
 abbrev μ-loop : tie.MeasureT-loop
 μ-loop terms cells₀ i₀ cells i = length terms - i
 
+-- where the turn begins
+abbrev turn : tie.After-coefficient-of Inv-loop μ-loop → tie.In-loop Inv-loop μ-loop
+turn c = c .before .before .before .before
+
 -- the key of the term at i is a cell's
-below : (c : tie.After-coefficient-of Inv-loop μ-loop) → c .before .before .of .result .bits < length (c .before .before .before .before .before .loop .cells)
+below : (c : tie.After-coefficient-of Inv-loop μ-loop) → c .before .before .of .result .bits < length (turn c .before .loop .cells)
 below c =
-    let turn = c .before .before .before .before in
-    let a = turn .before in
-    omega (arith, a .before .before .before .pre (a .loop .i) (turn .loop-test .taken), c .before .before .of .ensures, a .loop .inv .same-length)
+    let t = turn c in
+    let a = t .before in
+    omega (arith, a .before .before .before .pre (a .loop .i) (t .loop-test .taken), c .before .before .of .ensures, a .loop .inv .same-length)
 
 loop-holds : tie.Need-loop-holds Inv-loop μ-loop
 loop-holds c = folding-cells-start
 
 mul-cells : tie.Need-mul-cells Inv-loop μ-loop
 mul-cells c =
-    let a = c .before .before .before .before .before in
+    let a = turn c .before in
     omega (arith, below c, a .before .before .before .good .1 .0 .0, a .loop .inv .same-length)
 
 slice-write-cells : tie.Need-slice-write-cells Inv-loop μ-loop
@@ -36,9 +40,9 @@ slice-write-cells c = below c
 
 loop-again : tie.Need-loop-again Inv-loop μ-loop
 loop-again c =
-    let turn = c .before .before .before .before in
-    let l = turn .before .loop in
-    folding-cells-next (l .inv) (turn .loop-test .taken) (simp length-set) (ap₂ (set (l .cells)) (c .before .before .of .ensures) (c .coefficient-of .ensures))
+    let t = turn c in
+    let l = t .before .loop in
+    folding-cells-next (l .inv) (t .loop-test .taken) (simp length-set) (ap₂ (set (l .cells)) (c .before .before .of .ensures) (c .coefficient-of .ensures))
 
 returns : tie.Need-returns Inv-loop μ-loop
 returns c = folding-end (c .before .loop .inv .folding) (c .loop-test .left)

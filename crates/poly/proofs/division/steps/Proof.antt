@@ -12,7 +12,8 @@ use Rattle.field.specs.declared.elements.Element.{Element}
 use Rattle.field.specs.Contract.{element}
 use Rattle.field.specs.elements.Plain.{has-modulus, product-is}
 use Rattle.poly.specs.Keys.{keys}
-use Rattle.poly.specs.division.Going.{left-of, Going, going-start, going-passed, going-on, going-done, going-stopped, lead-below, product-below, going-taken}
+use Rattle.poly.specs.division.Going.{left-of, Going, going-start, going-passed, going-on, going-done, going-stopped, going-taken}
+use Rattle.poly.specs.division.Going.{lead-below, product-below}
 use Rattle.poly.specs.division.Model.{KeysBelow, Setting, less-product, fits}
 use borrow.Author.Needs.{needs}
 use Rattle.poly.proofs.division.steps.Statement.{statement}

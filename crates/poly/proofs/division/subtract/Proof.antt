@@ -19,7 +19,10 @@ Inv-loop q shift divisor cells₀ i₀ cells i = FoldingCells (less-term (q .mod
 abbrev μ-loop : tie.MeasureT-loop
 μ-loop q shift divisor cells₀ i₀ cells i = length divisor - i
 
--- where the turn begins, and the function
+-- where the term's key is known, where the turn begins, and the function
+abbrev keyed : tie.After-of3 Inv-loop μ-loop → tie.After-struct-known Inv-loop μ-loop
+keyed c = c .before .before .before .before
+
 abbrev turn : tie.After-struct-known Inv-loop μ-loop → tie.At-loop Inv-loop μ-loop
 turn c = c .before .before .before .before
 
@@ -46,14 +49,14 @@ slice-read-of c = at-below (c .before .before .before)
 
 minus-product-requires : tie.Need-minus-product-requires Inv-loop μ-loop
 minus-product-requires c κs =
-    let s = start (turn (c .before .before .before .before)) in
+    let s = start (turn (keyed c)) in
     can-subtract (c .of3 .ensures) refl (s .pre .positive) (s .pre .reduced)
 
 mul-cells : tie.Need-mul-cells Inv-loop μ-loop
-mul-cells c = omega (arith, at-below (c .before .before .before .before .before))
+mul-cells c = omega (arith, at-below (keyed (c .before)))
 
 slice-write-cells : tie.Need-slice-write-cells Inv-loop μ-loop
-slice-write-cells c = at-below (c .before .before .before .before .before)
+slice-write-cells c = at-below (keyed (c .before))
 
 loop-again : tie.Need-loop-again Inv-loop μ-loop
 loop-again c =

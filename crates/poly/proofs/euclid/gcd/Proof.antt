@@ -20,6 +20,10 @@ Inv-loop p f₀ g₀ n₀ f g n = Turning p n₀ f₀ g₀ n f g
 abbrev μ-loop : tie.MeasureT-loop
 μ-loop p f₀ g₀ n₀ f g n = n
 
+-- where the function begins
+abbrev start : tie.At-loop Inv-loop μ-loop → tie.Start Inv-loop μ-loop
+start l = l .before .before .before .before
+
 prime : (c : tie.Start Inv-loop μ-loop) → Prime (c .args .p)
 prime c = listed-prime (c .pre .is-listed)
 
@@ -42,7 +46,7 @@ loop-holds c =
 
 monic-requires-2 : tie.Need-monic-requires-2 Inv-loop μ-loop
 monic-requires-2 c κs =
-    let s = c .before .before .before .before .before in
+    let s = start (c .before) in
     let l = c .before .loop in
     record {
       is-listed = s .pre .is-listed;
@@ -59,19 +63,19 @@ remainder-requires c κs =
 loop-less : tie.Need-loop-less Inv-loop μ-loop
 loop-less c =
     let turn = c .before .before .before in
-    turning-falls (prime (turn .before .before .before .before .before)) _ _ _ (turn .before .loop .inv) (omega arith)
+    turning-falls (prime (start (turn .before))) _ _ _ (turn .before .loop .inv) (omega arith)
     (c .before .before .monic2 .ensures) (c .before .remainder .ensures) (c .size3 .ensures)
 
 loop-again : tie.Need-loop-again Inv-loop μ-loop
 loop-again c =
     let turn = c .before .before .before in
-    turning-goes-on (prime (turn .before .before .before .before .before)) _ _ _ (turn .before .loop .inv) (omega arith)
+    turning-goes-on (prime (start (turn .before))) _ _ _ (turn .before .loop .inv) (omega arith)
     (c .before .before .monic2 .ensures) (c .before .remainder .ensures) (c .size3 .ensures)
 
 returns : tie.Need-returns Inv-loop μ-loop
 unfolding gcd
 returns c =
-    let s = c .before .before .before .before .before in
+    let s = start (c .before) in
     let a = s .args in
     let f : c .before .before .before .monic .result ≡ monic (a .p) (size (a .a) - 1) (a .a) =
     c .before .before .before .monic .ensures ∙ ap (λ (n : ℕ). monic (a .p) (n - 1) (a .a)) (c .before .before .before .before .size .ensures) in

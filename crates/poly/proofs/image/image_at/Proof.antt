@@ -28,10 +28,14 @@ use Rattle.poly.proofs.image.image_at.Tie as tie
 right : (c : tie.Start) → RightLists (c .args .p) (c .args .first .now) (c .args .second .now)
 right c = lists-are-right _ _ _ (c .pre .lists)
 
+-- where the function begins, from where the first table is worked
+abbrev opened : tie.After-powers → tie.Start
+opened c = c .before .before .before .before .before
+
 -- with the three tables worked
 module _ (c : tie.After-powers3) where
   abbrev start : tie.Start
-  start = c .before .before .before .before .before .before .before .before .before
+  start = opened (c .before .before .before .before)
 
   abbrev p : ℕ
   p = start .args .p
@@ -95,10 +99,10 @@ powers-requires : tie.Need-powers-requires
 powers-requires c κs = listed-positive (right (c .before .before .before .before) .is-listed)
 
 powers-requires-2 : tie.Need-powers-requires-2
-powers-requires-2 c κs = listed-positive (right (c .before .before .before .before .before .before) .is-listed)
+powers-requires-2 c κs = listed-positive (right (opened (c .before)) .is-listed)
 
 powers-requires-3 : tie.Need-powers-requires-3
-powers-requires-3 c κs = listed-positive (right (c .before .before .before .before .before .before .before .before) .is-listed)
+powers-requires-3 c κs = listed-positive (right (opened (c .before .before .before)) .is-listed)
 
 value-requires : tie.Need-value-requires
 value-requires c κs = ready c (start c .args .first .now) (right (start c) .first)

@@ -16,16 +16,20 @@ Inv-loop terms top i₀ i = Searching (Lower terms) (length terms) i
 abbrev μ-loop : tie.MeasureT-loop
 μ-loop terms top i₀ i = length terms - i
 
+-- where the turn begins
+abbrev turn : tie.After-x2 Inv-loop μ-loop → tie.In-loop Inv-loop μ-loop
+turn c = c .before .before .before
+
 loop-holds : tie.Need-loop-holds Inv-loop μ-loop
 loop-holds c = search-begins
 
 returns : tie.Need-returns Inv-loop μ-loop
-returns c = search-stops (c .before .before .before .before .before .loop .inv) (omega arith)
+returns c = search-stops (turn (c .before) .before .loop .inv) (omega arith)
 
 loop-again : tie.Need-loop-again Inv-loop μ-loop
 loop-again c =
-    let turn = c .before .before .before .before in
-    search-goes-on (turn .before .loop .inv) (turn .loop-test .taken) (λ lower. omega arith)
+    let t = turn (c .before) in
+    search-goes-on (t .before .loop .inv) (t .loop-test .taken) (λ lower. omega arith)
 
 returns-2 : tie.Need-returns-2 Inv-loop μ-loop
 returns-2 c = search-ends (c .before .loop .inv) (c .loop-test .left)

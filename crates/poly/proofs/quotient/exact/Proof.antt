@@ -19,13 +19,21 @@ use Rattle.poly.proofs.quotient.exact.Tie as tie
 abbrev lent : tie.Start → QuotientCall
 lent z = quotient-call (z .args .p) (z .args .first .now) (z .args .second .now) (z .args .out .now) (z .args .work .now)
 
--- the room is as long after the division as before
+-- where the function begins
 abbrev opened : tie.After-clear → tie.Start
 opened l = l .before .before .before .before .before .before
 
-abbrev start : tie.After-divide → tie.Start
-start d = opened (d .before .before .before .before)
+-- where the room is cleared, and where the division is done
+abbrev cleared : tie.After-divide → tie.After-clear
+cleared d = d .before .before .before .before
 
+abbrev divided : tie.Else1 → tie.After-divide
+divided n = n .before .before .before
+
+abbrev start : tie.After-divide → tie.Start
+start d = opened (cleared d)
+
+-- the room is as long after the division as before
 room-long : (d : tie.After-divide) → work-room ≤ length (d .divide .last .1 .1 .1 .0)
 room-long d = omega (arith, passed-lists (lent (start d)) (start d .pre) .room)
 
@@ -44,17 +52,17 @@ returns c =
     let e = c .before .before .before in
     let t = e .before .before in
     let d = t .before .before .before in
-    let l = d .before .before .before .before in
+    let l = cleared d in
     let z = start d in
     exact-none (lent z) (z .pre) _ _ _ (d .divide .result) (begun l) (d .divide .ensures) (zeroed-all work-room _ (room-long d) (e .clear2 .ensures))
     (not-true _ (t .if1 .taken)) (c .at .ensures)
 
 part-gather-end : tie.Need-part-gather-end
-part-gather-end c = room-long (c .before .before .before .before)
+part-gather-end c = room-long (divided (c .before))
 
 gather-requires : tie.Need-gather-requires
 gather-requires c κs =
-    let d = c .before .before .before .before .before .before in
+    let d = divided (c .before .before .before) in
     let long = quotient-long (d .divide .last .1 .1 .1 .0) (room-long d) in
     record { few = omega (arith, long); room = omega (arith, long, passed-output (lent (start d)) (start d .pre)) }
 
@@ -63,8 +71,8 @@ returns-2 c =
     let e = c .before .before .before in
     let g = e .before .before .before .before in
     let n = g .before .before .before .before in
-    let d = n .before .before .before in
-    let l = d .before .before .before .before in
+    let d = divided n in
+    let l = cleared d in
     let z = start d in
     exact-found (lent z) (z .pre) _ _ _ (d .divide .result) (begun l) (d .divide .ensures) (zeroed-all work-room _ (room-long d) (e .clear3 .ensures))
     (not-false _ (n .if1 .left)) (quotient-long (d .divide .last .1 .1 .1 .0) (room-long d)) _ _ (g .gather .ensures)

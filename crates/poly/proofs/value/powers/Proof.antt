@@ -15,8 +15,13 @@ use Rattle.poly.specs.value.PowersLaws.{power-start, power-next, powers-
 use Rattle.poly.proofs.value.powers.Statement.{statement}
 use Rattle.poly.proofs.value.powers.Tie as tie
 
+-- what the loop keeps: the table is filled up to i, past the power 0
+record Powering (p y : ℕ) (r₀ : List ℕ) (i : ℕ) (r : List ℕ) : Type 0 where
+  from : 1 ≤ i
+  filled : Filled (power p y) 8 r₀ i r
+
 abbrev Inv-loop : tie.InvT-loop
-Inv-loop p y r₀ i₀ r i = (1 ≤ i) × Filled (power p y) 8 r₀ i r
+Inv-loop p y r₀ i₀ r i = Powering p y r₀ i r
 
 abbrev μ-loop : tie.MeasureT-loop
 μ-loop p y r₀ i₀ r i = 8 - i
@@ -28,7 +33,7 @@ loop-holds : tie.Need-loop-holds Inv-loop μ-loop
 unfolding ones
 loop-holds c =
     let a = c .args in
-    (omega arith, filled-start {old = ones} (omega arith) refl (power-start (a .p) (a .y) ones refl))
+    record { from = omega arith; filled = filled-start {old = ones} (omega arith) refl (power-start (a .p) (a .y) ones refl) }
 
 product-requires : tie.Need-product-requires Inv-loop μ-loop
 product-requires c κs = has-modulus (c .before .of .ensures) (c .before .before .before .before .pre)
@@ -37,20 +42,22 @@ loop-again : tie.Need-loop-again Inv-loop μ-loop
 loop-again c =
     let turn = c .before .before .before .before in
     let l = turn .loop in
-    let filled = l .inv .1 in
-    let a = turn .before .args in (
-      omega arith,
-      filled-next filled (omega arith)
+    let filled = l .inv .filled in
+    let a = turn .before .args in
+    record {
+      from = omega arith;
+      filled =
+          filled-next filled (omega arith)
           (ap (λ (v : Element). v .value) (product-is (c .before .before .of .ensures) (c .before .of2 .ensures) (c .product .ensures))
-          ∙ ap (λ (x : ℕ). (x * a .y) % a .p) (filled .done (l .i - 1) (omega arith)) ∙ power-next (a .p) (a .y) (l .i) (l .inv .0)),
-    )
+          ∙ ap (λ (x : ℕ). (x * a .y) % a .p) (filled .done (l .i - 1) (omega arith)) ∙ power-next (a .p) (a .y) (l .i) (l .inv .from));
+    }
 
 returns : tie.Need-returns Inv-loop μ-loop
 unfolding powers
 returns c =
     let l = c .before .loop in
     let a = c .before .before .args in
-    subst (Powers (a .p) (a .y)) (sym (filled-end (l .inv .1) (omega arith)))
+    subst (Powers (a .p) (a .y)) (sym (filled-end (l .inv .filled) (omega arith)))
     (powers-are (a .p) (a .y))
 
 pub powers-spec : {M : Type 1} → statement M

@@ -39,16 +39,26 @@ x-small c =
 abbrev start : tie.After-x Inv-loop μ-loop → tie.Start Inv-loop μ-loop
 start c = c .before .before .before .before .before .before
 
+-- where the power of x is known, from where that of y is, and so on
+abbrev from-y : tie.After-y Inv-loop μ-loop → tie.After-x Inv-loop μ-loop
+from-y c = c .before .before .before
+
+abbrev from-z : tie.After-z Inv-loop μ-loop → tie.After-x Inv-loop μ-loop
+from-z c = from-y (c .before .before .before)
+
+abbrev from-w : tie.After-w Inv-loop μ-loop → tie.After-x Inv-loop μ-loop
+from-w c = from-z (c .before .before .before)
+
 positive : (c : tie.After-x Inv-loop μ-loop) → 0 < start c .args .p
 positive c = omega (arith, start c .pre .y-powers .below 0)
 
 -- the first product, and the second
-first : (c : tie.After-product Inv-loop μ-loop) → let y = c .before .before in let a = start (y .before .before .before) .args in
+first : (c : tie.After-product Inv-loop μ-loop) → let y = c .before .before in let a = start (from-y y) .args in
     c .product .result ≡ element (a .p) ((y .before .before .coefficient-of .result * getD (a .t2) (y .y .result) 0) % a .p)
 first c = product-is (c .before .before .before .of2 .ensures) (c .before .of3 .ensures) (c .product .ensures)
 
 second : (c : tie.After-product2 Inv-loop μ-loop) → let z = c .before .before in let y = z .before .before .before in
-    let a = start (y .before .before .before) .args in
+    let a = start (from-y y) .args in
     c .product2 .result
     ≡ element (a .p) ((y .before .before .coefficient-of .result * getD (a .t2) (y .y .result) 0) % a .p * getD (a .t3) (z .z .result) 0 % a .p)
 second c = product-is (first (c .before .before .before)) (c .before .of4 .ensures) (c .product2 .ensures)
@@ -61,10 +71,6 @@ added : (p : ℕ) (ys zs ws r : List ℕ) (t : ℕ) {k c x y z w s : ℕ} → k 
 unfolding plus-term
 added p ys zs ws r t ek ec ex ey ez ew es = cc
 
--- where the power of w is known, and the power of x
-abbrev at-x : tie.After-w Inv-loop μ-loop → tie.After-x Inv-loop μ-loop
-at-x c = c .before .before .before .before .before .before .before .before .before
-
 -- the count of terms fits, and so does the next place
 one-more : (c : tie.In-loop Inv-loop μ-loop) → Fits w64 (c .before .loop .i + 1)
 one-more c = omega arith
@@ -76,29 +82,29 @@ product-requires : tie.Need-product-requires Inv-loop μ-loop
 product-requires c κs = has-modulus (c .before .before .of2 .ensures) (positive (c .before .before .before .before))
 
 product-requires-2 : tie.Need-product-requires-2 Inv-loop μ-loop
-product-requires-2 c κs = has-modulus (first (c .before .before)) (positive (c .before .before .before .before .before .before .before))
+product-requires-2 c κs = has-modulus (first (c .before .before)) (positive (from-z (c .before)))
 
 array-read-of-4 : tie.Need-array-read-of-4 Inv-loop μ-loop
-array-read-of-4 c = let l = x-small (at-x (c .before)) in omega arith
+array-read-of-4 c = let l = x-small (from-w (c .before)) in omega arith
 
 plus-product-requires : tie.Need-plus-product-requires Inv-loop μ-loop
-plus-product-requires c κs = has-modulus (c .of6 .ensures) (positive (at-x (c .before .before)))
+plus-product-requires c κs = has-modulus (c .of6 .ensures) (positive (from-w (c .before .before)))
 
 array-write-r : tie.Need-array-write-r Inv-loop μ-loop
-array-write-r c = let l = x-small (at-x (c .before .before .before)) in omega arith
+array-write-r c = let l = x-small (from-w (c .before .before .before)) in omega arith
 
 add-i : tie.Need-add-i Inv-loop μ-loop
-add-i c = omega (arith, one-more (at-x (c .before .before .before) .before .before .before))
+add-i c = omega (arith, one-more (from-w (c .before .before .before) .before .before .before))
 
 loop-less : tie.Need-loop-less Inv-loop μ-loop
-loop-less c = omega (arith, at-x (c .before .before .before) .before .before .before .loop-test .taken)
+loop-less c = omega (arith, from-w (c .before .before .before) .before .before .before .loop-test .taken)
 
 loop-again : tie.Need-loop-again Inv-loop μ-loop
 loop-again c =
     let with-w = c .before .before .before in
     let with-z = with-w .before .before .before in
     let with-y = with-z .before .before .before in
-    let with-x = at-x with-w in
+    let with-x = from-w with-w in
     let turn = with-x .before .before .before in
     let l = turn .before .loop in
     let a = start with-x .args in
