@@ -58,7 +58,7 @@ numbers-settle X r q terms ts e x = subst (λ (l : List ℕ). X (record-of l) (d
     record-of : List ℕ → CandidateRecord
     record-of l =
         record {
-          fault = record { number = getD l 0 0; place = getD l 1 0 };
+          fault = fault (getD l 0 0) (getD l 1 0);
           degree = getD l 2 0;
           bad = getD l 3 0;
           unlucky = getD l 4 0;
@@ -134,7 +134,7 @@ module _ (r : QuotientRow) (output work : List ℕ) (long : keys ≤ length outp
       subst (λ (l : List ℕ). Quotient asked (quotient-result (record-of l) (written (drop 3 l) output) (cleared work))) (sym (same-is _ _ h)) x
     where
       record-of : List ℕ → QuotientRecord
-      record-of l = record { fault = record { number = getD l 0 0; place = getD l 1 0 }; terms = getD l 2 0 }
+      record-of l = record { fault = fault (getD l 0 0) (getD l 1 0); terms = getD l 2 0 }
 
   quotient-settled : Passes (quotient-table asked) → (listed : Listed (r .modulus)) (o : Outcome)
       → Means (Modulo (r .modulus) (listed-prime listed)) (poly (r .modulus) (listed-prime listed) (r .first-list))
@@ -186,7 +186,7 @@ image-tested r h =
     (model-answers (c .modulus) (c .first-list) (c .second-list) (c .point) lists refl) (image-known (r .found) _ (same-is _ _ (both .1)))
   where
     record-of : List ℕ → ImageRecord
-    record-of l = record { fault = record { number = getD l 0 0; place = getD l 1 0 }; degree = getD l 2 0; coefficients = drop 3 l }
+    record-of l = record { fault = fault (getD l 0 0) (getD l 1 0); degree = getD l 2 0; coefficients = drop 3 l }
 
     image-known : (q s : ImageRecord) → image-numbers q ≡ image-numbers s → q ≡ s
     image-known q s e = ap record-of e
