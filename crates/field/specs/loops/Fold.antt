@@ -1,24 +1,50 @@
 -- A left fold over a list, and a loop that takes one element a turn: how it begins, goes on and ends.
 use mathlib.Core.Path.{_≡_, refl, sym, ap, _∙_}
 use mathlib.Core.List.{List, [], _∷_}
-use Prim.Native.Nat.{ℕ, _+_, _≤_, _<_}
+use Prim.Native.Nat.{ℕ, zero, suc, _+_, _-_, _≤_, _<_}
 use native.Mathlib.Numerals.{add-one}
 use native.Mathlib.Omega.{arith}
 use lib.ListN.{length, getD, drop, drop-of-length-le}
 use lib.Seq.{drop-cons}
 
-unfoldable pub fold : {A : Type 0} → (ℕ → A → A) → List ℕ → A → A
+unfoldable pub fold : {E A : Type 0} → (E → A → A) → List E → A → A
 fold f [] a = a
 fold f (t ∷ ts) a = fold f ts (f t a)
 
-module _ {A : Type 0} (f : ℕ → A → A) (ts : List ℕ) (i : ℕ) (a : A) where
-  fold-turn : i < length ts → fold f (drop i ts) a ≡ fold f (drop (i + 1) ts) (f (getD ts i 0) a)
+-- what is left of the list is t and ts, or nothing
+module _ {E A : Type 0} (f : E → A → A) {left : List E} (a : A) where
+  pub fold-turn : {t : E} {ts : List E} → left ≡ t ∷ ts → fold f left a ≡ fold f ts (f t a)
   unfolding fold
-  fold-turn h = rw (drop-cons ts i 0 h, add-one)
+  fold-turn e = ap (λ l. fold f l a) e
 
-  fold-end : length ts ≤ i → fold f (drop i ts) a ≡ a
+  pub fold-end : left ≡ [] → fold f left a ≡ a
   unfolding fold
-  fold-end h = rw (drop-of-length-le ts h)
+  fold-end e = ap (λ l. fold f l a) e
+
+-- the n numbers from i on, and those below n, the greatest first
+unfoldable pub from : ℕ → ℕ → List ℕ
+from i zero = []
+from i (suc n) = i ∷ from (suc i) n
+
+unfoldable pub down : ℕ → List ℕ
+down zero = []
+down (suc n) = n ∷ down n
+
+pub from-turn : (i n : ℕ) → i < n → from i (n - i) ≡ i ∷ from (i + 1) (n - (i + 1))
+unfolding from
+from-turn i n l = let e : n - i ≡ suc (n - (i + 1)) = omega arith in ap (from i) e ∙ ap (λ k. i ∷ from k (n - (i + 1))) (sym (add-one i))
+
+pub from-end : (i n : ℕ) → n ≤ i → from i (n - i) ≡ []
+unfolding from
+from-end i n l = let e : n - i ≡ 0 = omega arith in ap (from i) e
+
+pub down-turn : (n : ℕ) → 0 < n → down n ≡ (n - 1) ∷ down (n - 1)
+unfolding down
+down-turn n l = let e : n ≡ suc (n - 1) = omega arith in ap down e
+
+pub down-end : (n : ℕ) → n ≤ 0 → down n ≡ []
+unfolding down
+down-end n l = let e : n ≡ 0 = omega arith in ap down e
 
 -- the loop at i: what is left of the list, folded from here on, gives what the whole gave
 pub record Folding {A : Type 0} (f : ℕ → A → A) (ts : List ℕ) (old : A) (i : ℕ) (a : A) : Type 0 where
@@ -31,10 +57,10 @@ module _ {A : Type 0} {f : ℕ → A → A} {ts : List ℕ} {old : A} where
 
   module _ {i : ℕ} {a : A} (h : Folding f ts old i a) where
     pub folding-next : i < length ts → {b : A} → b ≡ f (getD ts i 0) a → Folding f ts old (i + 1) b
-    folding-next l e = record { within = omega arith; same = h .same ∙ fold-turn f ts i a l ∙ ap (fold f (drop (i + 1) ts)) (sym e) }
+    folding-next l e = record { within = omega arith; same = h .same ∙ fold-turn f a (drop-cons ts i 0 l ∙ ap (λ k. getD ts i 0 ∷ drop k ts) (sym (add-one i))) ∙ ap (fold f (drop (i + 1) ts)) (sym e) }
 
     pub folding-end : length ts ≤ i → a ≡ fold f ts old
-    folding-end l = sym (h .same ∙ fold-end f ts i a l)
+    folding-end l = sym (h .same ∙ fold-end f a (drop-of-length-le ts l))
 
 -- the same of cells, of which there are as many as before
 pub record FoldingCells (f : ℕ → List ℕ → List ℕ) (ts old : List ℕ) (i : ℕ) (cells : List ℕ) : Type 0 where

@@ -1,5 +1,6 @@
 -- What eight numbers mean, `series`, and what the model's steps mean: a subtraction, the remainder, and division by the highest number.
 use mathlib.Core.Path.{_≡_, refl, sym, ap, _∙_, subst, fun-ext}
+use mathlib.Core.Logic.{inl}
 use mathlib.Core.List.{List}
 use Prim.Native.Nat.{ℕ, zero, suc, _+_, _-_, _*_, _%_, _≤_, _<_}
 use native.Mathlib.Decide.{decLt}
@@ -26,10 +27,12 @@ use Rattle.field.specs.Residues.{Residues}
 use Rattle.field.specs.Modulo.{Modulo}
 use Rattle.field.specs.elements.Link.{minus-times-el}
 use Rattle.poly.specs.Coefficients.{Eight, series}
-use Rattle.field.specs.loops.Cells.{cells-at, cells-all, past-end}
+use Rattle.field.specs.loops.Filled.{between}
+use Rattle.field.specs.loops.Fold.{fold, down}
+use Rattle.field.specs.loops.Cells.{cells-at, cells-all, past-end, between-in, between-out}
 use Rattle.poly.specs.euclid.Model.{size, scaled, monic, less-at, subtract, remainder}
 use Rattle.field.specs.loops.Places.{Clear}
-use Rattle.poly.specs.euclid.Numbers.{Leads, eight-clear, size-clear, size-lead, scaled-eight, less-low, less-high, subtract-eight}
+use Rattle.poly.specs.euclid.Numbers.{Leads, eight-clear, size-clear, size-lead, scaled-eight, subtract-eight}
 
 pub clear-ends : (p : ℕ) (h : 0 < p) (n : ℕ) (f : List ℕ) → Clear n f → Ends (Residues p h) n (series p f)
 clear-ends p h n f c i l = ap (λ (x : ℕ). el p x) (c i l)
@@ -53,7 +56,7 @@ module _ {p : ℕ} (P : Prime p) where
   unfolding less subtract
   subtract-series c k n f g l h cg fit =
       fun-ext λ i.
-      cells-all (λ x. el p x ≡ less (Modulo p P) k (el p c) (series p f) (series p g) i) (less-at p c k f g) 8 i (λ b. below i)
+      cells-all (λ x. el p x ≡ less (Modulo p P) k (el p c) (series p f) (series p g) i) (between k 8 (less-at p c k f g) f) 8 i (below i)
       (λ b.
       ap (el p) (sym (past-end 8 i f (h .eight) b))
       ∙ none i
@@ -64,13 +67,13 @@ module _ {p : ℕ} (P : Prime p) where
           → series p f i ≡ less (Modulo p P) k (el p c) (series p f) (series p g) i
       none i z = sym (ap (λ (u : Fp p). add (series p f i) (neg u)) z ∙ ap (add (series p f i)) (neg-zero ring) ∙ ring .add-zero _)
 
-      below : (i : ℕ) → el p (less-at p c k f g i) ≡ less (Modulo p P) k (el p c) (series p f) (series p g) i
-      below i =
+      below : (i : ℕ) → i < 8 → el p (between k 8 (less-at p c k f g) f i) ≡ less (Modulo p P) k (el p c) (series p f) (series p g) i
+      below i b =
           elim (decLt i k) [
-            | yes a ↦ ap (el p) (less-low p c k f g i a) ∙ none i (mono-low ring k (el p c) (series p g) i a)
+            | yes a ↦ ap (el p) (between-out k 8 (less-at p c k f g) f i (inl a)) ∙ none i (mono-low ring k (el p c) (series p g) i a)
             | no a ↦
                 let e : k + (i - k) ≡ i = omega arith in
-                ap (el p) (less-high p c k f g i (omega arith))
+                ap (el p) (between-in k 8 (less-at p c k f g) f i (omega arith) b)
                 ∙ minus-times-el p (getD f i 0) c (getD g (i - k) 0) (prime-positive P) (omega arith)
                 ∙ ap (λ (u : Fp p). add (series p f i) (neg u))
                 (sym (mono-high ring k (el p c) (series p g) (i - k)) ∙ ap (conv ring (mono ring k (el p c)) (series p g)) e)
@@ -79,7 +82,7 @@ module _ {p : ℕ} (P : Prime p) where
   -- so the common divisors of f and g are those of the remainder and g
   pub remainder-greatest : (m : ℕ) (g : List ℕ) → Clear (suc m) g → (k : ℕ) (f : List ℕ) → Eight p f → k + m ≤ 8 → (u : ℕ → Fp p)
       → Greatest (series p (remainder p m g k f)) (series p g) u → Greatest (series p f) (series p g) u
-  unfolding remainder
+  unfolding fold down
   remainder-greatest m g cg zero f h fit u s = s
   remainder-greatest m g cg (suc k) f h fit u s =
       let c = getD f (k + m) 0 in

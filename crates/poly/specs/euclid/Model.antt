@@ -2,10 +2,11 @@
 use mathlib.Core.Bool.{true, false}
 use mathlib.Core.List.{List}
 use Prim.Native.Nat.{ℕ, zero, suc, _+_, _-_, _*_, _%_}
-use lib.Dec.{eqb, ltb}
+use lib.Dec.{eqb}
 use lib.ListN.{getD}
 use Rattle.field.specs.Fp.{el, inv}
-use Rattle.field.specs.loops.Filled.{cells}
+use Rattle.field.specs.loops.Filled.{cells, between}
+use Rattle.field.specs.loops.Fold.{fold, down}
 
 -- the place after the highest number that is not 0, among the first n; 0 where all are 0
 unfoldable pub size-to : ℕ → List ℕ → ℕ
@@ -23,18 +24,21 @@ scaled p c f = cells (λ i. (c * getD f i 0) % p) 8
 unfoldable pub monic : ℕ → ℕ → List ℕ → List ℕ
 monic p n f = scaled p (inv (el p (getD f n 0)) .val) f
 
--- f - c x^k g at the power i
-unfoldable pub less-at : ℕ → ℕ → ℕ → List ℕ → List ℕ → ℕ → ℕ
-less-at p c k f g i = elim (ltb i k) [ true ↦ getD f i 0 | false ↦ (getD f i 0 + (p - c) * getD g (i - k) 0) % p ]
+-- f - c x^k g at the power i, which is k or above
+abbrev pub less-at : ℕ → ℕ → ℕ → List ℕ → List ℕ → ℕ → ℕ
+less-at p c k f g i = (getD f i 0 + (p - c) * getD g (i - k) 0) % p
 
 -- f - c x^k g
 unfoldable pub subtract : ℕ → ℕ → ℕ → List ℕ → List ℕ → List ℕ
-subtract p c k f g = cells (less-at p c k f g) 8
+subtract p c k f g = cells (between k 8 (less-at p c k f g) f) 8
 
--- the remainder of f by g, which is monic of degree m, where f has k powers from m on
-unfoldable pub remainder : ℕ → ℕ → List ℕ → ℕ → List ℕ → List ℕ
-remainder p m g zero f = f
-remainder p m g (suc k) f = remainder p m g k (subtract p (getD f (k + m) 0) k f g)
+-- the power k + m of f taken off by g, which is monic of degree m
+abbrev pub reduced : ℕ → ℕ → List ℕ → ℕ → List ℕ → List ℕ
+reduced p m g k f = subtract p (getD f (k + m) 0) k f g
+
+-- the remainder of f by g, where f has k powers from m on
+abbrev pub remainder : ℕ → ℕ → List ℕ → ℕ → List ℕ → List ℕ
+remainder p m g k f = fold (reduced p m g) (down k) f
 
 -- Euclid's algorithm; the fuel falls, and the size of g is enough
 unfoldable pub euclid : ℕ → ℕ → List ℕ → List ℕ → List ℕ

@@ -5,11 +5,12 @@ use Prim.Native.Nat.{ℕ, zero, suc, _+_, _-_, _*_, _%_, _≤_, _<_}
 use native.Mathlib.Decide.{ℕ-discrete, decLe, decLt}
 use native.Mathlib.Nat.{mod-lt, mod-self, zero-mod, mul-one, mul-zero}
 use native.Mathlib.Omega.{arith}
-use borrow.Author.Tests.{eq-eqb, ne-eqb, lt-ltb, le-ltb}
+use borrow.Author.Tests.{eq-eqb, ne-eqb}
 use lib.ListN.{getD}
 use Rattle.poly.specs.Coefficients.{Eight}
-use Rattle.field.specs.loops.Filled.{cells}
-use Rattle.field.specs.loops.Cells.{cells-length, cells-all, past-end}
+use Rattle.field.specs.loops.Filled.{cells, between}
+use Rattle.field.specs.loops.Fold.{fold, down}
+use Rattle.field.specs.loops.Cells.{cells-length, cells-all, past-end, between-in, between-all}
 use Rattle.field.specs.loops.Places.{Clear, clear-one-less}
 use Rattle.poly.specs.euclid.Model.{size-to, scaled, less-at, subtract, remainder}
 
@@ -68,15 +69,6 @@ size-is n m f hn q h =
 pub eight-clear : (p : ℕ) (f : List ℕ) → Eight p f → Clear 8 f
 eight-clear p f h i l = past-end 8 i f (h .eight) l
 
--- what a subtraction leaves below k, and makes from k on
-pub less-low : (p c k : ℕ) (f g : List ℕ) (i : ℕ) → i < k → less-at p c k f g i ≡ getD f i 0
-unfolding less-at
-less-low p c k f g i l = rw (lt-ltb i k l, less-at)
-
-pub less-high : (p c k : ℕ) (f g : List ℕ) (i : ℕ) → k ≤ i → less-at p c k f g i ≡ (getD f i 0 + (p - c) * getD g (i - k) 0) % p
-unfolding less-at
-less-high p c k f g i l = rw (le-ltb i k l, less-at)
-
 module _ (p : ℕ) (pos : 0 < p) where
   pub cells-eight : (h : ℕ → ℕ) → ((i : ℕ) → i < 8 → h i < p) → Eight p (cells h 8)
   cells-eight h s = record { eight = cells-length h 8; below = λ i. cells-all (λ n. n < p) h 8 i (s i) (λ l. pos) }
@@ -87,20 +79,15 @@ module _ (p : ℕ) (pos : 0 < p) where
 
   pub subtract-eight : (c k : ℕ) (f g : List ℕ) → Eight p f → Eight p (subtract p c k f g)
   unfolding subtract
-  subtract-eight c k f g h =
-      cells-eight (less-at p c k f g)
-      (λ i l.
-      elim (decLt i k) [
-        | yes b ↦ subst (λ (n : ℕ). n < p) (sym (less-low p c k f g i b)) (h .below i)
-        | no b ↦ subst (λ (n : ℕ). n < p) (sym (less-high p c k f g i (omega arith))) (mod-lt _ pos)
-      ])
+  subtract-eight c k f g h = cells-eight _ (λ i l. between-all (λ n. n < p) k 8 (less-at p c k f g) f i (mod-lt _ pos) (h .below i))
 
   -- a step clears the power k + m, where g is monic of degree m and c stands there
   subtract-clear : (k m : ℕ) (f g : List ℕ) → Eight p f → Clear (suc k + m) f → getD g m 0 ≡ 1 → Clear (suc m) g
       → Clear (k + m) (subtract p (getD f (k + m) 0) k f g)
   unfolding subtract
   subtract-clear k m f g h cf g1 cg i l =
-      cells-all (λ n. n ≡ 0) (less-at p c k f g) 8 i (λ b. less-high p c k f g i (omega arith) ∙ value (ℕ-discrete i (k + m))) (λ b. refl)
+      cells-all (λ n. n ≡ 0) (between k 8 (less-at p c k f g) f) 8 i
+      (λ b. between-in k 8 (less-at p c k f g) f i (omega arith) b ∙ value (ℕ-discrete i (k + m))) (λ b. refl)
     where
       c : ℕ
       c = getD f (k + m) 0
@@ -124,13 +111,13 @@ module _ (p : ℕ) (pos : 0 < p) where
 
   -- the remainder is clear from the degree of g on
   pub remainder-eight : (m : ℕ) (g : List ℕ) (k : ℕ) (f : List ℕ) → Eight p f → Eight p (remainder p m g k f)
-  unfolding remainder
+  unfolding fold down
   remainder-eight m g zero f h = h
   remainder-eight m g (suc k) f h = remainder-eight m g k (subtract p (getD f (k + m) 0) k f g) (subtract-eight (getD f (k + m) 0) k f g h)
 
   pub remainder-clear : (m : ℕ) (g : List ℕ) → getD g m 0 ≡ 1 → Clear (suc m) g → (k : ℕ) (f : List ℕ) → Eight p f → Clear (k + m) f
       → Clear m (remainder p m g k f)
-  unfolding remainder
+  unfolding fold down
   remainder-clear m g g1 cg zero f h cf = λ i l. cf i (omega arith)
   remainder-clear m g g1 cg (suc k) f h cf =
       remainder-clear m g g1 cg k (subtract p (getD f (k + m) 0) k f g) (subtract-eight (getD f (k + m) 0) k f g h)

@@ -1,4 +1,4 @@
--- How the model goes on: one step of the remainder, one turn of Euclid's algorithm, and what a turn makes.
+-- How the model goes on: one turn of Euclid's algorithm, and what a turn makes.
 use mathlib.Core.Path.{_≡_, refl, sym, ap, _∙_, subst}
 use mathlib.Core.List.{List}
 use Prim.Native.Nat.{ℕ, zero, suc, _+_, _-_, _≤_, _<_}
@@ -8,22 +8,9 @@ use lib.ListN.{getD}
 use Rattle.field.specs.Prime.{Prime}
 use Rattle.field.specs.modulus.Prime.{prime-positive}
 use Rattle.poly.specs.Coefficients.{Eight}
-use Rattle.poly.specs.euclid.Model.{size, monic, subtract, remainder, euclid}
+use Rattle.poly.specs.euclid.Model.{size, monic, remainder, euclid}
 use Rattle.poly.specs.euclid.Numbers.{Leads, eight-clear, size-lead, size-below, size-le, remainder-eight, remainder-clear}
 use Rattle.poly.specs.euclid.Meaning.{highest-leads}
-
-pub remainder-next : (p m : ℕ) (g : List ℕ) (k : ℕ) (r : List ℕ) → 0 < k
-    → remainder p m g k r ≡ remainder p m g (k - 1) (subtract p (getD r (k - 1 + m) 0) (k - 1) r g)
-unfolding remainder
-remainder-next p m g zero r l = absurd (omega arith)
-remainder-next p m g (suc k) r l =
-    let e : k ≡ suc k - 1 = omega arith in
-    ap (λ (j : ℕ). remainder p m g j (subtract p (getD r (j + m) 0) j r g)) e
-
-pub remainder-end : (p m : ℕ) (g : List ℕ) (k : ℕ) (r : List ℕ) → k ≡ 0 → remainder p m g k r ≡ r
-unfolding remainder
-remainder-end p m g zero r e = refl
-remainder-end p m g (suc k) r e = absurd (omega arith)
 
 -- g divided by its highest number
 abbrev pub turned : ℕ → ℕ → List ℕ → List ℕ

@@ -7,9 +7,9 @@ use mathlib.Core.List.{List}
 use lib.ListN.{getD}
 use Rattle.field.specs.declared.elements.Element.{Element}
 use Rattle.poly.specs.Coefficients.{Eight}
-use Rattle.poly.specs.euclid.Model.{subtract, remainder}
+use Rattle.field.specs.loops.Fold.{fold-turn, fold-end, down-turn, down-end}
+use Rattle.poly.specs.euclid.Model.{reduced, subtract, remainder}
 use Rattle.poly.specs.euclid.Numbers.{subtract-eight}
-use Rattle.poly.specs.euclid.Turns.{remainder-next, remainder-end}
 use Rattle.poly.proofs.euclid.remainder.Statement.{statement}
 use Rattle.poly.proofs.euclid.remainder.Tie as tie
 
@@ -45,14 +45,14 @@ loop-again c =
     record {
       within = omega arith;
       numbers = rw e (subtract-eight (a .p) pos v (l .k - 1) (l .r) (a .g) (l .inv .numbers));
-      same = rw e (l .inv .same ∙ remainder-next (a .p) (a .m) (a .g) (l .k) (l .r) (omega arith));
+      same = rw e (l .inv .same ∙ fold-turn (reduced (a .p) (a .m) (a .g)) (l .r) (down-turn (l .k) (omega arith)));
     }
 
 returns : tie.Need-returns Inv-loop μ-loop
 returns c =
     let l = c .before .loop in
     let a = c .before .before .args in
-    sym (l .inv .same ∙ remainder-end (a .p) (a .m) (a .g) (l .k) (l .r) (omega arith))
+    sym (l .inv .same ∙ fold-end (reduced (a .p) (a .m) (a .g)) (l .r) (down-end (l .k) (omega arith)))
 
 pub remainder-spec : {M : Type 1} → statement M
 remainder-spec =

@@ -7,20 +7,13 @@ use mathlib.Core.List.{List}
 use lib.ListN.{getD}
 use Rattle.field.specs.declared.elements.Element.{Element}
 use Rattle.field.specs.elements.Plain.{minus-product-is, can-subtract}
-use Rattle.field.specs.loops.Filled.{Filled}
-use Rattle.field.specs.loops.Cells.{filled-start, filled-next, filled-end}
+use Rattle.field.specs.loops.Cells.{FilledPart, part-start, part-next, part-end}
 use Rattle.poly.specs.euclid.Model.{less-at, subtract}
-use Rattle.poly.specs.euclid.Numbers.{less-low, less-high}
 use Rattle.poly.proofs.euclid.subtract.Statement.{statement}
 use Rattle.poly.proofs.euclid.subtract.Tie as tie
 
--- what the loop keeps: the places from k on are filled up to i
-record Subtracting (c : Element) (k : ℕ) (f₀ g : List ℕ) (i : ℕ) (f : List ℕ) : Type 0 where
-  from : k ≤ i
-  filled : Filled (less-at (c .modulus) (c .value) k f₀ g) 8 f₀ i f
-
 abbrev Inv-loop : tie.InvT-loop
-Inv-loop c k f₀ g i₀ f i = Subtracting c k f₀ g i f
+Inv-loop c k f₀ g i₀ f i = FilledPart k 8 (less-at (c .modulus) (c .value) k f₀ g) 8 f₀ i f
 
 abbrev μ-loop : tie.MeasureT-loop
 μ-loop c k f₀ g i₀ f i = 8 - i
@@ -30,14 +23,7 @@ abbrev turn : tie.After-of Inv-loop μ-loop → tie.At-loop Inv-loop μ-loop
 turn c = c .before .before .before
 
 loop-holds : tie.Need-loop-holds Inv-loop μ-loop
-loop-holds c =
-    let a = c .args in
-    record {
-      from = omega arith;
-      filled =
-          filled-start (omega (arith, c .pre .power)) (c .pre .eight)
-          (λ j l. sym (less-low (a .c .modulus) (a .c .value) (a .k) (a .f .now) (a .t4) j l));
-    }
+loop-holds c = part-start (omega (arith, c .pre .power)) (c .pre .eight)
 
 minus-product-requires : tie.Need-minus-product-requires Inv-loop μ-loop
 minus-product-requires c κs =
@@ -48,22 +34,16 @@ loop-again : tie.Need-loop-again Inv-loop μ-loop
 loop-again c =
     let at = turn (c .before .before) in
     let l = at .loop in
-    let filled = l .inv .filled in
     let a = at .before .args in
-    record {
-      from = omega (arith, l .inv .from);
-      filled =
-          filled-next filled (omega arith)
-          (ap (λ (v : Element). v .value) (minus-product-is refl (c .before .of2 .ensures) (c .before .before .of .ensures) (c .minus-product .ensures))
-          ∙ ap (λ (x : ℕ). (x + (a .c .modulus - a .c .value) * getD (a .t4) (l .i - a .k) 0) % a .c .modulus) (filled .left (l .i) (omega arith))
-          ∙ sym (less-high (a .c .modulus) (a .c .value) (a .k) (a .f .now) (a .t4) (l .i) (l .inv .from)));
-    }
+    part-next (l .inv) (omega arith) (omega arith)
+    (ap (λ (v : Element). v .value) (minus-product-is refl (c .before .of2 .ensures) (c .before .before .of .ensures) (c .minus-product .ensures))
+    ∙ ap (λ (x : ℕ). (x + (a .c .modulus - a .c .value) * getD (a .t4) (l .i - a .k) 0) % a .c .modulus) (l .inv .filled .left (l .i) (omega arith)))
 
 returns : tie.Need-returns Inv-loop μ-loop
 unfolding subtract
 returns c =
     let l = c .before .loop in
-    filled-end (l .inv .filled) (omega arith)
+    part-end (l .inv) (omega arith)
 
 pub subtract-spec : {M : Type 1} → statement M
 subtract-spec =
