@@ -2,13 +2,13 @@
 use mathlib.Core.Path.{_≡_, refl, sym, _∙_, ap, subst}
 use mathlib.Core.Bool.{Bool, true, false, not, true≢false}
 use mathlib.Core.List.{List, [], _++_}
-use Prim.Native.Nat.{ℕ, _+_, _-_, _≤_, _<_}
-use native.Mathlib.Decide.{decLt}
+use Prim.Native.Nat.{ℕ, _≤_}
 use native.Mathlib.Omega.{arith}
-use lib.ListN.{length, getD, take, drop, length-append, length-drop, List·getD-append}
-use lib.Seq.{length-take-le, ext-getD, getD-drop, getD-append-add}
+use lib.ListN.{length, getD, take, drop}
+use lib.Seq.{length-take-le}
 use borrow.Author.Tests.{not-true, not-false}
-use Rattle.field.specs.loops.Filled.{Filled}
+use Rattle.field.specs.loops.Filled.{cells, Filled}
+use Rattle.field.specs.loops.Cells.{cells-is, filled-first}
 use Rattle.field.specs.Prime.{Prime}
 use Rattle.field.specs.Numbers.{DOES_NOT_DIVIDE}
 use Rattle.poly.specs.Room.{work-room, written, cleared}
@@ -58,20 +58,9 @@ module _ {p : ℕ} {A B G work after : List ℕ} {first : Bool} (divided : Trial
 
 -- an output that is filled with the terms, and left from there on, has them written first
 pub filled-written : (new old : List ℕ) {r : List ℕ} {i : ℕ} → Filled (λ j. getD new j 0) (length old) old i r → i ≡ length new → r ≡ written new old
-filled-written new old {r} {i} f e = ext-getD 0 r (new ++ rest) sized (λ j l. go j (decLt j (length new)))
-  where
-    rest : List ℕ
-    rest = drop (length new) old
-
-    sized : length r ≡ length (new ++ rest)
-    sized = omega (arith, length-append new rest, length-drop (length new) old, f .within, f .long)
-
-    go : (j : ℕ) → Dec (j < length new) → getD r j 0 ≡ getD (new ++ rest) j 0
-    go j (yes l) = f .done j (omega arith) ∙ sym (List·getD-append new rest 0 j l)
-    go j (no l) =
-        let s : j ≡ length new + (j - length new) = omega arith in
-        f .left j (omega arith) ∙ ap (λ (k : ℕ). getD old k 0) s ∙ sym (getD-drop (length new) old (j - length new) 0)
-        ∙ sym (getD-append-add new rest (j - length new) 0) ∙ ap (λ (k : ℕ). getD (new ++ rest) k 0) (sym s)
+filled-written new old {r} {i} f e =
+    filled-first f refl ∙ ap (λ (n : ℕ). cells (λ j. getD new j 0) n ++ drop n old) e
+    ∙ ap (λ (l : List ℕ). l ++ drop (length new) old) (sym (cells-is _ (length new) new refl (λ j l. refl)))
 
 -- the only solution makes a divisor, which is divided into both lists
 module _ {p : ℕ} {A B ks values output work : List ℕ} (ready : VerdictReady p A B ks (only values) output work) {r : Divisor} (made : IsDivisor p ks values r)

@@ -1,12 +1,13 @@
 -- The check of the rooms settles its fault; the first n numbers of a list set to 0, one after the other, and what stands where then.
-use mathlib.Core.Path.{_≡_, sym, _∙_, ap}
-use mathlib.Core.List.{List, _++_}
-use Prim.Native.Nat.{ℕ, _+_, _-_, _≤_, _<_, min}
+use mathlib.Core.Path.{_≡_, refl, sym, _∙_, ap}
+use mathlib.Core.List.{List, _∷_, _++_}
+use Prim.Native.Nat.{ℕ, zero, suc, _+_, _-_, _≤_, _<_, min}
 use native.Mathlib.Omega.{arith}
-use borrow.Author.Fill.{fill-none, fill-more}
-use lib.ListN.{length, getD, set, drop, replicate, length-append, length-drop, length-replicate, getD-replicate, List·getD-append}
+use lib.ListN.{length, getD, drop, replicate, length-append, length-drop, length-replicate, getD-replicate, List·getD-append}
 use lib.Seq.{drop-at, drop-drop}
 use Rattle.field.specs.Refusal.{Tested}
+use Rattle.field.specs.loops.Filled.{cells, Filled}
+use Rattle.field.specs.loops.Cells.{filled-first}
 use Rattle.field.specs.faults.Laws.{whole-one-place, tested-determined}
 use Rattle.field.specs.declared.faults.Fault.{Fault}
 use Rattle.poly.specs.Room.{of-rooms, zeroed}
@@ -15,13 +16,15 @@ pub rooms-check-determined : (output needed work : ℕ) (f g : Fault) → Tested
 rooms-check-determined output needed work =
     tested-determined (of-rooms output needed work) (whole-one-place _, (whole-one-place _, tt))
 
-pub zeroed-none : (l : List ℕ) → l ≡ zeroed 0 l
-unfolding zeroed
-zeroed-none l = fill-none l 0
+cells-zero : (n : ℕ) → cells (λ i. 0) n ≡ replicate n 0
+unfolding cells
+cells-zero zero = refl
+cells-zero (suc n) = ap (λ l. 0 ∷ l) (cells-zero n)
 
-pub zeroed-more : (i : ℕ) (l : List ℕ) → i < length l → set (zeroed i l) i 0 ≡ zeroed (i + 1) l
+-- filled with 0 up to i
+pub filled-zeroed : {old l : List ℕ} {i : ℕ} → Filled (λ j. 0) (length old) old i l → l ≡ zeroed i old
 unfolding zeroed
-zeroed-more i l h = fill-more i 0 l h
+filled-zeroed {old} {l} {i} f = filled-first f refl ∙ ap (λ z. z ++ drop i old) (cells-zero i)
 
 -- where there are n numbers, all n are set
 pub zeroed-all : (n : ℕ) (l : List ℕ) {m : List ℕ} → n ≤ length l → m ≡ zeroed (min n (length l)) l → m ≡ zeroed n l
