@@ -16,6 +16,7 @@ use Rattle.field.specs.Prime.{Prime}
 use Rattle.field.specs.Fp.{Fp, el}
 use Rattle.field.specs.Modulo.{Modulo}
 use Rattle.field.specs.loops.Places.{replicate-all}
+use Rattle.field.specs.loops.Fold.{fold, down}
 use Rattle.divisor.specs.declared.table.Row.{Row}
 use Rattle.divisor.specs.declared.table.Table.{Table}
 use Rattle.divisor.specs.declared.table.Kind.{Kind}
@@ -86,7 +87,7 @@ solved-below p t ready k = go (kind t)
 
 -- and as many as a row has cells
 back-length : (p : ℕ) (t : Table) (j : ℕ) (v : List ℕ) → length (back j p t v) ≡ length v
-unfolding back
+unfolding fold down
 back-length p t zero v = refl
 back-length p t (suc j) v = back-length p t j _ ∙ length-set v j _
 

@@ -39,7 +39,7 @@ module _ (p : ℕ) (P : Prime p) where
   el-times x a = product-el p (x .val) a ∙ ap (λ y. mul y (el p a)) (el-val x)
 
   -- rows that are altered from column j on
-  module _ (e : Row) (j columns : ℕ) (size : length (e .cells) ≡ most-columns) (most : columns ≤ most-columns) where
+  module _ (e : Row) (j columns : ℕ) (most : columns ≤ most-columns) where
     pub minus-entries : (d : Row) → cell e j < p → (i n : ℕ) → j ≤ i → i + n ≤ columns
         → entries p (minus p e d j columns .cells) i n
         ≡ plus-times K (entries p (e .cells) i n) (neg (el p (cell e j))) (entries p (d .cells) i n)
@@ -47,7 +47,7 @@ module _ (p : ℕ) (P : Prime p) where
     minus-entries d b i zero h m = refl
     minus-entries d b i (suc n) h m =
         ap₂ _∷_
-        (ap (el p) (altered-at _ j (columns - j) (e .cells) i h (omega arith) (omega arith)) ∙ el-minus (cell e j) (cell e i) (cell d i) b)
+        (ap (el p) (altered-at j columns _ e i h (omega arith) (omega arith)) ∙ el-minus (cell e j) (cell e i) (cell d i) b)
         (minus-entries d b (suc i) n (omega arith) (omega arith))
 
     pub scaled-entries : (i n : ℕ) → j ≤ i → i + n ≤ columns
@@ -56,7 +56,7 @@ module _ (p : ℕ) (P : Prime p) where
     scaled-entries i zero h m = refl
     scaled-entries i (suc n) h m =
         ap₂ _∷_
-        (ap (el p) (altered-at _ j (columns - j) (e .cells) i h (omega arith) (omega arith)) ∙ el-times (inv (el p (cell e j))) (cell e i))
+        (ap (el p) (altered-at j columns _ e i h (omega arith) (omega arith)) ∙ el-times (inv (el p (cell e j))) (cell e i))
         (scaled-entries (suc i) n (omega arith) (omega arith))
 
     -- the cell on the diagonal, which becomes 1, is not 0
@@ -64,7 +64,7 @@ module _ (p : ℕ) (P : Prime p) where
     scaled-diagonal h b z q =
         K .one≢0
         (sym (K .mul-inv x (el-nonzero p (cell e j) b z)) ∙ K .ring .mul-comm x (inv x) ∙ sym (el-times (inv x) (cell e j))
-        ∙ ap (el p) (sym (altered-at _ j (columns - j) (e .cells) j (omega arith) (omega arith) (omega arith)) ∙ q))
+        ∙ ap (el p) (sym (altered-at j columns _ e j (omega arith) h (omega arith)) ∙ q))
       where
         x : Fp p
         x = el p (cell e j)

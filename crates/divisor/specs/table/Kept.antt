@@ -12,7 +12,7 @@ use Rattle.divisor.specs.declared.table.Row.{Row}
 use Rattle.divisor.specs.declared.table.Table.{Table}
 use Rattle.divisor.specs.table.Model.{most-columns, no-row, row-at, cell, diagonal, zeros, empty-table, minus, scaled-row, kept, insert}
 use Rattle.divisor.specs.table.Model.{with-row, Columns, RowReady, TableReady}
-use Rattle.divisor.specs.table.Rows.{minus-ready, scaled-below}
+use Rattle.divisor.specs.table.Rows.{minus-ready, scaled-ready}
 
 -- every cell of the empty table is 0
 pub empty-cell : (columns i k : ℕ) → cell (row-at (empty-table columns) i) k ≡ 0
@@ -35,7 +35,7 @@ kept-ready p t j e ready ok =
       columns = ready .columns;
       size = length-set (t .rows) j (scaled-row p e j (t .columns)) ∙ ready .size;
       below = λ i k.
-          set-all (λ r. cell r k < p) (t .rows) j i (scaled-row p e j (t .columns)) no-row (scaled-below p e j (t .columns) (ok .below) k)
+          set-all (λ r. cell r k < p) (t .rows) j i (scaled-row p e j (t .columns)) no-row (scaled-ready p e j (t .columns) ok .below k)
           (ready .below i k);
     }
 
@@ -61,7 +61,7 @@ insert-all p t Q R next here (suc n) j there e ok =
 module _ (p : ℕ) (t : Table) (e : Row) (ok : RowReady p e) where
   pub with-row-ready : TableReady p t → TableReady p (with-row p t e)
   with-row-ready ready =
-      insert-all p t (TableReady p) (RowReady p) (λ j f. minus-ready p f (row-at t j) j (t .columns)) ready (t .columns) 0
+      insert-all p t (TableReady p) (RowReady p) (λ j f ok. minus-ready p f j (t .columns) ok (row-at t j)) ready (t .columns) 0
       (λ j l f. kept-ready p t j f ready) e ok
 
   pub with-row-columns : with-row p t e .columns ≡ t .columns

@@ -1,4 +1,4 @@
--- The equation table in plain numbers, as the code goes through it, and what its functions ask for. TableMeaning says what it means.
+-- The equation table in plain numbers, as the code goes through it, and what its functions ask for. Meaning.antt says what it means.
 use mathlib.Core.Path.{_≡_}
 use mathlib.Core.Bool.{true, false}
 use mathlib.Core.List.{List, []}
@@ -7,6 +7,8 @@ use lib.Dec.{eqb}
 use lib.ListN.{length, getD, set, replicate}
 use Rattle.field.specs.Moduli.{Listed}
 use Rattle.field.specs.Fp.{el, inv}
+use Rattle.field.specs.loops.Filled.{cells, between}
+use Rattle.field.specs.loops.Fold.{fold, from, down}
 use Rattle.divisor.specs.declared.table.Row.{Row}
 use Rattle.divisor.specs.declared.table.Table.{Table}
 use Rattle.divisor.specs.declared.table.Kind.{Kind}
@@ -40,20 +42,17 @@ zeros = replicate most-columns 0
 abbrev pub empty-table : ℕ → Table
 empty-table columns = record { rows = replicate most-columns (record { cells = zeros }); columns = columns }
 
--- n places from i on, each with what g makes of the place and of what stood there
-unfoldable pub altered : (ℕ → ℕ → ℕ) → ℕ → ℕ → List ℕ → List ℕ
-altered g i zero l = l
-altered g i (suc n) l = altered g (suc i) n (set l i (g i (getD l i 0)))
+-- the row e with h in the columns from j up to n
+abbrev pub altered : ℕ → ℕ → (ℕ → ℕ) → Row → Row
+altered j n h e = record { cells = cells (between j n h (e .cells)) most-columns }
 
 -- the row e from column j on less so often the row d that cell j becomes 0
 abbrev pub minus : ℕ → Row → Row → ℕ → ℕ → Row
-minus p e d j columns =
-    record { cells = altered (λ k a. (a + (p - cell e j) * cell d k) % p) j (columns - j) (e .cells) }
+minus p e d j columns = altered j columns (λ k. (cell e k + (p - cell e j) * cell d k) % p) e
 
 -- the row e from column j on times the inverse of cell j
 abbrev pub scaled-row : ℕ → Row → ℕ → ℕ → Row
-scaled-row p e j columns =
-    record { cells = altered (λ k a. inv (el p (cell e j)) .val * a % p) j (columns - j) (e .cells) }
+scaled-row p e j columns = altered j columns (λ k. inv (el p (cell e j)) .val * cell e k % p) e
 
 -- the equation kept in column j
 abbrev pub kept : ℕ → Table → ℕ → Row → Table
@@ -86,18 +85,22 @@ unfoldable pub kind : Table → Kind
 kind t = elim (eqb (diagonal t (t .columns - 1)) 0) [ true ↦ kind-from (t .columns - 1) 0 t | false ↦ None ]
 
 -- a and the row e at the values from column k on, n of them
-unfoldable pub total : ℕ → ℕ → ℕ → Row → List ℕ → ℕ → ℕ
-total zero k p e values a = a
-total (suc n) k p e values a = total n (suc k) p e values ((a + cell e k * getD values k 0) % p)
+abbrev pub plus-column : ℕ → Row → List ℕ → ℕ → ℕ → ℕ
+plus-column p e values k a = (a + cell e k * getD values k 0) % p
+
+abbrev pub total : ℕ → ℕ → ℕ → Row → List ℕ → ℕ → ℕ
+total n k p e values a = fold (plus-column p e values) (from k n) a
 
 -- what the row e, kept in column j, leaves for the unknown of that column
 abbrev pub value : ℕ → Row → List ℕ → ℕ → ℕ → ℕ
 value p e values j last = (p - total (last - (j + 1)) (j + 1) p e values (cell e last)) % p
 
 -- the unknowns before j, the last one first
-unfoldable pub back : ℕ → ℕ → Table → List ℕ → List ℕ
-back zero p t values = values
-back (suc j) p t values = back j p t (set values j (value p (row-at t j) values j (t .columns - 1)))
+abbrev pub with-unknown : ℕ → Table → ℕ → List ℕ → List ℕ
+with-unknown p t j values = set values j (value p (row-at t j) values j (t .columns - 1))
+
+abbrev pub back : ℕ → ℕ → Table → List ℕ → List ℕ
+back j p t values = fold (with-unknown p t) (down j) values
 
 abbrev pub values : ℕ → Table → List ℕ
 values p t = back (t .columns - 1) p t zeros
@@ -135,6 +138,7 @@ pub record StepReady (p : ℕ) (t : Table) (e : Row) : Type 0 where
 -- what work on a row at a column asks for
 pub record Column (p : ℕ) (e : Row) (j columns : ℕ) : Type 0 where
   pub listed : Listed p
+  pub size : length (e .cells) ≡ most-columns
   pub below : cell e j < p
   pub nonzero : 0 < cell e j
   pub within : j < columns

@@ -67,7 +67,7 @@ module _ (p : ℕ) (P : Prime p) where
       kept-row = getD-set-same (t .rows) i (scaled-row p e i (t .columns)) no-row (omega (arith, ready .size))
 
       kept-diagonal : ¬ (cell e i ≡ 0) → ¬ (diagonal (kept p t i e) i ≡ 0)
-      kept-diagonal z q = scaled-diagonal p P e i (t .columns) (ok .size) most within (ok .below i) z (ap (λ r. cell r i) (sym kept-row) ∙ q)
+      kept-diagonal z q = scaled-diagonal p P e i (t .columns) most within (ok .below i) z (ap (λ r. cell r i) (sym kept-row) ∙ q)
 
       kept-behind : (n : ℕ) → columns-of p (kept p t i e) (suc i) n ≡ columns-of p t (suc i) n
       kept-behind n =
@@ -117,7 +117,7 @@ module _ (p : ℕ) (P : Prime p) where
             column-pivot p (kept p t i e) i n (kept-diagonal z)
             ∙ ap₂ pivot
             (ap (λ x. entries p (x .cells) (suc i) (suc n)) kept-row
-            ∙ scaled-entries p P e i (t .columns) (ok .size) most (suc i) (suc n) (omega arith) (omega arith))
+            ∙ scaled-entries p P e i (t .columns) most (suc i) (suc n) (omega arith) (omega arith))
             (kept-behind n)
             ∙ sym (ap (λ U. step K U (el p (cell e i) ∷ r)) (column-free p t i n y) ∙ free-step (cell e i) (ok .below i) z T r)
 
@@ -125,10 +125,10 @@ module _ (p : ℕ) (P : Prime p) where
         at-kept y =
             let f = minus p e (row-at t i) i (t .columns) in
             same-row p t (insert (suc n) (suc i) p t f) i n _ (insert-before (suc n) (suc i) p t f i (omega arith))
-            (later f (minus-ready p e (row-at t i) i (t .columns) ok))
+            (later f (minus-ready p e i (t .columns) ok (row-at t i)))
             ∙ ap (λ b. column b q (step K T (entries p (f .cells) (suc i) (suc n)))) (ne-eqb (diagonal t i) 0 y)
             ∙ ap (λ s. pivot q (step K T s))
-            (minus-entries p P e i (t .columns) (ok .size) most (row-at t i) (ok .below i) (suc i) (suc n) (omega arith) (omega arith))
+            (minus-entries p P e i (t .columns) most (row-at t i) (ok .below i) (suc i) (suc n) (omega arith) (omega arith))
             ∙ sym (ap (λ U. step K U (el p (cell e i) ∷ r)) (column-pivot p t i n y))
 
         column-step : Goal (insert (suc (suc n)) i p t e)

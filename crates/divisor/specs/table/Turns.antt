@@ -1,20 +1,17 @@
 -- The table's models one turn at a time, as the loops of the code move.
 use mathlib.Core.Path.{_≡_, refl, sym, ap, _∙_}
 use mathlib.Core.Bool.{Bool, true, false}
-use mathlib.Core.List.{List}
-use Prim.Native.Nat.{ℕ, zero, suc, _+_, _-_, _*_, _%_, _<_, _≤_}
+use Prim.Native.Nat.{ℕ, zero, suc, _+_, _-_, _<_, _≤_}
 use native.Mathlib.Numerals.{add-one}
 use native.Mathlib.Decide.{ℕ-discrete}
 use native.Mathlib.Omega.{arith}
 use lib.Dec.{eqb}
-use lib.ListN.{getD, set}
 use borrow.Author.Tests.{eq-eqb, ne-eqb}
 use Rattle.poly.specs.Search.{Searched}
 use Rattle.divisor.specs.declared.table.Row.{Row}
 use Rattle.divisor.specs.declared.table.Table.{Table}
 use Rattle.divisor.specs.declared.table.Kind.the-variants.{None, One, Several}
-use Rattle.divisor.specs.table.Model.{most-columns, row-at, cell, Entry, diagonal, altered, minus, kept, insert, with-row}
-use Rattle.divisor.specs.table.Model.{kind-from, kind, total, value, back}
+use Rattle.divisor.specs.table.Model.{most-columns, row-at, cell, Entry, diagonal, minus, kept, insert, with-row, kind-from, kind}
 
 -- what is left of n turns at turn i
 turns-left : (i n : ℕ) → i < n → n - i ≡ suc (n - (i + 1))
@@ -22,35 +19,6 @@ turns-left i n h = omega arith
 
 no-turns-left : (i n : ℕ) → n ≤ i → n - i ≡ 0
 no-turns-left i n h = omega arith
-
-module _ (g : ℕ → ℕ → ℕ) (i n : ℕ) (l : List ℕ) where
-  altered-turn : i < n → altered g i (n - i) l ≡ altered g (i + 1) (n - (i + 1)) (set l i (g i (getD l i 0)))
-  unfolding altered
-  altered-turn h =
-      ap (λ m. altered g i m l) (turns-left i n h) ∙ ap (λ k. altered g k (n - (i + 1)) (set l i (g i (getD l i 0)))) (sym (add-one i))
-
-  altered-end : n ≤ i → altered g i (n - i) l ≡ l
-  unfolding altered
-  altered-end h = ap (λ m. altered g i m l) (no-turns-left i n h)
-
--- a row of which the places from j up to n are altered one by one, at place i: altering what is left gives what altering all of them gave
-pub record Altering (g : ℕ → ℕ → ℕ) (j n : ℕ) (old : List ℕ) (i : ℕ) (l : List ℕ) : Type 0 where
-  pub within : i ≤ n
-  pub same : altered g i (n - i) l ≡ altered g j (n - j) old
-
-module _ {g : ℕ → ℕ → ℕ} {j n : ℕ} {old : List ℕ} where
-  pub altering-start : j ≤ n → Altering g j n old j old
-  altering-start h = record { within = h; same = refl }
-
-  module _ {i : ℕ} {l : List ℕ} (h : Altering g j n old i l) where
-    pub altering-next : i < n → {v : ℕ} → v ≡ g i (getD l i 0) → Altering g j n old (i + 1) (set l i v)
-    altering-next b e = record {
-      within = omega arith;
-      same = ap (λ (v : ℕ). altered g (i + 1) (n - (i + 1)) (set l i v)) e ∙ sym (altered-turn g i n l b) ∙ h .same;
-    }
-
-    pub altering-end : n ≤ i → l ≡ altered g j (n - j) old
-    altering-end b = sym (altered-end g i n l b) ∙ h .same
 
 -- a step at one column
 module _ (p : ℕ) (t : Table) (e : Row) (j n : ℕ) where
@@ -138,26 +106,3 @@ module _ (t : Table) where
     pub kind-one : last ≤ j → kind-from (last - j) j t ≡ One
     unfolding kind-from
     kind-one h = ap (λ n. kind-from n j t) (no-turns-left j last h)
-
-module _ (k last p : ℕ) (e : Row) (values : List ℕ) (a : ℕ) where
-  pub total-turn : k < last
-      → total (last - k) k p e values a
-      ≡ total (last - (k + 1)) (k + 1) p e values ((a + cell e k * getD values k 0) % p)
-  unfolding total
-  total-turn h =
-      ap (λ n. total n k p e values a) (turns-left k last h)
-      ∙ ap (λ i. total (last - (k + 1)) i p e values ((a + cell e k * getD values k 0) % p)) (sym (add-one k))
-
-  pub total-end : last ≤ k → total (last - k) k p e values a ≡ a
-  unfolding total
-  total-end h = ap (λ n. total n k p e values a) (no-turns-left k last h)
-
-module _ (p : ℕ) (t : Table) (values : List ℕ) where
-  pub back-turn : (j : ℕ) → 0 < j
-      → back j p t values ≡ back (j - 1) p t (set values (j - 1) (value p (row-at t (j - 1)) values (j - 1) (t .columns - 1)))
-  unfolding back
-  back-turn j h = let s : j ≡ suc (j - 1) = omega arith in ap (λ n. back n p t values) s
-
-  pub back-end : (j : ℕ) → j ≤ 0 → back j p t values ≡ values
-  unfolding back
-  back-end j h = let z : j ≡ 0 = omega arith in ap (λ n. back n p t values) z

@@ -5,15 +5,17 @@ use Rattle.field.specs.Contract.{element, product-of, Invertible, Inverse}
 use Rattle.field.specs.elements.Link.{inverse-val}
 use mathlib.Core.Path.{sym, ap, _∙_, subst}
 use Prim.Native.Nat.{_-_, _*_, _%_}
-use Rattle.divisor.specs.table.Model.{cell, altered}
-use Rattle.divisor.specs.table.Turns.{Altering, altering-start, altering-next, altering-end}
+use native.Mathlib.Omega.{arith}
+use lib.ListN.{getD}
+use Rattle.field.specs.loops.Cells.{FilledPart, part-start, part-next, part-end}
+use Rattle.divisor.specs.table.Model.{most-columns, cell, altered}
 use borrow.Author.Needs.{needs}
 use Rattle.divisor.proofs.table.scaled.Statement.{statement}
 use Rattle.divisor.proofs.table.scaled.Tie as tie
 
 abbrev Inv-loop : tie.InvT-loop
 Inv-loop j columns p r₀ inverse i₀ r i =
-    Altering (λ k a. inverse .value * a % p) j columns (r₀ .cells) i (r .cells)
+    FilledPart j columns (λ k. inverse .value * getD (r₀ .cells) k 0 % p) most-columns (r₀ .cells) i (r .cells)
 
 abbrev μ-loop : tie.MeasureT-loop
 μ-loop j columns p r₀ inverse i₀ r i = columns - i
@@ -27,7 +29,7 @@ inverse-requires : tie.Need-inverse-requires Inv-loop μ-loop
 inverse-requires c κs = subst Invertible (sym (c .of .ensures)) (search needs)
 
 loop-holds : tie.Need-loop-holds Inv-loop μ-loop
-loop-holds c = altering-start (search needs)
+loop-holds c = let pre = c .before .before .before .pre in part-start (omega (arith, pre .within, pre .most)) (pre .size)
 
 loop-again : tie.Need-loop-again Inv-loop μ-loop
 loop-again c =
@@ -36,7 +38,9 @@ loop-again c =
     let inverse = loop .before in
     let made = c .product .ensures ∙ ap (product-of (inverse .inverse .result)) (cell-made .of2 .ensures)
     ∙ ap (λ m. element m (inverse .inverse .result .value * cell (loop .loop .r) (loop .loop .i) % m)) (is-inverse inverse .same) in
-    altering-next (loop .loop .inv) (cell-made .before .before .loop-test .taken) (ap (λ e. e .value) made)
+    let a = inverse .before .before .before .args in
+    part-next (loop .loop .inv) (cell-made .before .before .loop-test .taken) (inverse .before .before .before .pre .most)
+    (ap (λ e. e .value) made ∙ ap (λ x. inverse .inverse .result .value * x % a .p) (loop .loop .inv .filled .left (loop .loop .i) (omega arith)))
 
 returns : tie.Need-returns Inv-loop μ-loop
 returns c =
@@ -44,8 +48,8 @@ returns c =
     let start = loop .before .before .before .before in
     let a = start .args in
     let is = inverse-val _ _ (listed-prime (start .pre .listed)) (is-inverse (loop .before)) in
-    ap (λ x. record { cells = x }) (altering-end (loop .loop .inv) (c .loop-test .left))
-    ∙ ap (λ f. record { cells = altered (λ k x. f * x % a .p) (a .j) (a .columns - a .j) (a .row .cells) }) is
+    ap (λ x. record { cells = x }) (part-end (loop .loop .inv) (c .loop-test .left))
+    ∙ ap (λ f. altered (a .j) (a .columns) (λ k. f * cell (a .row) k % a .p) (a .row)) is
 
 pub scaled-spec : {M : Type 1} → statement M
 scaled-spec =

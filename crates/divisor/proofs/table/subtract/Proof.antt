@@ -1,19 +1,18 @@
--- `divisor::table::subtract` meets its contract. The loop's invariant: altering the row as it is from column i on gives what altering the row that came
--- gives from column j on. The measure is the number of columns left.
+-- `divisor::table::subtract` meets its contract. The loop's invariant: the row is filled from column j up to i. The measure is the number of columns left.
 use lib.ListN.{getD}
 use mathlib.Core.Path.{ap, _∙_}
 use Prim.Native.Nat.{_+_, _-_, _*_, _%_}
 use native.Mathlib.Omega.{arith}
 use Rattle.field.specs.Contract.{minus-product-of}
-use Rattle.divisor.specs.table.Model.{cell}
-use Rattle.divisor.specs.table.Turns.{Altering, altering-start, altering-next, altering-end}
+use Rattle.field.specs.loops.Cells.{FilledPart, part-start, part-next, part-end}
+use Rattle.divisor.specs.table.Model.{most-columns, cell}
 use borrow.Author.Needs.{needs}
 use Rattle.divisor.proofs.table.subtract.Statement.{statement}
 use Rattle.divisor.proofs.table.subtract.Tie as tie
 
 abbrev Inv-loop : tie.InvT-loop
 Inv-loop row₀ j columns p pivot factor i₀ row i =
-    Altering (λ k a. (a + (p - getD row₀ j 0) * cell pivot k) % p) j columns row₀ i row
+    FilledPart j columns (λ k. (getD row₀ k 0 + (p - getD row₀ j 0) * cell pivot k) % p) most-columns row₀ i row
 
 abbrev μ-loop : tie.MeasureT-loop
 μ-loop row₀ j columns p pivot factor i₀ row i = columns - i
@@ -28,7 +27,7 @@ minus-product-requires c κs =
     }
 
 loop-holds : tie.Need-loop-holds Inv-loop μ-loop
-loop-holds c = altering-start (search needs)
+loop-holds c = let pre = c .before .before .pre in part-start (omega (arith, pre .within, pre .most)) (pre .size)
 
 loop-again : tie.Need-loop-again Inv-loop μ-loop
 loop-again c =
@@ -36,11 +35,16 @@ loop-again c =
     let loop = cell-made .before .before .before in
     let made = c .minus-product .ensures
     ∙ (λ n. minus-product-of (cell-made .of2 .ensures n) (loop .before .of .ensures n) (c .before .of3 .ensures n)) in
-    altering-next (loop .loop .inv) (cell-made .before .before .loop-test .taken) (ap (λ e. e .value) made)
+    let start = loop .before .before .before in
+    let a = start .args in
+    let i = loop .loop .i in
+    part-next (loop .loop .inv) (cell-made .before .before .loop-test .taken) (start .pre .most)
+    (ap (λ e. e .value) made
+    ∙ ap (λ x. (x + (a .p - getD (a .row .now) (a .j) 0) * cell (a .t2) i) % a .p) (loop .loop .inv .filled .left i (omega arith)))
 
 returns : tie.Need-returns Inv-loop μ-loop
 returns c =
-    ap (λ x. record { cells = x }) (altering-end (c .before .loop .inv) (c .loop-test .left))
+    ap (λ x. record { cells = x }) (part-end (c .before .loop .inv) (c .loop-test .left))
 
 pub subtract-spec : {M : Type 1} → statement M
 subtract-spec =

@@ -6,8 +6,8 @@ use Prim.Native.Nat.{ℕ, _-_, _≤_}
 use native.Mathlib.Omega.{arith}
 use lib.ListN.{set}
 use Rattle.divisor.specs.declared.table.Table.{Table}
-use Rattle.divisor.specs.table.Model.{zeros, back}
-use Rattle.divisor.specs.table.Turns.{back-turn, back-end}
+use Rattle.field.specs.loops.Fold.{fold-turn, fold-end, down-turn, down-end}
+use Rattle.divisor.specs.table.Model.{zeros, with-unknown, back}
 use borrow.Author.Needs.{needs}
 use Rattle.divisor.proofs.table.values_of.Statement.{statement}
 use Rattle.divisor.proofs.table.values_of.Tie as tie
@@ -42,14 +42,14 @@ loop-again c =
       within = search needs;
       same =
           ap (λ e. back (at .loop .j - 1) (a .p) (a .t1) (set (at .loop .values) (at .loop .j - 1) (e .value))) (c .value-at .ensures)
-          ∙ sym (back-turn (a .p) (a .t1) (at .loop .values) (at .loop .j) (c .before .before .loop-test .taken)) ∙ at .loop .inv .same;
+          ∙ sym (fold-turn (with-unknown (a .p) (a .t1)) (at .loop .values) (down-turn (at .loop .j) (c .before .before .loop-test .taken))) ∙ at .loop .inv .same;
     }
 
 returns : tie.Need-returns Inv-loop μ-loop
 returns c =
     let at = c .before in
     let a = at .before .args in
-    sym (back-end (a .p) (a .t1) (at .loop .values) (at .loop .j) (c .loop-test .left)) ∙ at .loop .inv .same
+    sym (fold-end (with-unknown (a .p) (a .t1)) (at .loop .values) (down-end (at .loop .j) (c .loop-test .left))) ∙ at .loop .inv .same
 
 pub values-of-spec : {M : Type 1} → statement M
 values-of-spec =

@@ -1,4 +1,4 @@
--- `divisor::table::with_equation` meets its contract. The loop's invariant: the table is as it was, the row's cells are below p, and what the columns
+-- `divisor::table::with_equation` meets its contract. The loop's invariant: the table is as it was, the row is an equation's, and what the columns
 -- from j on make of the row is what all columns make of the equation. The measure is the number of columns left.
 use mathlib.Core.Path.{_≡_, refl, sym, ap, _∙_, subst}
 use mathlib.Core.Logic.{⊎-elim}
@@ -8,16 +8,16 @@ use native.Mathlib.Omega.{arith}
 use lib.ListN.{set}
 use Rattle.divisor.specs.declared.table.Row.{Row}
 use Rattle.divisor.specs.declared.table.Table.{Table}
-use Rattle.divisor.specs.table.Model.{cell, row-at, diagonal, insert, with-row, minus, scaled-row, Column}
+use Rattle.divisor.specs.table.Model.{cell, row-at, diagonal, insert, with-row, minus, scaled-row, RowReady, Column}
 use Rattle.divisor.specs.table.Turns.{insert-skip, insert-kept, insert-minus, insert-end}
-use Rattle.divisor.specs.table.Rows.{minus-below}
+use Rattle.divisor.specs.table.Rows.{minus-ready}
 use borrow.Author.Needs.{needs}
 use Rattle.divisor.proofs.table.with_equation.Statement.{statement}
 use Rattle.divisor.proofs.table.with_equation.Tie as tie
 
 record Reached (p : ℕ) (t : Table) (e : Row) (s : Table) (row : Row) (j : ℕ) : Type 0 where
   within : j ≤ t .columns
-  below : (k : ℕ) → cell row k < p
+  ready : RowReady p row
   comes-to : insert (t .columns - j) j p t row ≡ with-row p t e
   same : s ≡ t
 
@@ -34,7 +34,8 @@ column c =
     let at = c .before .before .before in
     record {
       listed = at .before .pre .table .listed;
-      below = at .loop .inv .below (at .loop .j);
+      size = at .loop .inv .ready .size;
+      below = at .loop .inv .ready .below (at .loop .j);
       nonzero = omega (arith, c .if1 .taken);
       within = c .before .before .loop-test .taken;
       most = at .before .pre .table .columns .most;
@@ -45,7 +46,7 @@ loop-holds c =
     let a = c .args in
     record {
       within = omega arith;
-      below = c .pre .row .below;
+      ready = c .pre .row;
       comes-to = ap (λ n. insert n 0 (a .p) (a .t) (a .e)) (sub-zero (a .t .columns));
       same = refl;
     }
@@ -82,7 +83,7 @@ loop-again c =
     w .6 ∙ w .5 .ensures ∙ ap (λ (t : Table). minus (a .p) (l .row) (row-at t (l .j)) (l .j) (a .t .columns)) (l .inv .same) in
     record {
       within = omega arith;
-      below = λ k. rw is (minus-below (a .p) (l .row) (l .j) (a .t .columns) (l .inv .below) (row-at (a .t) (l .j)) k);
+      ready = rw is (minus-ready (a .p) (l .row) (l .j) (a .t .columns) (l .inv .ready) (row-at (a .t) (l .j)));
       comes-to =
           ap (λ x. insert left (l .j + 1) (a .p) (a .t) x) is
           ∙ sym (insert-minus (a .p) (a .t) (l .row) (l .j) test (w .0 .taken) (λ z. w .3 .left (ap (λ (t : Table). diagonal t (l .j)) (l .inv .same) ∙ z)))
@@ -91,7 +92,7 @@ loop-again c =
     })
     (λ w. record {
       within = omega arith;
-      below = λ k. rw (w .1) (l .inv .below k);
+      ready = rw (w .1) (l .inv .ready);
       comes-to =
           ap (λ x. insert left (l .j + 1) (a .p) (a .t) x) (w .1) ∙ sym (insert-skip (a .p) (a .t) (l .row) (l .j) test (w .0 .left)) ∙ l .inv .comes-to;
       same = l .inv .same;
