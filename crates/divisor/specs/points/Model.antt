@@ -1,11 +1,11 @@
 -- The images of all points, in the work room, and those that are kept: in plain numbers, point after point.
 use mathlib.Core.Path.{_≡_}
-use mathlib.Core.Logic.{_⊎_}
 use mathlib.Core.Bool.{true, false}
 use mathlib.Core.List.{List, [], _∷_, _++_, map}
 use Prim.Native.Nat.{ℕ, zero, suc, _+_, _-_, _*_, _/_, _≤_, _<_}
 use lib.Dec.{eqb}
-use lib.ListN.{length, getD, take, drop}
+use lib.ListN.{length, getD, take, drop, replicate}
+use Rattle.field.specs.loops.Filled.{cells, Filled, between}
 use Rattle.field.specs.Moduli.{Listed}
 use Rattle.field.specs.Prime.{Prime}
 use Rattle.field.specs.Modulo.{Modulo}
@@ -44,8 +44,7 @@ pub record LookReady (p : ℕ) (A B points work : List ℕ) : Type 0 where
 
 -- the sizes and the images of the points before n
 pub record Looks (n p : ℕ) (A B points before after sizes : List ℕ) : Type 0 where
-  pub count : length sizes ≡ most-points
-  pub sized : (i : ℕ) → i < n → getD sizes i 0 ≡ look-at p A B points i .size
+  pub sized : Filled (λ i. look-at p A B points i .size) most-points (replicate most-points 0) n sizes
   pub same-length : length after ≡ length before
   pub images : (i : ℕ) → i < n → image-at after i ≡ look-at p A B points i .coefficients
   pub beyond : drop work-room after ≡ drop work-room before
@@ -93,8 +92,6 @@ pub record StoreReady (at : ℕ) (work : List ℕ) : Type 0 where
   pub within : at + 8 ≤ 8 * most-points
   pub room : work-room ≤ length work
 
--- the first n of the numbers are stored from the place on, and nothing else has changed
-pub record Stored (n : ℕ) (numbers : List ℕ) (at : ℕ) (before after : List ℕ) : Type 0 where
-  pub same-length : length after ≡ length before
-  pub stored : (j : ℕ) → j < n → getD after (at + j) 0 ≡ getD numbers j 0
-  pub others : (k : ℕ) → (k < at) ⊎ (at + n ≤ k) → getD after k 0 ≡ getD before k 0
+-- eight numbers in the work room from a place on
+abbrev pub placed : List ℕ → ℕ → List ℕ → List ℕ
+placed numbers at work = cells (between at (at + 8) (λ k. getD numbers (k - at) 0) work) (length work)

@@ -78,8 +78,8 @@ module _ {p N : ℕ} {A B points before after sizes : List ℕ} (few : N ≤ mos
   sizes-from : (i n : ℕ) → i + n ≡ N → take n (drop i sizes) ≡ sizes-of (looks-from p A B points i n)
   sizes-from i zero e = refl
   sizes-from i (suc n) e =
-      let c = looks .count in
-      ap (take (suc n)) (drop-cons sizes i 0 (omega arith)) ∙ ap₂ _∷_ (looks .sized i (omega arith)) (sizes-from (suc i) n (omega arith))
+      let c = looks .sized .long in
+      ap (take (suc n)) (drop-cons sizes i 0 (omega arith)) ∙ ap₂ _∷_ (looks .sized .done i (omega arith)) (sizes-from (suc i) n (omega arith))
 
   pub sizes-seen : take N sizes ≡ sizes-of (looks-from p A B points 0 N)
   sizes-seen = sizes-from 0 N (omega arith)
@@ -102,7 +102,7 @@ module _ {p N : ℕ} {A B points before after sizes : List ℕ} (few : N ≤ mos
     one-more i n e =
         ap (λ (l : List (Point (Modulo p P .ring))). so-far i ++ kept-of P m l (looks-from p A B points i (suc n)))
         (points-next P points i n (omega arith))
-        ∙ ap (λ (s : ℕ). so-far i ++ by (eqb s m) (look-at p A B points i .coefficients)) (sym (looks .sized i (omega arith)))
+        ∙ ap (λ (s : ℕ). so-far i ++ by (eqb s m) (look-at p A B points i .coefficients)) (sym (looks .sized .done i (omega arith)))
         ∙ ap (λ (l : List ℕ). so-far i ++ by (eqb (getD sizes i 0) m) l) (sym (looks .images i (omega arith)))
         ∙ go (eqb (getD sizes i 0) m)
       where

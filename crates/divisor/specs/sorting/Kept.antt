@@ -49,7 +49,7 @@ pub record KeptPoints (c : Call) (listed : Listed (c .modulus)) (after sizes : L
 module _ (c : Call) (pass : Passes (table c)) (after sizes : List ℕ)
     (look : Looks (point-count c) (c .modulus) (c .first-list) (c .second-list) (c .points) (c .work) after sizes) where
   pub within : Within most-points (point-count c) sizes
-  within = record { within = let e = look .count in let f = few-points c pass in omega arith; few = few-points c pass }
+  within = record { within = let e = look .sized .long in let f = few-points c pass in omega arith; few = few-points c pass }
 
   pub room-after : work-room ≤ length after
   room-after = let e = look .same-length in let w = work-fits c pass in omega arith
@@ -101,7 +101,7 @@ module _ {c : Call} {after sizes : List ℕ} {m count : ℕ} (good : SomeGood c 
     small = keys-small c pass;
     threes = right-points c pass .threes;
     few = right-points c pass .few;
-    count = good .look .count;
+    count = good .look .sized .long;
     room = room-after c pass after sizes (good .look);
     images = λ i l. subst (Eight p) (sym (good .look .images i l)) (look-eight (look-ready c pass) i);
     some = some-kept;

@@ -70,8 +70,9 @@ loop-again c =
     record {
       within = omega arith;
       looks =
-          looks-next (omega (arith, s .pre .few)) (s .pre .room) (l .loop .inv .looks) e
-          (ap (λ (r : PointImage). length (r .coefficients)) e ∙ look-eight (s .pre) (l .loop .i) .eight) (stored .store .ensures);
+          rw (stored .store .ensures)
+          (looks-next (omega (arith, s .pre .few)) (s .pre .room) (l .loop .inv .looks) e
+          (ap (λ (r : PointImage). length (r .coefficients)) e ∙ look-eight (s .pre) (l .loop .i) .eight));
     }
 
 same-length : tie.Need-same-length Inv-loop μ-loop

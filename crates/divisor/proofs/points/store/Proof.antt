@@ -1,44 +1,45 @@
--- `divisor::points::store` meets its contract. The invariant: the numbers passed are stored, and nothing else has changed.
+-- `divisor::points::store` meets its contract. The invariant: the work room is filled with the numbers from the place up to where the loop is.
 use borrow.Author.Needs.{needs}
-use mathlib.Core.Path.{_≡_, subst}
+use mathlib.Core.Path.{_≡_, refl, subst}
 use mathlib.Core.List.{List}
-use Prim.Native.Nat.{ℕ, _-_, _≤_}
+use Prim.Native.Nat.{ℕ, _+_, _-_}
 use native.Mathlib.Omega.{arith}
-use Rattle.divisor.specs.points.Model.{Stored}
-use Rattle.divisor.specs.points.Stores.{stored-start, stored-next}
+use lib.ListN.{length, getD}
+use Rattle.field.specs.loops.Cells.{FilledPart, part-start, part-next, part-end}
 use Rattle.divisor.proofs.points.store.Statement.{statement}
 use Rattle.divisor.proofs.points.store.Tie as tie
 
--- what the loop keeps
-record Storing (at : ℕ) (work₀ coefficients work : List ℕ) (j : ℕ) : Type 0 where
-  within : j ≤ 8
-  stored : Stored j coefficients at work₀ work
+-- filled up to the place k
+abbrev Storing : ℕ → List ℕ → List ℕ → List ℕ → ℕ → Type 0
+Storing at work₀ coefficients work k = FilledPart at (at + 8) (λ k. getD coefficients (k - at) 0) (length work₀) work₀ k work
 
 abbrev Inv-loop : tie.InvT-loop
-Inv-loop at work₀ coefficients j₀ work j = Storing at work₀ coefficients work j
+Inv-loop at work₀ coefficients j₀ work j = Storing at work₀ coefficients work (at + j)
 
 abbrev μ-loop : tie.MeasureT-loop
 μ-loop at work₀ coefficients j₀ work j = 8 - j
 
 loop-holds : tie.Need-loop-holds Inv-loop μ-loop
-loop-holds c = record { within = omega arith; stored = stored-start }
+loop-holds c =
+    let a = c .args in
+    let e : a .at ≡ a .at + 0 = omega arith in
+    subst (Storing (a .at) (a .work .now) (a .t1) (a .work .now)) e (part-start (omega (arith, c .pre .within, c .pre .room)) refl)
 
 loop-again : tie.Need-loop-again Inv-loop μ-loop
 loop-again c =
     let s = c .before .before in
+    let a = s .args in
     let l = c .before .loop in
-    let stored = l .inv .stored in
-    record { within = omega arith; stored = stored-next (omega (arith, stored .same-length, s .pre .within, s .pre .room)) stored }
+    let e : a .at + l .j + 1 ≡ a .at + (l .j + 1) = omega arith in
+    let k : l .j ≡ a .at + l .j - a .at = omega arith in
+    subst (Storing (a .at) (a .work .now) (a .t1) _) e
+    (part-next (l .inv) (omega arith) (omega (arith, s .pre .within, s .pre .room)) (λ i. getD (a .t1) (k i) 0))
 
 same-length : tie.Need-same-length Inv-loop μ-loop
 same-length c = search needs
 
 returns : tie.Need-returns Inv-loop μ-loop
-returns c =
-    let s = c .before .before in
-    let l = c .before .loop in
-    let e : l .j ≡ 8 = omega arith in
-    subst (λ (n : ℕ). Stored n (s .args .t1) (s .args .at) (s .args .work .now) (l .work)) e (l .inv .stored)
+returns c = part-end (c .before .loop .inv) (omega arith)
 
 pub store-spec : {M : Type 1} → statement M
 store-spec =
