@@ -157,13 +157,14 @@ cast-t14 c = omega (arith, c .size .ensures, size-le 8 (c .before .gcd .result))
 returns-2 : tie.Need-returns-2
 unfolding image-of
 returns-2 c =
-    let at-x = c .before .before .before .before in
+    let good = c .before .before .before in
+    let at-x = good .before in
     let k = tables at-x in
     let u = c .before .gcd .ensures in
     answers at-x
     ((λ i. record { size = (c .size .ensures ∙ ap size u) i; coefficients = u i })
     ∙ (λ i. sized (gcd (p k) (first-value at-x i) (worked k (B at-x) (c .before .before .value2 .ensures) i)))
-    ∙ sym (values-good _ _ _ _ (λ z. c .before .before .before .if1 .left (lead at-x ∙ z))))
+    ∙ sym (values-good _ _ _ _ (λ z. good .if1 .left (lead at-x ∙ z))))
 
 pub image-at-spec : {M : Type 1} → statement M
 image-at-spec =
