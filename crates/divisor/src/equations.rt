@@ -62,9 +62,9 @@ fn point_equations(
     requires { ⌜ PointReady p t (now skeleton) (now point) (now image) column ⌝ }
     ensures { λ r. ⌜ Equations-to 8 p t (now (skeleton .entry)) (now (point .entry)) (now (image .entry)) column r ⌝ }
 {
-    let ys = poly::value::powers(p, point[0]);
-    let zs = poly::value::powers(p, point[1]);
-    let ws = poly::value::powers(p, point[2]);
+    let ys = poly::value::powers(Element::of(p, point[0]));
+    let zs = poly::value::powers(Element::of(p, point[1]));
+    let ws = poly::value::powers(Element::of(p, point[2]));
     let mut s = t;
     let mut i: usize = 0;
     while i < POWERS {

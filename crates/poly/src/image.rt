@@ -33,9 +33,9 @@ pub fn image_at(p: Residue, first: &[Term], second: &[Term], point: &[Residue]) 
     requires { ⌜ Fine p (now first) (now second) (now point) ⌝ }
     ensures { λ r. ⌜ AnswersPoint p (now (first .entry)) (now (second .entry)) (now (point .entry)) r ⌝ }
 {
-    let ys = value::powers(p, point[0]);
-    let zs = value::powers(p, point[1]);
-    let ws = value::powers(p, point[2]);
+    let ys = value::powers(Element::of(p, point[0]));
+    let zs = value::powers(Element::of(p, point[1]));
+    let ws = value::powers(Element::of(p, point[2]));
     let a = value::value(p, ys, zs, ws, first);
     let x = Key::of(first[0]).x() as usize;
     if a[x] == 0 {

@@ -11,14 +11,14 @@ use field::Residue;
 use field::Term;
 
 // The powers 0 to 7 of a number: for the value below, and for the equations of the layer above.
-pub fn powers(p: Residue, y: Residue) -> Eight
-    requires { ⌜ 0 < p ⌝ }
-    ensures { λ r. ⌜ Powers p y r ⌝ }
+pub fn powers(y: Element) -> Eight
+    requires { ⌜ 0 < y .modulus ⌝ }
+    ensures { λ r. ⌜ Powers (y .modulus) (y .value) r ⌝ }
 {
     let mut r: Eight = [Element::ONE; POWERS];
     let mut i: usize = 1;
     while i < POWERS {
-        r[i] = Element::of(p, r[i - 1]).product(Element::of(p, y)).value;
+        r[i] = Element::of(y.modulus, r[i - 1]).product(y).value;
         i += 1;
     }
     r

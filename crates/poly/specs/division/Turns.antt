@@ -2,38 +2,40 @@
 use mathlib.Core.Path.{_≡_, refl, sym, _∙_, ap, ap₂}
 use mathlib.Core.List.{List, [], _∷_, _++_, append-nil, append-assoc}
 use Prim.Native.Nat.{ℕ, suc, _+_, _-_, _*_, _%_, _≤_, _<_, max}
+use native.Mathlib.Nat.{max-zero, zero-max}
 use native.Mathlib.Numerals.{add-one}
 use native.Mathlib.Omega.{arith}
-use lib.ListN.{length, getD, set, take, drop, drop-of-length-le, take-append-drop}
-use lib.Seq.{drop-cons, take-suc-set, drop-set-lt, drop-drop, length-take-le}
-use Rattle.algebra.specs.GreatestExponent.{Variable, exponent}
+use lib.ListN.{length, getD, set, take, drop, take-append-drop}
+use lib.Seq.{take-suc-set, drop-set-lt, drop-drop, length-take-le}
+use Rattle.algebra.specs.Four.{Exponents}
+use Rattle.field.specs.loops.Fold.{fold}
 use Rattle.poly.specs.Keys.{exponents}
 use Rattle.poly.specs.Terms.{key-of, coefficient-of, keyed}
 use Rattle.poly.specs.Room.{written}
 use Rattle.poly.specs.division.Spread.{gather-passed, gather-taken}
 use Rattle.poly.specs.division.SpreadModel.{gathered}
-use Rattle.poly.specs.division.Model.{most, less-term}
+use Rattle.poly.specs.division.Model.{most-of, less-term}
 
--- the greatest exponents: m so far
-module _ (v : Variable) (ts : List ℕ) (i m : ℕ) (e : max m (most v (drop i ts)) ≡ most v ts) where
-  pub most-turn : {k n o : ℕ} → i < length ts → k ≡ key-of (getD ts i 0) → n ≡ exponent v (exponents k) → o ≡ max m n
-      → max o (most v (drop (i + 1) ts)) ≡ most v ts
-  most-turn {k} {n} {o} h ek en eo =
-      let n-is : n ≡ exponent v (exponents (key-of (getD ts i 0))) = en ∙ ap (λ (j : ℕ). exponent v (exponents j)) ek in
-      let here : most v (drop i ts) ≡ max (exponent v (exponents (key-of (getD ts i 0)))) (most v (drop (suc i) ts)) = ap (most v) (drop-cons ts i 0 h) in
-      let next : most v (drop (i + 1) ts) ≡ most v (drop (suc i) ts) = ap (λ (j : ℕ). most v (drop j ts)) (add-one i) in
-      larger n-is here next eo e
-    where
-      larger : {n e a b c o s : ℕ} → n ≡ e → a ≡ max e b → c ≡ b → o ≡ max m n → max m a ≡ s → max o c ≡ s
-      larger p q r t u = omega arith
+-- the greatest exponents: each term raises those so far
+abbrev joined : Exponents → Exponents → Exponents
+joined a b = record { x = max (a .x) (b .x); y = max (a .y) (b .y); z = max (a .z) (b .z); w = max (a .w) (b .w) }
 
-  pub most-end : length ts ≤ i → m ≡ most v ts
-  most-end h =
-      let none : most v (drop i ts) ≡ 0 = ap (most v) (drop-of-length-le ts h) in
-      alone none e
-    where
-      alone : {a s : ℕ} → a ≡ 0 → max m a ≡ s → m ≡ s
-      alone p q = omega arith
+abbrev pub raised : ℕ → Exponents → Exponents
+raised t e = joined e (exponents (key-of t))
+
+max-assoc : (a b c : ℕ) → max (max a b) c ≡ max a (max b c)
+max-assoc a b c = omega arith
+
+joined-assoc : (a b c : Exponents) → joined (joined a b) c ≡ joined a (joined b c)
+joined-assoc a b c = simp max-assoc
+
+raised-from : (ts : List ℕ) (e : Exponents) → fold raised ts e ≡ joined e (most-of ts)
+unfolding fold
+raised-from [] e = simp max-zero
+raised-from (t ∷ ts) e = raised-from ts (raised t e) ∙ joined-assoc e (exponents (key-of t)) (most-of ts)
+
+pub raised-most : (ts : List ℕ) → fold raised ts (exponents 0) ≡ most-of ts
+raised-most ts = raised-from ts (exponents 0) ∙ simp zero-max
 
 -- the subtraction of a product: the key k, the coefficient c, the cell's new value v
 pub less-is : (p s q : ℕ) (l : List ℕ) (t : ℕ) {k c v : ℕ} → k ≡ key-of t → c ≡ coefficient-of t → v ≡ (getD l (k + s) 0 + (p - q) * c) % p

@@ -1,11 +1,13 @@
 -- The table of powers holds the powers, below p, and nothing else does; how it goes on from one power to the next.
-use mathlib.Core.Path.{_≡_, refl, sym, ap, _∙_}
+use mathlib.Core.Path.{_≡_, refl, sym, ap, _∙_, subst}
 use mathlib.Core.List.{List}
 use Prim.Native.Nat.{ℕ, zero, suc, _-_, _*_, _^_, _%_, _≤_, _<_}
 use native.Mathlib.Nat.{mod-lt, mod-mod, pow-zero, pow-suc}
 use native.Mathlib.Omega.{arith}
 use lib.ListN.{getD}
 use Rattle.algebra.specs.Ring.{pow}
+use Rattle.field.specs.declared.elements.Element.{Element}
+use Rattle.field.specs.Contract.{element}
 use Rattle.field.specs.Fp.{Fp, el, mul}
 use Rattle.field.specs.elements.Fp.{el-mod, el-mul}
 use Rattle.field.specs.elements.Remainder.{mod-mul-mod}
@@ -65,6 +67,9 @@ powers-model p y r h = cells-is (power p y) 8 r (h .eight) at
     at : (i : ℕ) → i < 8 → getD r i 0 ≡ power p y i
     at zero l = h .first
     at (suc i) l = h .others (suc i) (omega arith) l ∙ sym (power-is p y (suc i) (omega arith))
+
+pub powers-of : {p y : ℕ} {e : Element} {r : List ℕ} → e ≡ element p y → Powers (e .modulus) (e .value) r → r ≡ powers p y
+powers-of {p} {y} {e} {r} q h = powers-model p y r (subst (λ (e : Element). Powers (e .modulus) (e .value) r) q h)
 
 pub powers-determined : (p y : ℕ) (r q : List ℕ) → Powers p y r → Powers p y q → r ≡ q
 powers-determined p y r q h k = powers-model p y r h ∙ sym (powers-model p y q k)

@@ -7,11 +7,12 @@ use Prim.Native.Nat.{ℕ, _-_, _%_, _<_, _≤_}
 use native.Mathlib.Omega.{arith}
 use native.Mathlib.Nat.{mod-lt, zero-add}
 use lib.ListN.{getD}
+use Rattle.field.specs.elements.Plain.{has-modulus}
 use Rattle.field.specs.modulus.Laws.{listed-above, listed-positive}
 use Rattle.field.specs.Contract.{element, difference-of}
 use Rattle.poly.specs.Coefficients.{Eight}
 use Rattle.poly.specs.value.PowersModel.{powers}
-use Rattle.poly.specs.value.PowersLaws.{powers-eight, powers-model}
+use Rattle.poly.specs.value.PowersLaws.{powers-eight, powers-of}
 use Rattle.divisor.specs.declared.table.Table.{Table}
 use Rattle.divisor.specs.table.Model.{with-row, TableReady}
 use Rattle.divisor.specs.equations.Model.{EquationReady, IsEquation, Equations-to}
@@ -33,48 +34,57 @@ Inv-loop p skeleton point image column ys zs ws s₀ i₀ s i = Passing p skelet
 abbrev μ-loop : tie.MeasureT-loop
 μ-loop p skeleton point image column ys zs ws s₀ i₀ s i = 8 - i
 
--- with the first table worked: where the function began
-abbrev opened : tie.After-powers Inv-loop μ-loop → tie.Start Inv-loop μ-loop
+-- from where each number of the point is an element: where the function began, and with the tables worked so far
+abbrev opened : tie.After-of Inv-loop μ-loop → tie.Start Inv-loop μ-loop
 opened c = c .before .before .before .before .before
 
--- at the loop: the first table, and where the function began
-abbrev first : tie.At-loop Inv-loop μ-loop → tie.After-powers Inv-loop μ-loop
-first l = l .before .before .before .before .before
+abbrev one-table : tie.After-of2 Inv-loop μ-loop → tie.After-powers Inv-loop μ-loop
+one-table c = c .before .before
 
-abbrev start : tie.At-loop Inv-loop μ-loop → tie.Start Inv-loop μ-loop
-start l = opened (first l)
+abbrev two-tables : tie.After-of3 Inv-loop μ-loop → tie.After-powers2 Inv-loop μ-loop
+two-tables c = c .before .before
 
 -- at the loop: the tables of powers are the model's
 module _ (l : tie.At-loop Inv-loop μ-loop) where
+  abbrev at-z : tie.After-powers2 Inv-loop μ-loop
+  at-z = two-tables (l .before .before)
+
+  abbrev at-y : tie.After-powers Inv-loop μ-loop
+  at-y = one-table (at-z .before)
+
+  abbrev start : tie.Start Inv-loop μ-loop
+  start = opened (at-y .before)
+
   abbrev coordinate : ℕ → ℕ
-  coordinate k = getD (start l .args .point .now) k 0
+  coordinate k = getD (start .args .point .now) k 0
 
   abbrev ys : List ℕ
-  ys = first l .powers .result
+  ys = at-y .powers .result
 
   abbrev zs : List ℕ
-  zs = l .before .before .before .powers2 .result
+  zs = at-z .powers2 .result
 
   abbrev ws : List ℕ
   ws = l .before .powers3 .result
 
-  y-table : ys ≡ powers (start l .args .p) (coordinate 0)
-  y-table = powers-model _ _ _ (first l .powers .ensures)
+  y-table : ys ≡ powers (start .args .p) (coordinate 0)
+  y-table = powers-of (at-y .before .of .ensures) (at-y .powers .ensures)
 
-  z-table : zs ≡ powers (start l .args .p) (coordinate 1)
-  z-table = powers-model _ _ _ (l .before .before .before .powers2 .ensures)
+  z-table : zs ≡ powers (start .args .p) (coordinate 1)
+  z-table = powers-of (at-z .before .of2 .ensures) (at-z .powers2 .ensures)
 
-  w-table : ws ≡ powers (start l .args .p) (coordinate 2)
-  w-table = powers-model _ _ _ (l .before .powers3 .ensures)
+  w-table : ws ≡ powers (start .args .p) (coordinate 2)
+  w-table = powers-of (l .before .before .of3 .ensures) (l .before .powers3 .ensures)
 
 powers-requires : tie.Need-powers-requires Inv-loop μ-loop
-powers-requires c κs = listed-positive (c .before .before .before .before .pre .table .listed)
+powers-requires c κs = has-modulus (c .of .ensures) (listed-positive (opened c .pre .table .listed))
 
 powers-requires-2 : tie.Need-powers-requires-2 Inv-loop μ-loop
-powers-requires-2 c κs = listed-positive (opened (c .before) .pre .table .listed)
+powers-requires-2 c κs = has-modulus (c .of2 .ensures) (listed-positive (opened (one-table c .before) .pre .table .listed))
 
 powers-requires-3 : tie.Need-powers-requires-3 Inv-loop μ-loop
-powers-requires-3 c κs = listed-positive (opened (c .before .before .before) .pre .table .listed)
+powers-requires-3 c κs =
+    has-modulus (c .of3 .ensures) (listed-positive (opened (one-table (two-tables c .before) .before) .pre .table .listed))
 
 loop-holds : tie.Need-loop-holds Inv-loop μ-loop
 loop-holds c = record { within = omega arith; equations = point-start _ _ _ _ _ _ }
@@ -86,7 +96,7 @@ difference-requires c κs =
     let m = ap (λ e. e .modulus) (zero .zero .ensures) in
     record {
       below = omega (arith, m, ap (λ e. e .value) (zero .zero .ensures), listed-positive (start l .pre .table .listed));
-      other-below = omega (arith, m, ap (λ e. e .value) (c .of .ensures), start l .pre .eight .below (l .loop .i));
+      other-below = omega (arith, m, ap (λ e. e .value) (c .of4 .ensures), start l .pre .eight .below (l .loop .i));
     }
 
 -- the multiplier's number
@@ -101,7 +111,7 @@ module _ (c : tie.After-difference Inv-loop μ-loop) where
   opposite = (start loop .args .p - getD (start loop .args .image .now) (loop .loop .i) 0) % start loop .args .p
 
   u-is : c .difference .result ≡ element (start loop .args .p) opposite
-  u-is = c .difference .ensures ∙ (λ n. difference-of (c .before .before .before .zero .ensures n) (c .before .of .ensures n))
+  u-is = c .difference .ensures ∙ (λ n. difference-of (c .before .before .before .zero .ensures n) (c .before .of4 .ensures n))
       ∙ ap (λ (n : ℕ). element (start loop .args .p) (n % start loop .args .p)) (zero-add _)
 
   opposite-below : opposite < start loop .args .p
@@ -185,6 +195,6 @@ returns c =
 
 pub point-equations-spec : {M : Type 1} → statement M
 point-equations-spec =
-    tie.close (tie.spec Inv-loop μ-loop (λ c. search needs) powers-requires (λ c. search needs) powers-requires-2 (λ c. search needs)
-    powers-requires-3 loop-holds (λ c κs. search needs) (λ c. search needs) (λ c. search needs) (λ c κs. search needs) difference-requires
+    tie.close (tie.spec Inv-loop μ-loop (λ c. search needs) (λ c κs. search needs) powers-requires (λ c. search needs) (λ c κs. search needs) powers-requires-2
+    (λ c. search needs) (λ c κs. search needs) powers-requires-3 loop-holds (λ c κs. search needs) (λ c. search needs) (λ c. search needs) (λ c κs. search needs) difference-requires
     (λ c. search needs) equation-requires (λ c κs. search needs) with-added-requires (λ c. search needs) (λ c. search needs) loop-again returns)

@@ -58,11 +58,12 @@ module _ (c : tie.After-of2) where
   kept-is =
       let a = start .args in
       let lead = c .of2 .ensures in
-      let e = c .before .before .of .ensures in
+      let known = c .before .before in
+      let e = known .of .ensures in
       let modulus = c .before .inverse .ensures .same ∙ ap (λ (v : Element). v .modulus) e in
       let inverse =
       lead-inverse-is (a .p) (a .dividend .now) (a .divisor .now) (a .work .now) (start .pre .lists) _ (ap (λ (v : Element). v .modulus) e)
-      (ap (λ (v : Element). v .value) e ∙ c .before .before .before .coefficient-of .ensures)
+      (ap (λ (v : Element). v .value) e ∙ known .before .coefficient-of .ensures)
       (c .before .inverse .result) (c .before .inverse .ensures) in
       let bound = ap₂ _-_ (mosts .before .most .ensures) (mosts .most2 .ensures) in
       λ i. record { modulus = modulus i; terms = a .divisor .now; lead = lead i; inverse = inverse i; bound = bound i }
@@ -89,7 +90,7 @@ returns c =
     (sym (tests (c .before)) ∙ not-true _ (c .if1 .taken))
 
 sub-of : tie.Need-sub-of
-sub-of c = at-most-key _ _ (sym (c .before .before .before .at-most .ensures) ∙ not-false _ (c .before .before .if1 .left))
+sub-of c = let e = c .before .before in at-most-key _ _ (sym (e .before .at-most .ensures) ∙ not-false _ (e .if1 .left))
 
 inverse-requires : tie.Need-inverse-requires
 inverse-requires c κs =
@@ -102,7 +103,8 @@ shared-slice-read-of c = omega (arith, start (c .before) .pre .lists .some-divid
 
 spread-requires : tie.Need-spread-requires
 spread-requires c κs =
-    let z = start (c .before .before .before .before) in
+    let of2 = c .before .before .before .before in
+    let z = start of2 in
     λ i h. omega (arith, falling-keys (z .args .p) keys (z .args .dividend .now) (z .pre .lists .dividend-falls) i h, z .pre .lists .room)
 
 steps-requires : tie.Need-steps-requires

@@ -16,8 +16,9 @@ sub-t8 c = at-most-key _ _ (sym (c .before .at-most .ensures) ∙ not-false _ (c
 
 returns-2 : tie.Need-returns-2
 returns-2 c =
-    let a = c .before .before .before .args in
-    fits-rest (a .lead) (a .bound .bits) (a .k) (sym (c .before .before .at-most .ensures) ∙ not-false _ (c .before .if1 .left)) (c .at-most2 .ensures)
+    let e = c .before in
+    let a = e .before .before .args in
+    fits-rest (a .lead) (a .bound .bits) (a .k) (sym (e .before .at-most .ensures) ∙ not-false _ (e .if1 .left)) (c .at-most2 .ensures)
 
 pub fits-spec : {M : Type 1} → statement M
 fits-spec =

@@ -1,85 +1,51 @@
--- `poly::division::most` meets its contract. The invariant: in each variable, the greatest so far with the others' is the greatest of all.
-use mathlib.Core.Path.{_≡_}
-use mathlib.Core.List.{List}
-use Prim.Native.Nat.{ℕ, _-_, _≤_, max}
+-- `poly::division::most` meets its contract. The loop is a fold: each term raises the exponents so far (`raised`), and that gives the greatest.
+use mathlib.Core.Path.{_≡_, sym, ap, _∙_, subst}
+use Prim.Native.Nat.{ℕ, _-_, _≤_}
 use native.Mathlib.Omega.{arith}
-use lib.ListN.{length, drop}
+use lib.ListN.{length}
+use Rattle.algebra.specs.Four.{Exponents}
 use Rattle.algebra.specs.GreatestExponent.{Variable, in-x, in-y, in-z, in-w}
-use Rattle.poly.specs.division.Model.{most}
+use Rattle.field.specs.loops.Fold.{Folding, folding-start, folding-next, folding-end}
+use Rattle.poly.specs.Keys.{key, exponents}
+use Rattle.poly.specs.key.Model.{Packable}
+use Rattle.poly.specs.division.Model.{most, most-of}
 use Rattle.poly.specs.division.GreatestExponents.{most-small}
-use Rattle.poly.specs.division.Turns.{most-turn, most-end}
+use Rattle.poly.specs.division.Turns.{raised, raised-most}
 use borrow.Author.Needs.{needs}
 use Rattle.poly.proofs.division.most.Statement.{statement}
 use Rattle.poly.proofs.division.most.Tie as tie
 
--- m is the greatest of the first i, so that with the others' it is the greatest of all
-abbrev SoFar : Variable → List ℕ → ℕ → ℕ → Type 0
-SoFar v ts i m = max m (most v (drop i ts)) ≡ most v ts
-
-record Greatest (ts : List ℕ) (i x y z w : ℕ) : Type 0 where
-  within : i ≤ length ts
-  so-far-x : SoFar in-x ts i x
-  so-far-y : SoFar in-y ts i y
-  so-far-z : SoFar in-z ts i z
-  so-far-w : SoFar in-w ts i w
-
 abbrev Inv-loop : tie.InvT-loop
-Inv-loop terms x₀ y₀ z₀ w₀ i₀ x y z w i = Greatest terms i x y z w
+Inv-loop terms x₀ y₀ z₀ w₀ i₀ x y z w i = Folding raised terms (exponents 0) i (record { x = x; y = y; z = z; w = w })
 
 abbrev μ-loop : tie.MeasureT-loop
 μ-loop terms x₀ y₀ z₀ w₀ i₀ x y z w i = length terms - i
 
+abbrev start : tie.At-loop Inv-loop μ-loop → tie.Start Inv-loop μ-loop
+start l = l .before .before
+
 loop-holds : tie.Need-loop-holds Inv-loop μ-loop
-loop-holds c =
-    record { within = omega arith; so-far-x = omega arith; so-far-y = omega arith; so-far-z = omega arith; so-far-w = omega arith }
+loop-holds c = folding-start
 
 loop-again : tie.Need-loop-again Inv-loop μ-loop
 loop-again c =
-    let lz = c .before .before in
-    let ly = lz .before .before in
-    let lx = ly .before .before in
-    let o = lx .before .before in
-    let a = o .before .before .before in
-    let ts = a .before .before .args .terms .now in
-    let h = o .before .before .loop-test .taken in
-    record {
-      within = omega arith;
-      so-far-x = most-turn in-x ts (a .loop .i) (a .loop .x) (a .loop .inv .so-far-x) h (o .of .ensures) (lx .before .x .ensures) (lx .larger .ensures);
-      so-far-y = most-turn in-y ts (a .loop .i) (a .loop .y) (a .loop .inv .so-far-y) h (o .of .ensures) (ly .before .y .ensures) (ly .larger2 .ensures);
-      so-far-z = most-turn in-z ts (a .loop .i) (a .loop .z) (a .loop .inv .so-far-z) h (o .of .ensures) (lz .before .z .ensures) (lz .larger3 .ensures);
-      so-far-w = most-turn in-w ts (a .loop .i) (a .loop .w) (a .loop .inv .so-far-w) h (o .of .ensures) (c .before .w .ensures) (c .larger4 .ensures);
-    }
+    let turn = c .before .before .before .before .before .before .before .before .before .before in
+    folding-next (turn .before .loop .inv) (turn .loop-test .taken) (cc)
 
 -- at the end
-module _ (c : tie.After-loop Inv-loop μ-loop) where
-  abbrev ts : List ℕ
-  ts = c .before .before .before .args .terms .now
-
-  x-is : c .before .loop .x ≡ most in-x ts
-  x-is = most-end in-x ts (c .before .loop .i) (c .before .loop .x) (c .before .loop .inv .so-far-x) (c .loop-test .left)
-
-  y-is : c .before .loop .y ≡ most in-y ts
-  y-is = most-end in-y ts (c .before .loop .i) (c .before .loop .y) (c .before .loop .inv .so-far-y) (c .loop-test .left)
-
-  z-is : c .before .loop .z ≡ most in-z ts
-  z-is = most-end in-z ts (c .before .loop .i) (c .before .loop .z) (c .before .loop .inv .so-far-z) (c .loop-test .left)
-
-  w-is : c .before .loop .w ≡ most in-w ts
-  w-is = most-end in-w ts (c .before .loop .i) (c .before .loop .w) (c .before .loop .inv .so-far-w) (c .loop-test .left)
+all : (c : tie.After-loop Inv-loop μ-loop) → let l = c .before .loop in
+    record { x = l .x; y = l .y; z = l .z; w = l .w } ≡ most-of (start (c .before) .args .terms .now)
+all c = folding-end (c .before .loop .inv) (c .loop-test .left) ∙ raised-most _
 
 pack-requires : tie.Need-pack-requires Inv-loop μ-loop
 pack-requires c κs =
-    let ts = c .before .before .before .args .terms .now in
-    let h = c .before .before .before .pre in
-    record {
-      x-small = omega (arith, x-is c, most-small in-x ts h);
-      y-small = omega (arith, y-is c, most-small in-y ts h);
-      z-small = omega (arith, z-is c, most-small in-z ts h);
-      w-small = omega (arith, w-is c, most-small in-w ts h);
-    }
+    let s = start (c .before) in
+    let small : (v : Variable) → most v (s .args .terms .now) ≤ 7 = λ v. omega (arith, most-small v (s .args .terms .now) (s .pre)) in
+    subst (λ (e : Exponents). Packable (e .x) (e .y) (e .z) (e .w)) (sym (all c))
+    (record { x-small = small in-x; y-small = small in-y; z-small = small in-z; w-small = small in-w })
 
 returns : tie.Need-returns Inv-loop μ-loop
-returns c = omega (arith, c .pack .ensures, x-is (c .before), y-is (c .before), z-is (c .before), w-is (c .before))
+returns c = c .pack .ensures ∙ ap key (all (c .before))
 
 pub most-spec : {M : Type 1} → statement M
 most-spec =

@@ -68,13 +68,17 @@ module _ (l : tie.At-loop Inv-loop μ-loop Inv-steps μ-steps) where
   going : Going d before work (l .loop .k)
   going = going-on d before work (l .before .steps .k) (l .loop .k) (l .before .steps .inv .going) (l .loop .inv .within) (l .loop .inv .same)
 
+-- where the turn begins whose cell is not 0
+abbrev turn : tie.Then1 Inv-loop μ-loop Inv-steps μ-steps → tie.In-loop Inv-loop μ-loop Inv-steps μ-steps
+turn c = c .before .before
+
 -- a leading term that can be divided
 module _ (c : tie.Else2 Inv-loop μ-loop Inv-steps μ-steps) where
   abbrev at : tie.At-loop Inv-loop μ-loop Inv-steps μ-steps
-  at = c .before .before .before .before .before
+  at = turn (c .before .before) .before
 
   below-top : ¬ (at .loop .k ≡ 0)
-  below-top = c .before .before .before .before .loop-test .left
+  below-top = turn (c .before .before) .loop-test .left
 
   nonzero : ¬ (getD (work at) (at .loop .k - 1) 0 ≡ 0)
   nonzero = c .before .before .if1 .taken
@@ -112,8 +116,9 @@ steps-holds c =
 
 loop-again : tie.Need-loop-again Inv-loop μ-loop Inv-steps μ-steps
 loop-again c =
-    let l = c .before .before .before in
-    let passed = going-passed (d l) (work l) (l .loop .k) (going l .cells) (c .before .before .loop-test .left) (c .if1 .left) in
+    let t = c .before .before in
+    let l = t .before in
+    let passed = going-passed (d l) (work l) (l .loop .k) (going l .cells) (t .loop-test .left) (c .if1 .left) in
     record { within = omega arith; same = l .loop .inv .same ∙ passed; answer = l .loop .inv .answer }
 
 product-requires : tie.Need-product-requires Inv-loop μ-loop Inv-steps μ-steps
@@ -162,8 +167,8 @@ returns c =
 returns-2 : tie.Need-returns-2 Inv-loop μ-loop Inv-steps μ-steps
 returns-2 c =
     let t = c .before .before in
-    let l = t .before .before .before in
-    going-stopped (d l) (before l) (work l) (l .loop .k) (going l) (t .before .before .loop-test .left) (t .if1 .taken)
+    let l = turn t .before in
+    going-stopped (d l) (before l) (work l) (l .loop .k) (going l) (turn t .loop-test .left) (t .if1 .taken)
     (sym (c .before .fits2 .ensures) ∙ not-true _ (c .if2 .taken))
 
 pub steps-spec : {M : Type 1} → statement M

@@ -23,17 +23,17 @@ abbrev μ-loop : tie.MeasureT-loop
 abbrev keyed : tie.After-of3 Inv-loop μ-loop → tie.After-struct-known Inv-loop μ-loop
 keyed c = c .before .before .before .before
 
-abbrev turn : tie.After-struct-known Inv-loop μ-loop → tie.At-loop Inv-loop μ-loop
-turn c = c .before .before .before .before
+abbrev turn : tie.After-struct-known Inv-loop μ-loop → tie.In-loop Inv-loop μ-loop
+turn c = c .before .before .before
 
 abbrev start : tie.At-loop Inv-loop μ-loop → tie.Start Inv-loop μ-loop
 start l = l .before .before .before
 
 -- the cell of the term at i is one of the cells
-at-below : (c : tie.After-struct-known Inv-loop μ-loop) → c .before .of .result .bits + start (turn c) .args .shift < length (turn c .loop .cells)
+at-below : (c : tie.After-struct-known Inv-loop μ-loop) → c .before .of .result .bits + start (turn c .before) .args .shift < length (turn c .before .loop .cells)
 at-below c =
-    let l = turn c in
-    omega (arith, start l .pre .within (l .loop .i) (c .before .before .before .loop-test .taken), c .before .of .ensures, l .loop .inv .same-length)
+    let l = turn c .before in
+    omega (arith, start l .pre .within (l .loop .i) (turn c .loop-test .taken), c .before .of .ensures, l .loop .inv .same-length)
 
 loop-holds : tie.Need-loop-holds Inv-loop μ-loop
 loop-holds c = folding-cells-start
@@ -49,7 +49,7 @@ slice-read-of c = at-below (c .before .before .before)
 
 minus-product-requires : tie.Need-minus-product-requires Inv-loop μ-loop
 minus-product-requires c κs =
-    let s = start (turn (keyed c)) in
+    let s = start (turn (keyed c) .before) in
     can-subtract (c .of3 .ensures) refl (s .pre .positive) (s .pre .reduced)
 
 mul-cells : tie.Need-mul-cells Inv-loop μ-loop
@@ -62,9 +62,9 @@ loop-again : tie.Need-loop-again Inv-loop μ-loop
 loop-again c =
     let e = c .before .before .before in
     let s = e .before .before in
-    let l = turn s in
+    let l = turn s .before in
     let g = start l .args in
-    folding-cells-next (l .loop .inv) (s .before .before .before .loop-test .taken) (simp length-set)
+    folding-cells-next (l .loop .inv) (turn s .loop-test .taken) (simp length-set)
     (less-is (g .q .modulus) (g .shift) (g .q .value) (l .loop .cells) (getD (g .divisor .now) (l .loop .i) 0) (s .before .of .ensures)
     (e .before .coefficient-of .ensures)
     (ap (λ (v : Element). v .value) (minus-product-is refl (e .of2 .ensures) (c .before .of3 .ensures) (c .minus-product .ensures))))

@@ -20,9 +20,12 @@ Inv-loop p f₀ g₀ n₀ f g n = Turning p n₀ f₀ g₀ n f g
 abbrev μ-loop : tie.MeasureT-loop
 μ-loop p f₀ g₀ n₀ f g n = n
 
--- where the function begins
+-- where the function begins, and where a turn does
 abbrev start : tie.At-loop Inv-loop μ-loop → tie.Start Inv-loop μ-loop
 start l = l .before .before .before .before
+
+abbrev turn : tie.After-size3 Inv-loop μ-loop → tie.In-loop Inv-loop μ-loop
+turn c = c .before .before .before
 
 prime : (c : tie.Start Inv-loop μ-loop) → Prime (c .args .p)
 prime c = listed-prime (c .pre .is-listed)
@@ -62,14 +65,12 @@ remainder-requires c κs =
 
 loop-less : tie.Need-loop-less Inv-loop μ-loop
 loop-less c =
-    let turn = c .before .before .before in
-    turning-falls (prime (start (turn .before))) _ _ _ (turn .before .loop .inv) (omega arith)
+    turning-falls (prime (start (turn c .before))) _ _ _ (turn c .before .loop .inv) (omega arith)
     (c .before .before .monic2 .ensures) (c .before .remainder .ensures) (c .size3 .ensures)
 
 loop-again : tie.Need-loop-again Inv-loop μ-loop
 loop-again c =
-    let turn = c .before .before .before in
-    turning-goes-on (prime (start (turn .before))) _ _ _ (turn .before .loop .inv) (omega arith)
+    turning-goes-on (prime (start (turn c .before))) _ _ _ (turn c .before .loop .inv) (omega arith)
     (c .before .before .monic2 .ensures) (c .before .remainder .ensures) (c .size3 .ensures)
 
 returns : tie.Need-returns Inv-loop μ-loop
@@ -77,8 +78,8 @@ unfolding gcd
 returns c =
     let s = start (c .before) in
     let a = s .args in
-    let f : c .before .before .before .monic .result ≡ monic (a .p) (size (a .a) - 1) (a .a) =
-    c .before .before .before .monic .ensures ∙ ap (λ (n : ℕ). monic (a .p) (n - 1) (a .a)) (c .before .before .before .before .size .ensures) in
+    let made = c .before .before .before in
+    let f = made .monic .ensures ∙ ap (λ (n : ℕ). monic (a .p) (n - 1) (a .a)) (made .before .size .ensures) in
     sym
     (ap₂ (λ (n : ℕ) (u : List ℕ). euclid (a .p) n u (a .b)) (sym (c .before .before .size2 .ensures)) (sym f)
     ∙ turning-ends (prime s) _ _ _ (c .before .loop .inv) (omega arith))

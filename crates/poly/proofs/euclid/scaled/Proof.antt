@@ -21,21 +21,16 @@ abbrev μ-loop : tie.MeasureT-loop
 loop-holds : tie.Need-loop-holds Inv-loop μ-loop
 loop-holds c = filled-start (omega arith) refl (λ j l. absurd (omega arith))
 
-product-requires : tie.Need-product-requires Inv-loop μ-loop
-product-requires c κs = c .before .before .before .pre
-
 loop-again : tie.Need-loop-again Inv-loop μ-loop
 loop-again c =
-    let l = c .before .before .before .loop in
-    filled-next (l .inv) (omega arith) (ap (λ (v : Element). v .value) (product-is refl (c .before .of .ensures) (c .product .ensures)))
+    let at = c .before .before .before in
+    filled-next (at .loop .inv) (omega arith) (ap (λ (v : Element). v .value) (product-is refl (c .before .of .ensures) (c .product .ensures)))
 
 returns : tie.Need-returns Inv-loop μ-loop
 unfolding scaled
-returns c =
-    let l = c .before .loop in
-    filled-end (l .inv) (omega arith)
+returns c = filled-end (c .before .loop .inv) (omega arith)
 
 pub scaled-spec : {M : Type 1} → statement M
 scaled-spec =
-    tie.close (tie.spec Inv-loop μ-loop loop-holds (λ c. search needs) (λ c. search needs) (λ c κs. search needs) product-requires (λ c. search needs)
+    tie.close (tie.spec Inv-loop μ-loop loop-holds (λ c. search needs) (λ c. search needs) (λ c κs. search needs) (λ c κs. search needs) (λ c. search needs)
     (λ c. search needs) (λ c. search needs) (λ c. search needs) loop-again returns)

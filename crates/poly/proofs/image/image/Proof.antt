@@ -13,13 +13,15 @@ use Rattle.poly.proofs.image.image.Tie as tie
 abbrev start : tie.After-image-fault → tie.Start
 start c = c .before .before .before .before
 
+abbrev tested : tie.After-image-at → tie.After-image-fault
+tested c = c .before .before .before
+
 -- the record of what the point gives
 answers : (c : tie.After-image-at) (r : ImageRecord) → r ≡ image-record (c .image-at .result .size) (c .image-at .result .coefficients)
-    → let a = start (c .before .before .before) .args in ImageAnswer (image-call (a .p) (a .first .now) (a .second .now) (a .point .now)) r
+    → let a = start (tested c) .args in ImageAnswer (image-call (a .p) (a .first .now) (a .second .now) (a .point .now)) r
 answers c r =
-    let tested = c .before .before .before in
-    let a = start tested .args in
-    image-answered (a .p) (a .first .now) (a .second .now) (a .point .now) _ (tested .image-fault .ensures) (c .before .if1 .left) _ (c .image-at .ensures)
+    let a = start (tested c) .args in
+    image-answered (a .p) (a .first .now) (a .second .now) (a .point .now) _ (tested c .image-fault .ensures) (c .before .if1 .left) _ (c .image-at .ensures)
 
 returns : tie.Need-returns
 returns c =

@@ -8,7 +8,9 @@ returns : tie.Need-returns
 returns c = tested-stops _ _ _ (c .before .before .lists-fault .ensures) (c .if1 .taken)
 
 returns-2 : tie.Need-returns-2
-returns-2 c = tested-goes-on _ _ _ (c .before .before .before .lists-fault .ensures) tt (c .before .if1 .left) (c .point-fault .ensures)
+returns-2 c =
+    let e = c .before in
+    tested-goes-on _ _ _ (e .before .before .lists-fault .ensures) tt (e .if1 .left) (c .point-fault .ensures)
 
 pub image-fault-spec : {M : Type 1} → statement M
 image-fault-spec =

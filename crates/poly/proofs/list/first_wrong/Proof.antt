@@ -16,16 +16,20 @@ abbrev μ-loop : tie.MeasureT-loop
 loop-holds : tie.Need-loop-holds Inv-loop μ-loop
 loop-holds c = walk-begins _ _
 
+-- where the turn begins
+abbrev turn : tie.After-coefficient-of Inv-loop μ-loop → tie.In-loop Inv-loop μ-loop
+turn c = c .before .before .before
+
 returns : tie.Need-returns Inv-loop μ-loop
 returns c =
-    let turn = c .before .before .before .before in
-    walk-stops _ _ _ _ (turn .before .loop .inv) (turn .loop-test .taken) _ _ (c .before .before .of .ensures)
+    let t = turn (c .before) in
+    walk-stops _ _ _ _ (t .before .loop .inv) (t .loop-test .taken) _ _ (c .before .before .of .ensures)
     (c .before .coefficient-of .ensures) (not-true _ (c .if1 .taken))
 
 loop-again : tie.Need-loop-again Inv-loop μ-loop
 loop-again c =
-    let turn = c .before .before .before .before in
-    walk-goes-on _ _ _ _ (turn .before .loop .inv) (turn .loop-test .taken) _ _ (c .before .before .of .ensures)
+    let t = turn (c .before) in
+    walk-goes-on _ _ _ _ (t .before .loop .inv) (t .loop-test .taken) _ _ (c .before .before .of .ensures)
     (c .before .coefficient-of .ensures) (not-false _ (c .if1 .left))
 
 returns-2 : tie.Need-returns-2 Inv-loop μ-loop

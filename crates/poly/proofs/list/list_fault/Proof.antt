@@ -9,8 +9,11 @@ use Rattle.poly.proofs.list.list_fault.Statement.{statement}
 use Rattle.poly.proofs.list.list_fault.Tie as tie
 
 -- past both tests the count is right
-counted : (c : tie.Else2) → ¬ Count most-terms (c .before .before .before .args .terms .now)
-counted c = well-counted most-terms (c .before .before .before .args .terms .now) (c .before .if1 .left) (omega arith)
+abbrev start : tie.Else2 → tie.Start
+start c = c .before .before .before
+
+counted : (c : tie.Else2) → ¬ Count most-terms (start c .args .terms .now)
+counted c = well-counted most-terms (start c .args .terms .now) (c .before .if1 .left) (omega arith)
 
 returns : tie.Need-returns
 returns c = count-wrong (inl (c .before .if1 .taken)) (c .at .ensures)

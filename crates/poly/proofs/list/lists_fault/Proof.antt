@@ -9,7 +9,7 @@ use Rattle.poly.proofs.list.lists_fault.Statement.{statement}
 use Rattle.poly.proofs.list.lists_fault.Tie as tie
 
 -- past the first test the modulus is listed
-is-listed : (c : tie.Else1) → Listed (c .before .before .before .before .args .p)
+is-listed : (c : tie.Else1) → let start = c .before .before .before .before in Listed (start .args .p)
 is-listed c = sym (c .before .is-modulus .ensures) ∙ not-false _ (c .if1 .left)
 
 returns : tie.Need-returns

@@ -23,32 +23,36 @@ Inv-loop cells out₀ k₀ n₀ out k n = Gathering cells out₀ out k n
 abbrev μ-loop : tie.MeasureT-loop
 μ-loop cells out₀ k₀ n₀ out k n = k
 
+-- where a turn that writes begins, and where the function does
+abbrev turn : tie.After-term Inv-loop μ-loop → tie.In-loop Inv-loop μ-loop
+turn c = c .before .before .before
+
+abbrev start : tie.At-loop Inv-loop μ-loop → tie.Start Inv-loop μ-loop
+start a = a .before .before .before
+
 -- there is room for one more
-room : (c : tie.After-term Inv-loop μ-loop) → c .before .before .before .before .loop .n < length (c .before .before .before .before .loop .out)
+room : (c : tie.After-term Inv-loop μ-loop) → let l = turn c .before .loop in l .n < length (l .out)
 room c =
-    let a = c .before .before .before .before in
-    omega (arith, a .loop .inv .few, a .loop .inv .same-length, a .before .before .before .pre .room, c .before .before .before .loop-test .taken)
+    let a = turn c .before in
+    omega (arith, a .loop .inv .few, a .loop .inv .same-length, start a .pre .room, turn c .loop-test .taken)
 
 loop-holds : tie.Need-loop-holds Inv-loop μ-loop
 loop-holds c = record { few = omega arith; same-length = refl; terms = refl; rest = refl }
 
 mul-out : tie.Need-mul-out Inv-loop μ-loop
 mul-out c =
-    let a = c .before .before .before .before in
-    omega (arith, room c, a .before .before .before .good .1 .0 .0, a .loop .inv .same-length)
-
-slice-write-out : tie.Need-slice-write-out Inv-loop μ-loop
-slice-write-out c = room c
+    let a = turn c .before in
+    omega (arith, room c, start a .good .1 .0 .0, a .loop .inv .same-length)
 
 loop-again : tie.Need-loop-again Inv-loop μ-loop
 loop-again c =
-    let a = c .before .before .before .before in
-    let x = a .before .before .before .args in
+    let a = turn c .before in
+    let x = start a .args in
     record {
-      few = omega (arith, a .loop .inv .few, c .before .before .before .loop-test .taken);
+      few = omega (arith, a .loop .inv .few, turn c .loop-test .taken);
       same-length = length-set (a .loop .out) (a .loop .n) (c .term .result) ∙ a .loop .inv .same-length;
       terms =
-          gather-turn (x .cells .now) (a .loop .out) (a .loop .k) (a .loop .n) _ (a .loop .inv .terms) (c .before .before .before .loop-test .taken)
+          gather-turn (x .cells .now) (a .loop .out) (a .loop .k) (a .loop .n) _ (a .loop .inv .terms) (turn c .loop-test .taken)
           (c .before .if1 .taken) (room c) (c .term .ensures);
       rest = drop-written (a .loop .out) (x .out .now) (a .loop .n) (c .term .result) (a .loop .inv .rest);
     }
@@ -60,18 +64,15 @@ loop-again-2 c =
       few = omega (arith, a .loop .inv .few);
       same-length = a .loop .inv .same-length;
       terms =
-          gather-pass (a .before .before .before .args .cells .now) (a .loop .out) (a .loop .k) (a .loop .n) _ (a .loop .inv .terms)
+          gather-pass (start a .args .cells .now) (a .loop .out) (a .loop .k) (a .loop .n) _ (a .loop .inv .terms)
           (c .before .before .loop-test .taken) (c .if1 .left);
       rest = a .loop .inv .rest;
     }
 
-same-length : tie.Need-same-length Inv-loop μ-loop
-same-length c = search needs
-
 returns : tie.Need-returns Inv-loop μ-loop
 returns c =
     let a = c .before in
-    let z = a .before .before .before in
+    let z = start a in
     let w =
     gather-written _ (z .args .out .now) (a .loop .out) (a .loop .n) (omega (arith, a .loop .inv .few, a .loop .inv .same-length, z .pre .room))
     (gather-end (z .args .cells .now) (a .loop .out) (a .loop .k) (a .loop .n) _ (a .loop .inv .terms) (c .loop-test .left)) (a .loop .inv .rest) in
@@ -80,5 +81,5 @@ returns c =
 pub gather-spec : {M : Type 1} → statement M
 gather-spec =
     tie.close (tie.spec Inv-loop μ-loop loop-holds (λ c. search needs) (λ c. search needs) (λ c. search needs) (λ c. search needs)
-    (λ c κs. search needs) mul-out slice-write-out (λ c. search needs) (λ c. search needs) loop-again (λ c. search needs) loop-again-2 same-length
-    returns)
+    (λ c κs. search needs) mul-out room (λ c. search needs) (λ c. search needs) loop-again (λ c. search needs) loop-again-2
+    (λ c. search needs) returns)

@@ -26,7 +26,7 @@ exact-requires c κs =
     tested-passes (quotient-table (lent (start t))) tt (t .quotient-fault .result) (t .quotient-fault .ensures) (e .if1 .left) .0
 
 returns-2 : tie.Need-returns-2
-returns-2 c = c .before .before .before .before .exact .ensures
+returns-2 c = let done = c .before .before .before .before in done .exact .ensures
 
 pub quotient-spec : {M : Type 1} → statement M
 quotient-spec =

@@ -21,10 +21,10 @@ record Powering (p y : ℕ) (r₀ : List ℕ) (i : ℕ) (r : List ℕ) : Type 0 
   filled : Filled (power p y) 8 r₀ i r
 
 abbrev Inv-loop : tie.InvT-loop
-Inv-loop p y r₀ i₀ r i = Powering p y r₀ i r
+Inv-loop y r₀ i₀ r i = Powering (y .modulus) (y .value) r₀ i r
 
 abbrev μ-loop : tie.MeasureT-loop
-μ-loop p y r₀ i₀ r i = 8 - i
+μ-loop y r₀ i₀ r i = 8 - i
 
 ones : List ℕ
 ones = replicate 8 1
@@ -32,35 +32,33 @@ ones = replicate 8 1
 loop-holds : tie.Need-loop-holds Inv-loop μ-loop
 unfolding ones
 loop-holds c =
-    let a = c .args in
-    record { from = omega arith; filled = filled-start {old = ones} (omega arith) refl (power-start (a .p) (a .y) ones refl) }
+    let y = c .args .y in
+    record { from = omega arith; filled = filled-start {old = ones} (omega arith) refl (power-start (y .modulus) (y .value) ones refl) }
 
 product-requires : tie.Need-product-requires Inv-loop μ-loop
-product-requires c κs = has-modulus (c .before .of .ensures) (c .before .before .before .before .pre)
+product-requires c κs = let start = c .before .before .before in has-modulus (c .of .ensures) (start .pre)
 
 loop-again : tie.Need-loop-again Inv-loop μ-loop
 loop-again c =
-    let turn = c .before .before .before .before in
-    let l = turn .loop in
+    let at = c .before .before .before in
+    let l = at .loop in
     let filled = l .inv .filled in
-    let a = turn .before .args in
+    let y = at .before .args .y in
     record {
       from = omega arith;
       filled =
           filled-next filled (omega arith)
-          (ap (λ (v : Element). v .value) (product-is (c .before .before .of .ensures) (c .before .of2 .ensures) (c .product .ensures))
-          ∙ ap (λ (x : ℕ). (x * a .y) % a .p) (filled .done (l .i - 1) (omega arith)) ∙ power-next (a .p) (a .y) (l .i) (l .inv .from));
+          (ap (λ (v : Element). v .value) (product-is (c .before .of .ensures) refl (c .product .ensures))
+          ∙ ap (λ (x : ℕ). (x * y .value) % y .modulus) (filled .done (l .i - 1) (omega arith)) ∙ power-next (y .modulus) (y .value) (l .i) (l .inv .from));
     }
 
 returns : tie.Need-returns Inv-loop μ-loop
 unfolding powers
 returns c =
     let l = c .before .loop in
-    let a = c .before .before .args in
-    subst (Powers (a .p) (a .y)) (sym (filled-end (l .inv .filled) (omega arith)))
-    (powers-are (a .p) (a .y))
+    let y = c .before .before .args .y in
+    subst (Powers (y .modulus) (y .value)) (sym (filled-end (l .inv .filled) (omega arith))) (powers-are (y .modulus) (y .value))
 
 pub powers-spec : {M : Type 1} → statement M
 powers-spec =
-    tie.close (tie.spec Inv-loop μ-loop loop-holds (λ c. search needs) (λ c. search needs) (λ c. search needs) (λ c κs. search needs)
-    (λ c κs. search needs) product-requires (λ c. search needs) (λ c. search needs) (λ c. search needs) (λ c. search needs) loop-again returns)
+    tie.close (tie.spec Inv-loop μ-loop loop-holds (λ c. search needs) (λ c. search needs) (λ c. search needs) (λ c κs. search needs) product-requires (λ c. search needs) (λ c. search needs) (λ c. search needs) (λ c. search needs) loop-again returns)

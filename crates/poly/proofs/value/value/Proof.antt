@@ -30,38 +30,45 @@ Inv-loop p terms ys zs ws r₀ i₀ r i = Valuing p ys zs ws terms r₀ i r
 abbrev μ-loop : tie.MeasureT-loop
 μ-loop p terms ys zs ws r₀ i₀ r i = length terms - i
 
--- the power of x of the term at hand
-x-small : (c : tie.After-x Inv-loop μ-loop) → c .x .result < 8
-x-small c =
-    let turn = c .before .before .before in
-    omega (arith, turn .before .before .before .pre .keys (turn .before .loop .i) (turn .loop-test .taken))
+-- where the turn and the function begin, from where the power of x is known
+abbrev turn : tie.After-x Inv-loop μ-loop → tie.In-loop Inv-loop μ-loop
+turn c = c .before .before .before
 
 abbrev start : tie.After-x Inv-loop μ-loop → tie.Start Inv-loop μ-loop
-start c = c .before .before .before .before .before .before
+start c = turn c .before .before .before
 
 -- where the power of x is known, from where that of y is, and so on
-abbrev from-y : tie.After-y Inv-loop μ-loop → tie.After-x Inv-loop μ-loop
-from-y c = c .before .before .before
+abbrev at-x : tie.After-y Inv-loop μ-loop → tie.After-x Inv-loop μ-loop
+at-x c = c .before .before .before
 
-abbrev from-z : tie.After-z Inv-loop μ-loop → tie.After-x Inv-loop μ-loop
-from-z c = from-y (c .before .before .before)
+abbrev at-y : tie.After-z Inv-loop μ-loop → tie.After-y Inv-loop μ-loop
+at-y c = c .before .before .before
+
+abbrev at-z : tie.After-w Inv-loop μ-loop → tie.After-z Inv-loop μ-loop
+at-z c = c .before .before .before
+
+abbrev at-w : tie.After-plus-product Inv-loop μ-loop → tie.After-w Inv-loop μ-loop
+at-w c = c .before .before .before
 
 abbrev from-w : tie.After-w Inv-loop μ-loop → tie.After-x Inv-loop μ-loop
-from-w c = from-z (c .before .before .before)
+from-w c = at-x (at-y (at-z c))
+
+-- the power of x of the term at hand
+x-small : (c : tie.After-x Inv-loop μ-loop) → c .x .result < 8
+x-small c = omega (arith, start c .pre .keys (turn c .before .loop .i) (turn c .loop-test .taken))
 
 positive : (c : tie.After-x Inv-loop μ-loop) → 0 < start c .args .p
 positive c = omega (arith, start c .pre .y-powers .below 0)
 
 -- the first product, and the second
-first : (c : tie.After-product Inv-loop μ-loop) → let y = c .before .before in let a = start (from-y y) .args in
+first : (c : tie.After-product Inv-loop μ-loop) → let y = c .before .before in let a = start (at-x y) .args in
     c .product .result ≡ element (a .p) ((y .before .before .coefficient-of .result * getD (a .t2) (y .y .result) 0) % a .p)
-first c = product-is (c .before .before .before .of2 .ensures) (c .before .of3 .ensures) (c .product .ensures)
+first c = let y = c .before .before in product-is (y .before .of2 .ensures) (c .before .of3 .ensures) (c .product .ensures)
 
-second : (c : tie.After-product2 Inv-loop μ-loop) → let z = c .before .before in let y = z .before .before .before in
-    let a = start (from-y y) .args in
+second : (c : tie.After-product2 Inv-loop μ-loop) → let z = c .before .before in let y = at-y z in let a = start (at-x y) .args in
     c .product2 .result
     ≡ element (a .p) ((y .before .before .coefficient-of .result * getD (a .t2) (y .y .result) 0) % a .p * getD (a .t3) (z .z .result) 0 % a .p)
-second c = product-is (first (c .before .before .before)) (c .before .of4 .ensures) (c .product2 .ensures)
+second c = let z = c .before .before in product-is (first (z .before)) (c .before .of4 .ensures) (c .product2 .ensures)
 
 -- what the steps on a term make is what the model adds
 added : (p : ℕ) (ys zs ws r : List ℕ) (t : ℕ) {k c x y z w s : ℕ} → k ≡ key-of t → c ≡ coefficient-of t
@@ -79,10 +86,10 @@ loop-holds : tie.Need-loop-holds Inv-loop μ-loop
 loop-holds c = record { numbers = zeros-eight (c .before .args .p) (omega (arith, c .before .pre .y-powers .below 0)); folding = folding-start }
 
 product-requires : tie.Need-product-requires Inv-loop μ-loop
-product-requires c κs = has-modulus (c .before .before .of2 .ensures) (positive (c .before .before .before .before))
+product-requires c κs = let y = c .before in has-modulus (y .before .of2 .ensures) (positive (at-x y))
 
 product-requires-2 : tie.Need-product-requires-2 Inv-loop μ-loop
-product-requires-2 c κs = has-modulus (first (c .before .before)) (positive (from-z (c .before)))
+product-requires-2 c κs = has-modulus (first (c .before .before)) (positive (at-x (at-y (c .before))))
 
 array-read-of-4 : tie.Need-array-read-of-4 Inv-loop μ-loop
 array-read-of-4 c = let l = x-small (from-w (c .before)) in omega arith
@@ -91,22 +98,21 @@ plus-product-requires : tie.Need-plus-product-requires Inv-loop μ-loop
 plus-product-requires c κs = has-modulus (c .of6 .ensures) (positive (from-w (c .before .before)))
 
 array-write-r : tie.Need-array-write-r Inv-loop μ-loop
-array-write-r c = let l = x-small (from-w (c .before .before .before)) in omega arith
+array-write-r c = let l = x-small (from-w (at-w c)) in omega arith
 
 add-i : tie.Need-add-i Inv-loop μ-loop
-add-i c = omega (arith, one-more (from-w (c .before .before .before) .before .before .before))
+add-i c = omega (arith, one-more (turn (from-w (at-w c))))
 
 loop-less : tie.Need-loop-less Inv-loop μ-loop
-loop-less c = omega (arith, from-w (c .before .before .before) .before .before .before .loop-test .taken)
+loop-less c = omega (arith, turn (from-w (at-w c)) .loop-test .taken)
 
 loop-again : tie.Need-loop-again Inv-loop μ-loop
 loop-again c =
-    let with-w = c .before .before .before in
-    let with-z = with-w .before .before .before in
-    let with-y = with-z .before .before .before in
-    let with-x = from-w with-w in
-    let turn = with-x .before .before .before in
-    let l = turn .before .loop in
+    let with-w = at-w c in
+    let with-z = at-z with-w in
+    let with-y = at-y with-z in
+    let with-x = at-x with-y in
+    let l = turn with-x .before .loop in
     let a = start with-x .args in
     let t = getD (a .terms .now) (l .i) 0 in
     let new = c .plus-product .result .value in
@@ -120,7 +126,7 @@ loop-again c =
       numbers =
           set-eight (a .p) (l .r) (with-x .x .result) new (l .inv .numbers)
           (subst (λ (n : ℕ). n < a .p) (sym v) (plus-term-below (a .p) (a .t2) (a .t3) (a .t4) (positive with-x) t (getD (l .r) (exponents (key-of t) .x) 0)));
-      folding = folding-next (l .inv .folding) (turn .loop-test .taken) (ap₂ (set (l .r)) x v);
+      folding = folding-next (l .inv .folding) (turn with-x .loop-test .taken) (ap₂ (set (l .r)) x v);
     }
 
 returns : tie.Need-returns Inv-loop μ-loop
