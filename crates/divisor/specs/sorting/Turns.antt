@@ -1,11 +1,11 @@
 -- The turns of the loops that sort the points and that make the divisor, over the first n of a list.
 use mathlib.Core.Path.{_≡_, sym, _∙_, ap, ap₂}
-use mathlib.Core.List.{List, [], _∷_, _++_, append-assoc, append-nil}
+use mathlib.Core.List.{List, [], _∷_}
 use Prim.Native.Nat.{ℕ, suc, _+_, _*_, _%_, _≤_, _<_}
 use native.Mathlib.Numerals.{add-one}
 use native.Mathlib.Omega.{arith}
-use lib.ListN.{length, getD, take, drop, set, drop-of-length-le}
-use lib.Seq.{drop-cons, getD-take, length-take-le, take-suc-set}
+use lib.ListN.{length, getD, take, drop, drop-of-length-le}
+use lib.Seq.{drop-cons, getD-take, length-take-le}
 use borrow.Author.Tests.{eq-eqb, ne-eqb}
 use Rattle.poly.specs.Terms.{keyed}
 use Rattle.divisor.specs.sorting.Model.{alike}
@@ -44,41 +44,20 @@ module _ (list : List ℕ) (n i : ℕ) where
   unfolding leading
   leading-end l h = ap leading (none-left l h)
 
--- a loop over keys and their coefficients: the terms made so far, and those of the keys that are left, are all
-abbrev pub MadeSo : (p f : ℕ) (ks values : List ℕ) → ℕ → ℕ → List ℕ → Type 0
-MadeSo p f ks values i count terms =
-    take count terms ++ scaled-terms p f (drop i ks) (drop i (take (length ks) values)) ≡ scaled-terms p f ks (take (length ks) values)
-
+-- a loop over keys and their coefficients: the terms of those left
 module _ (p f : ℕ) (ks values : List ℕ) (i : ℕ) (long : length ks ≤ length values) where
+  abbrev pub terms-left : ℕ → List ℕ
+  terms-left i = scaled-terms p f (drop i ks) (drop i (take (length ks) values))
+
   keys-left : i < length ks → drop i ks ≡ getD ks i 0 ∷ drop (i + 1) ks
   keys-left h = drop-cons ks i 0 h ∙ ap (λ (k : ℕ). getD ks i 0 ∷ drop k ks) (sym (add-one i))
 
-  scaled-passed : i < length ks → getD values i 0 ≡ 0
-      → scaled-terms p f (drop i ks) (drop i (take (length ks) values)) ≡ scaled-terms p f (drop (i + 1) ks) (drop (i + 1) (take (length ks) values))
-  scaled-passed h e = ap₂ (scaled-terms p f) (keys-left h) (next-left values (length ks) i long h) ∙ scaled-zero p f (getD ks i 0) (getD values i 0) _ _ e
+  pub left-passed : i < length ks → getD values i 0 ≡ 0 → terms-left i ≡ terms-left (i + 1)
+  left-passed h e = ap₂ (scaled-terms p f) (keys-left h) (next-left values (length ks) i long h) ∙ scaled-zero p f (getD ks i 0) (getD values i 0) _ _ e
 
-  scaled-taken : i < length ks → ¬ (getD values i 0 ≡ 0)
-      → scaled-terms p f (drop i ks) (drop i (take (length ks) values))
-      ≡ keyed (getD ks i 0) ((getD values i 0 * f) % p) ∷ scaled-terms p f (drop (i + 1) ks) (drop (i + 1) (take (length ks) values))
-  scaled-taken h e = ap₂ (scaled-terms p f) (keys-left h) (next-left values (length ks) i long h) ∙ scaled-here p f (getD ks i 0) (getD values i 0) _ _ e
+  pub left-taken : i < length ks → ¬ (getD values i 0 ≡ 0) → terms-left i ≡ keyed (getD ks i 0) ((getD values i 0 * f) % p) ∷ terms-left (i + 1)
+  left-taken h e = ap₂ (scaled-terms p f) (keys-left h) (next-left values (length ks) i long h) ∙ scaled-here p f (getD ks i 0) (getD values i 0) _ _ e
 
-  scaled-end : length ks ≤ i → scaled-terms p f (drop i ks) (drop i (take (length ks) values)) ≡ []
+  pub left-none : length ks ≤ i → terms-left i ≡ []
   unfolding scaled-terms
-  scaled-end h = ap (λ (l : List ℕ). scaled-terms p f l (drop i (take (length ks) values))) (drop-of-length-le ks {i = i} h)
-
-  pub made-passed : (count : ℕ) (terms : List ℕ) → i < length ks → getD values i 0 ≡ 0 → MadeSo p f ks values i count terms
-      → MadeSo p f ks values (i + 1) count terms
-  made-passed count terms h e m = ap (take count terms ++_) (sym (scaled-passed h e)) ∙ m
-
-  pub made-taken : (count : ℕ) (terms : List ℕ) (v : ℕ) → i < length ks → ¬ (getD values i 0 ≡ 0) → count < length terms
-      → v ≡ keyed (getD ks i 0) ((getD values i 0 * f) % p) → MadeSo p f ks values i count terms → MadeSo p f ks values (i + 1) (count + 1) (set terms count v)
-  made-taken count terms v h n l e m =
-      ap (_++ scaled-terms p f (drop (i + 1) ks) (drop (i + 1) (take (length ks) values)))
-      (ap (λ (k : ℕ). take k (set terms count v)) (add-one count) ∙ take-suc-set terms count v l)
-      ∙ append-assoc (take count terms) (v ∷ []) (scaled-terms p f (drop (i + 1) ks) (drop (i + 1) (take (length ks) values)))
-      ∙ ap (λ (u : ℕ). take count terms ++ (u ∷ scaled-terms p f (drop (i + 1) ks) (drop (i + 1) (take (length ks) values)))) e
-      ∙ ap (take count terms ++_) (sym (scaled-taken h n)) ∙ m
-
-  pub made-all : (count : ℕ) (terms : List ℕ) → length ks ≤ i → MadeSo p f ks values i count terms
-      → take count terms ≡ scaled-terms p f ks (take (length ks) values)
-  made-all count terms h m = sym (append-nil (take count terms)) ∙ ap (take count terms ++_) (sym (scaled-end h)) ∙ m
+  left-none h = ap (λ (l : List ℕ). scaled-terms p f l (drop i (take (length ks) values))) (drop-of-length-le ks {i = i} h)

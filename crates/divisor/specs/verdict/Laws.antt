@@ -1,14 +1,12 @@
--- Two trial divisions one after the other, the output filled with terms, and what a solution settles.
+-- Two trial divisions one after the other, and what a solution settles.
 use mathlib.Core.Path.{_≡_, refl, sym, _∙_, ap, subst}
 use mathlib.Core.Bool.{Bool, true, false, not, true≢false}
-use mathlib.Core.List.{List, [], _++_}
+use mathlib.Core.List.{List, []}
 use Prim.Native.Nat.{ℕ, _≤_}
 use native.Mathlib.Omega.{arith}
-use lib.ListN.{length, getD, take, drop}
+use lib.ListN.{length, take}
 use lib.Seq.{length-take-le}
 use borrow.Author.Tests.{not-true, not-false}
-use Rattle.field.specs.loops.Filled.{cells, Filled}
-use Rattle.field.specs.loops.Cells.{cells-is, filled-first}
 use Rattle.field.specs.Prime.{Prime}
 use Rattle.field.specs.Numbers.{DOES_NOT_DIVIDE}
 use Rattle.poly.specs.Room.{work-room, written, cleared}
@@ -55,12 +53,6 @@ module _ {p : ℕ} {A B G work after : List ℕ} {first : Bool} (divided : Trial
     says = λ P. (λ e. (trial-says P divided .0 (not-false first n), trial-says P later .0 e), λ both. trial-says P later .1 (both .1));
     room = later .room ∙ ap cleared (divided .room) ∙ cleared-again work;
   }
-
--- an output that is filled with the terms, and left from there on, has them written first
-pub filled-written : (new old : List ℕ) {r : List ℕ} {i : ℕ} → Filled (λ j. getD new j 0) (length old) old i r → i ≡ length new → r ≡ written new old
-filled-written new old {r} {i} f e =
-    filled-first f refl ∙ ap (λ (n : ℕ). cells (λ j. getD new j 0) n ++ drop n old) e
-    ∙ ap (λ (l : List ℕ). l ++ drop (length new) old) (sym (cells-is _ (length new) new refl (λ j l. refl)))
 
 -- the only solution makes a divisor, which is divided into both lists
 module _ {p : ℕ} {A B ks values output work : List ℕ} (ready : VerdictReady p A B ks (only values) output work) {r : Divisor} (made : IsDivisor p ks values r)

@@ -5,7 +5,8 @@ use mathlib.Core.Logic.{⊎-elim}
 use mathlib.Core.List.{List}
 use Prim.Native.Nat.{ℕ, _-_, _≤_}
 use native.Mathlib.Omega.{arith}
-use lib.ListN.{length, take, getD, length-set}
+use lib.ListN.{length, take, drop, getD, replicate, length-replicate}
+use Rattle.field.specs.loops.Collected.{Collecting, collecting-start, collecting-next, collecting-first}
 use Rattle.field.specs.elements.Link.{inverse-val}
 use Rattle.field.specs.modulus.Laws.{listed-prime, listed-positive}
 use Rattle.field.specs.Contract.{element, product-of, Invertible, Inverse}
@@ -13,15 +14,18 @@ use Rattle.poly.specs.Terms.{keyed}
 use Rattle.divisor.specs.Candidate.{most-keys}
 use Rattle.divisor.specs.monic.Model.{leading, scaled-terms}
 use Rattle.divisor.specs.monic.Terms.{leading-below}
-use Rattle.divisor.specs.sorting.Turns.{MadeSo, made-passed, made-taken, made-all}
+use Rattle.divisor.specs.sorting.Turns.{left-passed, left-taken, left-none}
 use Rattle.divisor.proofs.monic.made_monic.Statement.{statement}
 use Rattle.divisor.proofs.monic.made_monic.Tie as tie
+
+-- the divisor's terms, but those that are left
+abbrev Made : ℕ → ℕ → List ℕ → List ℕ → List ℕ → ℕ → List ℕ → Type 0
+Made p f ks values terms count left = Collecting (scaled-terms p f ks (take (length ks) values)) most-keys (replicate most-keys 0) terms count left
 
 record Reached (p f : ℕ) (ks values terms : List ℕ) (count i : ℕ) : Type 0 where
   within : i ≤ length ks
   few : count ≤ i
-  sized : length terms ≡ most-keys
-  made : MadeSo p f ks values i count terms
+  made : Made p f ks values terms count (scaled-terms p f (drop i ks) (drop i (take (length ks) values)))
 
 abbrev Inv-loop : tie.InvT-loop
 Inv-loop p skeleton values inverse terms₀ count₀ i₀ terms count i = Reached p (inverse .value) skeleton values terms count i
@@ -43,6 +47,9 @@ inverse-requires c κs =
       below = leading-below (s .args .p) (listed-positive (s .pre .listed)) (length (s .args .skeleton .now)) (s .args .t3) (s .pre .below);
       nonzero = s .pre .led;
     }
+
+loop-holds : tie.Need-loop-holds Inv-loop μ-loop
+loop-holds c = record { within = omega arith; few = omega arith; made = collecting-start (length-replicate {A = ℕ} most-keys 0) }
 
 product-requires : tie.Need-product-requires Inv-loop μ-loop
 product-requires c κs =
@@ -66,20 +73,18 @@ loop-again c =
     record {
       within = omega arith;
       few = omega (arith, w .6, l .inv .few);
-      sized = ap length (w .5) ∙ length-set (l .terms) (l .count) (w .4 .result) ∙ l .inv .sized;
       made =
-          rw (w .6, w .5)
-          (made-taken (a .p) f (a .skeleton .now) (a .t3) (l .i) (s .pre .long) (l .count) (l .terms) (w .4 .result) i (w .0 .taken)
-          (omega (arith, s .pre .few, l .inv .few, l .inv .sized))
-          (w .4 .ensures ∙ ap (λ e. keyed (getD (a .skeleton .now) (l .i) 0) (e .value)) made) (l .inv .made));
+          rw (w .6, w .5, w .4 .ensures ∙ ap (λ e. keyed (getD (a .skeleton .now) (l .i) 0) (e .value)) made)
+          (collecting-next (l .inv .made) (omega (arith, s .pre .few, l .inv .few))
+          (left-taken (a .p) f (a .skeleton .now) (a .t3) (l .i) (s .pre .long) i (w .0 .taken)));
     })
     (λ w. record {
       within = omega arith;
       few = omega (arith, w .2, l .inv .few);
-      sized = ap length (w .1) ∙ l .inv .sized;
       made =
           rw (w .2, w .1)
-          (made-passed (a .p) f (a .skeleton .now) (a .t3) (l .i) (s .pre .long) (l .count) (l .terms) i (w .0 .left) (l .inv .made));
+          (subst (Made (a .p) f (a .skeleton .now) (a .t3) (l .terms) (l .count))
+          (left-passed (a .p) f (a .skeleton .now) (a .t3) (l .i) (s .pre .long) i (w .0 .left)) (l .inv .made));
     })
     (c .if1 .came)
 
@@ -89,12 +94,12 @@ returns c =
     let s = inverse .before .before .before .before in
     let l = c .before .loop in
     let a = s .args in
+    let none = left-none (a .p) (inverse .inverse .result .value) (a .skeleton .now) (a .t3) (l .i) (s .pre .long) (c .loop-test .left) in
     record {
-      sized = l .inv .sized;
+      sized = l .inv .made .filled .long;
       fits = omega arith;
       terms =
-          made-all (a .p) (inverse .inverse .result .value) (a .skeleton .now) (a .t3) (l .i) (s .pre .long) (l .count) (l .terms)
-          (c .loop-test .left) (l .inv .made)
+          collecting-first (l .inv .made) (length-replicate {A = ℕ} most-keys 0) none
           ∙ ap (λ (f : ℕ). scaled-terms (a .p) f (a .skeleton .now) (take (length (a .skeleton .now)) (a .t3)))
           (inverse-val _ _ (listed-prime (s .pre .listed))
           (subst (λ e. Inverse e (inverse .inverse .result)) (lead-is (inverse .before)) (inverse .inverse .ensures)));
@@ -102,6 +107,6 @@ returns c =
 
 pub made-monic-spec : {M : Type 1} → statement M
 made-monic-spec =
-    tie.close (tie.spec Inv-loop μ-loop (λ c κs. search needs) (λ c κs. search needs) inverse-requires (λ c. search needs) (λ c. search needs)
+    tie.close (tie.spec Inv-loop μ-loop (λ c κs. search needs) (λ c κs. search needs) inverse-requires loop-holds (λ c. search needs)
     (λ c. search needs) (λ c. search needs) (λ c. search needs) (λ c κs. search needs) product-requires (λ c. search needs) (λ c. search needs)
     (λ c κs. search needs) (λ c. search needs) (λ c. search needs) (λ c. search needs) (λ c. search needs) (λ c. search needs) loop-again returns)

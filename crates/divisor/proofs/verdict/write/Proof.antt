@@ -6,7 +6,7 @@ use native.Mathlib.Omega.{arith}
 use lib.ListN.{length, getD}
 use Rattle.field.specs.loops.Filled.{Filled}
 use Rattle.field.specs.loops.Cells.{filled-start, filled-next}
-use Rattle.divisor.specs.verdict.Laws.{filled-written}
+use Rattle.field.specs.loops.Collected.{filled-all}
 use borrow.Author.Needs.{needs}
 use Rattle.divisor.proofs.verdict.write.Statement.{statement}
 use Rattle.divisor.proofs.verdict.write.Tie as tie
@@ -32,9 +32,8 @@ loop-again c =
 
 returns : tie.Need-returns Inv-loop μ-loop
 returns c =
-    let a = c .before .before .args in
     let l = c .before .loop in
-    filled-written (a .terms .now) (a .output .now) (l .inv .filled) (omega (arith, l .inv .within, c .loop-test .left))
+    filled-all (c .before .before .args .terms .now) (l .inv .filled) refl (omega (arith, l .inv .within, c .loop-test .left))
 
 pub write-spec : {M : Type 1} → statement M
 write-spec =
