@@ -27,7 +27,7 @@ use Rattle.poly.specs.Lists.{Falling}
 use Rattle.poly.specs.list.Falling.{falling-keys}
 use Rattle.poly.specs.key.Terms.{poly-lead}
 use Rattle.poly.specs.division.GreatestExponents.{most-exponents, sizes}
-use Rattle.poly.specs.division.Dense.{Reduced, zeros-reduced, dense, dense-zero}
+use Rattle.poly.specs.division.Dense.{zeros-reduced, dense, dense-zero}
 use Rattle.poly.specs.division.Spread.{spread-length, spread-reduced, spread-dense}
 use Rattle.poly.specs.division.Steps.{by-lists, found-few}
 use Rattle.poly.specs.division.ModelLaws.{model-division}
@@ -54,14 +54,8 @@ pub no-cells-empty : Empty no-cells
 unfolding no-cells
 no-cells-empty = record { long = length-replicate {A = ℕ} keys 0; zeros = λ i. replicate-all (λ n. n ≡ 0) keys i 0 0 refl refl }
 
--- a list spread over them
+-- a list spread over them means itself
 module _ (p : ℕ) (P : Prime p) (f : List ℕ) (hf : Falling p keys f) (l : List ℕ) (empty : Empty l) where
-  begun-long : length (spread f l) ≡ keys
-  begun-long = spread-length f l ∙ empty .long
-
-  begun-reduced : Reduced p (spread f l)
-  begun-reduced = spread-reduced p f l keys hf (zeros-reduced p l (prime-positive P) (empty .zeros))
-
   begun-means : dense p P (spread f l) ≡ poly p P f
   begun-means =
       spread-dense p P f l keys hf (omega (arith, empty .long)) (λ i h. empty .zeros i)
@@ -110,7 +104,8 @@ module _ (p : ℕ) (P : Prime p) (t : ℕ) (ts : List ℕ) (u : ℕ) (us : List 
       by-lists p (t ∷ ts) (u ∷ us) l c (λ qs o. Division (Modulo p P .ring) (poly p P (t ∷ ts)) (poly p P (u ∷ us)) (terms-of p P qs) (o .whole)) too-wide
       (λ e.
       model-division p P word t ts u us hf hg (setting p (t ∷ ts) (u ∷ us) .inverse) lead-inverse (setting p (t ∷ ts) (u ∷ us) .bound) (spare e)
-      (spread (t ∷ ts) l) c (begun-long p P (t ∷ ts) hf l empty) (begun-reduced p P (t ∷ ts) hf l empty) (begun-means p P (t ∷ ts) hf l empty))
+      (spread (t ∷ ts) l) c (spread-length (t ∷ ts) l ∙ empty .long)
+      (spread-reduced p (t ∷ ts) l keys hf (zeros-reduced p l (prime-positive P) (empty .zeros))) (begun-means p P (t ∷ ts) hf l empty))
 
 -- two lists that are not empty and fall, modulo a number within a coefficient's place
 pub record Dividing (p : ℕ) (f g : List ℕ) : Type 0 where

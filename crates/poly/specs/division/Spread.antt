@@ -39,17 +39,19 @@ spread-above (t ∷ ts) l i h =
     spread-above ts (set l (key-of t) (coefficient-of t)) i (λ j b. h (suc j) (omega arith))
     ∙ getD-set-other l (key-of t) i (coefficient-of t) 0 (λ e. omega arith)
 
-pub gather-passed : (k : ℕ) (l : List ℕ) → getD l k 0 ≡ 0 → gathered (suc k) l ≡ gathered k l
-unfolding gathered
-gather-passed k l e = rw (eq-eqb _ _ e, gathered)
+-- from k down to j
+module _ {j k : ℕ} (e : k ≡ suc j) (l : List ℕ) where
+  pub gather-passed : getD l j 0 ≡ 0 → gathered k l ≡ gathered j l
+  unfolding gathered
+  gather-passed z = rw (e, eq-eqb _ _ z, gathered)
 
-pub gather-taken : (k : ℕ) (l : List ℕ) → ¬ (getD l k 0 ≡ 0) → gathered (suc k) l ≡ keyed k (getD l k 0) ∷ gathered k l
-unfolding gathered
-gather-taken k l e = rw (ne-eqb _ _ e, gathered)
+  pub gather-taken : ¬ (getD l j 0 ≡ 0) → gathered k l ≡ keyed j (getD l j 0) ∷ gathered j l
+  unfolding gathered
+  gather-taken n = rw (e, ne-eqb _ _ n, gathered)
 
 gather-step : (k : ℕ) (l m : List ℕ) → getD l k 0 ≡ getD m k 0 → gathered k l ≡ gathered k m → Dec (getD l k 0 ≡ 0) → gathered (suc k) l ≡ gathered (suc k) m
-gather-step k l m e h (yes z) = gather-passed k l z ∙ h ∙ sym (gather-passed k m (sym e ∙ z))
-gather-step k l m e h (no n) = gather-taken k l n ∙ ap₂ (λ (c : ℕ) (r : List ℕ). keyed k c ∷ r) e h ∙ sym (gather-taken k m (λ z. n (e ∙ z)))
+gather-step k l m e h (yes z) = gather-passed refl l z ∙ h ∙ sym (gather-passed refl m (sym e ∙ z))
+gather-step k l m e h (no n) = gather-taken refl l n ∙ ap₂ (λ (c : ℕ) (r : List ℕ). keyed k c ∷ r) e h ∙ sym (gather-taken refl m (λ z. n (e ∙ z)))
 
 -- only the cells below k count
 gather-set : (k j v : ℕ) (l : List ℕ) → k ≤ j → gathered k (set l j v) ≡ gathered k l
@@ -71,12 +73,12 @@ gather-falling p w zero l b m red = tt
 gather-falling p w (suc k) l b m red = go (ℕ-discrete (getD l k 0) 0) (λ c n. gather-falling p w k l c n red)
   where
     go : Dec (getD l k 0 ≡ 0) → ((c : ℕ) → k ≤ c → Falling p c (gathered k l)) → Falling p b (gathered (suc k) l)
-    go (yes z) again = subst (Falling p b) (sym (gather-passed k l z)) (again b (omega arith))
+    go (yes z) again = subst (Falling p b) (sym (gather-passed refl l z)) (again b (omega arith))
     go (no n) again =
         let r = red k in
         let ek : key-of (keyed k (getD l k 0)) ≡ k = key-of-term k (getD l k 0) (omega arith) in
         let ec : coefficient-of (keyed k (getD l k 0)) ≡ getD l k 0 = coefficient-of-term k (getD l k 0) (omega arith) in
-        subst (Falling p b) (sym (gather-taken k l n)) (omega arith, omega arith, omega arith, again (key-of (keyed k (getD l k 0))) (omega arith))
+        subst (Falling p b) (sym (gather-taken refl l n)) (omega arith, omega arith, omega arith, again (key-of (keyed k (getD l k 0))) (omega arith))
 
 module _ (p : ℕ) (P : Prime p) where
   abbrev R : CommRing
@@ -108,12 +110,12 @@ module _ (p : ℕ) (P : Prime p) where
 
       go : Dec (getD l k 0 ≡ 0) → ((l′ : List ℕ) → k ≤ length l′ → Reduced p l′ → Clear k l′ → poly p P (gathered k l′) ≡ dense p P l′)
           → poly p P (gathered (suc k) l) ≡ dense p P l
-      go (yes e) again = ap (poly p P) (gather-passed k l e) ∙ again l (omega arith) red (clear-one-less k l e z)
+      go (yes e) again = ap (poly p P) (gather-passed refl l e) ∙ again l (omega arith) red (clear-one-less k l e z)
       go (no n) again =
           let v = getD l k 0 in
           let lv : v < coefficient-limit = let r = red k in omega arith in
           let M : Fp p → S4 R .Car = monomial R (exponents k) in
-          ap (poly p P) (gather-taken k l n)
+          ap (poly p P) (gather-taken refl l n)
           ∙ ap₂ (S4 R .add) (ap₂ (λ (i j : ℕ). monomial R (exponents i) (el p j)) (key-of-term k v lv) (coefficient-of-term k v lv))
           (ap (poly p P) (sym (gather-set k k 0 l (omega arith)))
           ∙ again (set l k 0) (subst (λ (n : ℕ). k ≤ n) (sym (length-set l k 0)) (omega arith)) (set-reduced p l k 0 (prime-positive P) red) cleared

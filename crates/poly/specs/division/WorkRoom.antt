@@ -50,10 +50,7 @@ module _ (n : ℕ) where
       let b : key-of t + 0 < n = h 0 (omega arith) in
       drop-spread ts (set l (key-of t) (coefficient-of t)) (later 0 n t ts h) ∙ drop-set-lt n l (key-of t) (coefficient-of t) (omega arith)
 
--- what stands behind the remainder's cells settles the two other parts
-pub same-quotient-cells : (l m : List ℕ) → drop keys l ≡ drop keys m → quotient-cells l ≡ quotient-cells m
-same-quotient-cells l m e = ap (take keys) e
-
+-- what stands behind the remainder's cells settles what is beyond
 pub same-beyond : (l m : List ℕ) → drop keys l ≡ drop keys m → beyond l ≡ beyond m
 same-beyond l m e = sym (drop-drop keys keys l) ∙ ap (drop keys) e ∙ drop-drop keys keys m
 
