@@ -21,23 +21,19 @@ use Rattle.poly.specs.Keys.{exponents}
 use Rattle.poly.specs.Terms.{key-of, coefficient-of, poly, coefficient-limit, keyed}
 use Rattle.poly.specs.Lists.{Falling}
 use Rattle.poly.specs.key.Terms.{key-of-term, coefficient-of-term}
+use Rattle.poly.specs.list.Falling.{falling-coefficient}
+use Rattle.poly.specs.list.Folds.{fold-keeps}
 use Rattle.field.specs.loops.Places.{set-all, Clear, clear-one-less}
 use Rattle.poly.specs.division.Dense.{Reduced, dense, dense-set, dense-store, dense-zero, set-reduced}
 use Rattle.poly.specs.division.SpreadModel.{spread, gathered}
 
 pub spread-length : (ts l : List ℕ) → length (spread ts l) ≡ length l
-unfolding fold
-spread-length [] l = refl
-spread-length (t ∷ ts) l = spread-length ts (set l (key-of t) (coefficient-of t)) ∙ length-set l _ _
+spread-length ts l = fold-keeps (λ t. Unit {0}) (λ m. length m ≡ length l) (λ t m u e. length-set m _ _ ∙ e) ts (λ i b. tt) l refl
 
 -- a cell above every key stays as it is
 pub spread-above : (ts l : List ℕ) (i : ℕ) → ((j : ℕ) → j < length ts → key-of (getD ts j 0) < i) → getD (spread ts l) i 0 ≡ getD l i 0
-unfolding fold
-spread-above [] l i h = refl
-spread-above (t ∷ ts) l i h =
-    let first : key-of t < i = h 0 (omega arith) in
-    spread-above ts (set l (key-of t) (coefficient-of t)) i (λ j b. h (suc j) (omega arith))
-    ∙ getD-set-other l (key-of t) i (coefficient-of t) 0 (λ e. omega arith)
+spread-above ts l i h =
+    fold-keeps (λ t. key-of t < i) (λ m. getD m i 0 ≡ getD l i 0) (λ t m b e. getD-set-other m _ i _ 0 (λ q. omega arith) ∙ e) ts h l refl
 
 -- from k down to j
 module _ {j k : ℕ} (e : k ≡ suc j) (l : List ℕ) where
@@ -62,10 +58,8 @@ gather-set (suc k) j v l h =
     (ℕ-discrete (getD (set l j v) k 0) 0)
 
 pub spread-reduced : (p : ℕ) (ts l : List ℕ) (b : ℕ) → Falling p b ts → Reduced p l → Reduced p (spread ts l)
-unfolding fold
-spread-reduced p [] l b h red = red
-spread-reduced p (t ∷ ts) l b h red =
-    spread-reduced p ts (set l (key-of t) (coefficient-of t)) (key-of t) (h .3) (set-reduced p l (key-of t) (coefficient-of t) (h .2) red)
+spread-reduced p ts l b h =
+    fold-keeps (λ t. coefficient-of t < p) (Reduced p) (λ t m c red. set-reduced p m _ _ c red) ts (falling-coefficient p b ts h) l
 
 pub gather-falling : (p : ℕ) → p ≤ coefficient-limit → (k : ℕ) (l : List ℕ) (b : ℕ) → k ≤ b → Reduced p l → Falling p b (gathered k l)
 unfolding gathered

@@ -1,6 +1,6 @@
 -- The division on cells goes on by one cell: a cell that is 0 is passed, a leading term that can be divided is taken away, one that cannot ends it.
 -- The outcome and the terms found go the same way, so what each step keeps holds of both.
-use mathlib.Core.Path.{_≡_, refl, sym, ap, _∙_, subst}
+use mathlib.Core.Path.{_≡_, refl, ap}
 use mathlib.Core.Bool.{Bool, true, false}
 use mathlib.Core.List.{List, [], _∷_}
 use Prim.Native.Nat.{ℕ, zero, suc, _-_, _≤_}

@@ -1,7 +1,7 @@
 -- The table of powers holds the powers, below p, and nothing else does.
 use mathlib.Core.Path.{_≡_, refl, sym, ap, _∙_, subst}
 use mathlib.Core.List.{List}
-use Prim.Native.Nat.{ℕ, zero, suc, _-_, _*_, _^_, _%_, _≤_, _<_}
+use Prim.Native.Nat.{ℕ, zero, suc, _*_, _^_, _%_, _<_}
 use native.Mathlib.Nat.{mod-lt, mod-mod, pow-zero, pow-suc}
 use native.Mathlib.Omega.{arith}
 use lib.ListN.{getD}
