@@ -4,6 +4,7 @@ use mathlib.Core.Bool.{Bool, true, false}
 use mathlib.Core.List.{List}
 use Prim.Native.Nat.{ℕ, _+_, _-_, _≤_, _<_}
 use native.Mathlib.Omega.{arith}
+use borrow.Author.Needs.{needs}
 use lib.ListN.{getD, take, drop}
 use Rattle.algebra.specs.Division.{Division}
 use Rattle.field.specs.Prime.{Prime}
@@ -16,7 +17,7 @@ use Rattle.field.specs.declared.elements.Element.{Element}
 use Rattle.poly.specs.Keys.{keys}
 use Rattle.poly.specs.Terms.{key-of, coefficient-of, terms-of, poly}
 use Rattle.poly.specs.Room.{work-room, zeroed, cleared}
-use Rattle.poly.specs.TrialDivision.{CanDivide}
+use Rattle.poly.specs.TrialDivision.{CanDivide, TrialDivision}
 use Rattle.poly.specs.list.Falling.{falling-coefficient, falling-keys, falling-first, falling-positive}
 use Rattle.poly.specs.rooms.Laws.{zeroed-length, zeroed-at, zeroed-beyond, zeroed-same}
 use Rattle.poly.specs.division.Spread.{spread-length, spread-above}
@@ -74,18 +75,8 @@ module _ (p : ℕ) (f g work : List ℕ) (can : CanDivide p f g work) where
     pub cleared-begins : CanBegin p f g (zeroed n work)
     cleared-begins =
         let r = can .room in
-        record {
-          lists =
-              record {
-                is-listed = can .is-listed;
-                some-dividend = can .some-dividend;
-                dividend-falls = can .dividend-falls;
-                some-divisor = can .some-divisor;
-                divisor-falls = can .divisor-falls;
-                room = let e = zeroed-length n work (omega arith) in omega arith;
-              };
-          empty = λ i h. zeroed-at n work i (omega arith);
-        }
+        let e = zeroed-length n work (omega arith) in
+        record { lists = search needs; empty = λ i h. zeroed-at n work i (omega arith) }
 
     -- the room around it: as it was beyond, and cleared again
     module _ (begun after : List ℕ) (whole : Bool) (clears : begun ≡ zeroed n work) (ran : Divided p f g begun after whole) where
@@ -107,3 +98,6 @@ module _ (p : ℕ) (f g work : List ℕ) (can : CanDivide p f g work) where
           subst (Division (Modulo p P .ring) (poly p P f) (poly p P g) (terms-of p P (found p f g (remainder-cells begun))))
           (ap (λ (o : Outcome). o .whole) (sym (ran .outcome)))
           (divided-division p P f g (dividing can) (remainder-cells begun) (quotient-cells begun) begun-empty)
+
+      pub cleared-trial : {end : List ℕ} → end ≡ zeroed work-room after → TrialDivision p f g work end whole
+      cleared-trial e = record { quotient = found p f g (remainder-cells begun); division = cleared-division; room = cleared-room _ e }

@@ -4,6 +4,7 @@ use mathlib.Core.Bool.{Bool, true, false, true≢false}
 use mathlib.Core.List.{List, [], _∷_}
 use Prim.Native.Nat.{ℕ, _-_, _≤_, _<_}
 use native.Mathlib.Omega.{arith}
+use borrow.Author.Needs.{needs}
 use lib.ListN.{length, getD, replicate, length-map, length-replicate}
 use native.Mathlib.Decide.{decLt}
 use Rattle.algebra.specs.SeriesRing.{S4}
@@ -116,14 +117,7 @@ pub record Dividing (p : ℕ) (f g : List ℕ) : Type 0 where
   pub divisor-falls : Falling p keys g
 
 pub dividing : {p : ℕ} {f g work : List ℕ} → CanDivide p f g work → Dividing p f g
-dividing can =
-    record {
-      word = let w = listed-below (can .is-listed) in omega arith;
-      some-dividend = can .some-dividend;
-      dividend-falls = can .dividend-falls;
-      some-divisor = can .some-divisor;
-      divisor-falls = can .divisor-falls;
-    }
+dividing can = let w = listed-below (can .is-listed) in search needs
 
 -- at most one term for each key
 pub found-terms-few : (p : ℕ) (f g l : List ℕ) → length (found p f g l) ≤ keys

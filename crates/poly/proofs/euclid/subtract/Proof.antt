@@ -61,9 +61,7 @@ loop-again c =
 
 returns : tie.Need-returns Inv-loop μ-loop
 unfolding subtract
-returns c =
-    let l = c .before .loop in
-    filled-end (l .inv .filled) (omega arith)
+returns c = filled-end (c .before .loop .inv .filled) (omega arith)
 
 pub subtract-spec : {M : Type 1} → statement M
 subtract-spec =
