@@ -2,6 +2,7 @@
 pub mod Model
 pub mod Laws
 pub mod Falling
+pub mod Folds
 pub mod Right
 pub mod Check
 pub mod Leading

@@ -1,9 +1,10 @@
 -- What the search of the first wrong term keeps: no term before i is wrong, and the key before is at hand.
-use mathlib.Core.Path.{_≡_, refl, sym, _∙_}
+use mathlib.Core.Path.{_≡_, refl, sym, ap, _∙_}
 use mathlib.Core.Bool.{Bool, true, false, _&&_, true≢false}
 use mathlib.Core.List.{List}
 use mathlib.Mathlib.Data.Bool.Basic.{and-elim-left, and-elim-right}
 use Prim.Native.Nat.{ℕ, _+_, _≤_, _<_}
+use native.Mathlib.Numerals.{add-one}
 use native.Mathlib.Omega.{arith}
 use lib.Dec.{ltb}
 use lib.ListN.{length, getD}
@@ -15,7 +16,7 @@ use Rattle.poly.specs.Search.{Searched}
 use Rattle.poly.specs.list.Searching.{Searching}
 use Rattle.poly.specs.list.Model.{key-before}
 use Rattle.poly.specs.list.Search.{search-begins, search-goes-on, search-stops, search-ends}
-use Rattle.poly.specs.list.Check.{key-before-first, key-before-next, key-is-wrong, term-is-right}
+use Rattle.poly.specs.list.Check.{key-is-wrong, term-is-right}
 
 pub record Walked (bound : ℕ) (ts : List ℕ) (before i : ℕ) : Type 0 where
   pub searching : Searching (WrongModulo bound ts) (length ts) i
@@ -24,7 +25,8 @@ pub record Walked (bound : ℕ) (ts : List ℕ) (before i : ℕ) : Type 0 where
 
 module _ (bound : ℕ) (ts : List ℕ) where
   pub walk-begins : Walked bound ts keys 0
-  walk-begins = record { searching = search-begins; key = sym (key-before-first ts); in-range = omega arith }
+  unfolding key-before
+  walk-begins = record { searching = search-begins; key = refl; in-range = omega arith }
 
   pub walk-ends : (before i : ℕ) → Walked bound ts before i → length ts ≤ i → Searched (WrongModulo bound ts) (length ts) i
   walk-ends before i h l = search-ends (h .searching) l
@@ -49,9 +51,10 @@ module _ (bound : ℕ) (ts : List ℕ) where
     walk-stops e = search-stops (h .searching) (wrong-by _ _ _ refl refl refl e)
 
     pub walk-goes-on : (ltb k before && (ltb 0 c && ltb c bound)) ≡ true → Walked bound ts k (i + 1)
+    unfolding key-before
     walk-goes-on e =
         record {
           searching = search-goes-on (h .searching) l (term-right e);
-          key = ek ∙ sym (key-before-next ts i);
+          key = ek ∙ ap (key-before ts) (sym (add-one i));
           in-range = omega (arith, h .in-range, ltb-true k before (and-elim-left _ _ e));
         }

@@ -4,7 +4,8 @@ use mathlib.Core.Bool.{Bool, true, false}
 use mathlib.Core.List.{List}
 use Prim.Native.Nat.{ℕ, _+_, _-_, _≤_, _<_}
 use native.Mathlib.Omega.{arith}
-use lib.ListN.{getD, drop}
+use borrow.Author.Needs.{needs}
+use lib.ListN.{getD, take, drop}
 use Rattle.algebra.specs.Division.{Division}
 use Rattle.field.specs.Prime.{Prime}
 use Rattle.field.specs.Fp.{el, inv}
@@ -16,28 +17,21 @@ use Rattle.field.specs.declared.elements.Element.{Element}
 use Rattle.poly.specs.Keys.{keys}
 use Rattle.poly.specs.Terms.{key-of, coefficient-of, terms-of, poly}
 use Rattle.poly.specs.Room.{work-room, zeroed, cleared}
-use Rattle.poly.specs.TrialDivision.{CanDivide}
+use Rattle.poly.specs.TrialDivision.{CanDivide, TrialDivision}
 use Rattle.poly.specs.list.Falling.{falling-coefficient, falling-keys, falling-first, falling-positive}
 use Rattle.poly.specs.rooms.Laws.{zeroed-length, zeroed-at, zeroed-beyond, zeroed-same}
 use Rattle.poly.specs.division.Spread.{spread-length, spread-above}
-use Rattle.poly.specs.division.WorkRoom.{take-spread, drop-spread, same-quotient-cells, same-beyond, remainder-empty}
+use Rattle.poly.specs.division.WorkRoom.{take-spread, drop-spread, same-beyond, remainder-empty}
 use Rattle.poly.specs.division.Ends.{Empty, dividing, divided-division}
 use Rattle.poly.specs.division.SpreadModel.{spread}
 use Rattle.poly.specs.division.Model.{most-key, at-most, Setting, Outcome, divide-from, setting, divided, found}
 use Rattle.poly.specs.division.WorkRoomModel.{remainder-cells, quotient-cells, beyond, CanStep, Stepped, CanBegin, Divided}
 
-divided-wide : (p : ℕ) (f g l c : List ℕ) → at-most (most-key g) (most-key f) ≡ false → divided p f g l c ≡ record { whole = false; quotient = c }
-unfolding divided
-divided-wide p f g l c e = rw (e, divided)
-
-divided-runs : (p : ℕ) (f g l c : List ℕ) → at-most (most-key g) (most-key f) ≡ true → divided p f g l c ≡ divide-from (setting p f g) keys (spread f l) c
-unfolding divided
-divided-runs p f g l c e = rw (e, divided)
-
 module _ (p : ℕ) (f g work : List ℕ) (can : CanDivide p f g work) where
   -- some greatest exponent of the divisor is above the dividend's
   pub begun-wide : at-most (most-key g) (most-key f) ≡ false → Divided p f g work work false
-  begun-wide e = record { outcome = sym (divided-wide p f g (remainder-cells work) (quotient-cells work) e); rest = refl }
+  unfolding divided
+  begun-wide e = record { outcome = rw (e, divided); rest = refl }
 
   -- the divisor's leading coefficient has an inverse
   module _ (a : Element) (em : a .modulus ≡ p) (ev : a .value ≡ coefficient-of (getD g 0 0)) where
@@ -65,14 +59,14 @@ module _ (p : ℕ) (f g work : List ℕ) (can : CanDivide p f g work) where
         })
 
     pub begun-ends : at-most (most-key g) (most-key f) ≡ true → (after : List ℕ) (whole : Bool) → Stepped d begun after whole → Divided p f g work after whole
+    unfolding divided
     begun-ends e after whole s =
         let b = falling-keys p keys f (can .dividend-falls) in
         record {
           outcome =
-              s .outcome ∙ ap₂ (λ (x : Setting) (l : List ℕ). divide-from x keys (remainder-cells l) (quotient-cells l)) is spreads
-              ∙ ap₂ (λ (l c : List ℕ). divide-from (setting p f g) keys l c) (take-spread keys f work b)
-              (same-quotient-cells (spread f work) work (drop-spread keys f work b))
-              ∙ sym (divided-runs p f g (remainder-cells work) (quotient-cells work) e);
+              rw (e, divided)
+              (s .outcome ∙ ap₂ (λ (x : Setting) (l : List ℕ). divide-from x keys (remainder-cells l) (quotient-cells l)) is spreads
+              ∙ ap₂ (divide-from (setting p f g) keys) (take-spread keys f work b) (ap (take keys) (drop-spread keys f work b)));
           rest = s .rest ∙ ap beyond spreads ∙ same-beyond (spread f work) work (drop-spread keys f work b);
         }
 
@@ -81,18 +75,8 @@ module _ (p : ℕ) (f g work : List ℕ) (can : CanDivide p f g work) where
     pub cleared-begins : CanBegin p f g (zeroed n work)
     cleared-begins =
         let r = can .room in
-        record {
-          lists =
-              record {
-                is-listed = can .is-listed;
-                some-dividend = can .some-dividend;
-                dividend-falls = can .dividend-falls;
-                some-divisor = can .some-divisor;
-                divisor-falls = can .divisor-falls;
-                room = let e = zeroed-length n work (omega arith) in omega arith;
-              };
-          empty = λ i h. zeroed-at n work i (omega arith);
-        }
+        let e = zeroed-length n work (omega arith) in
+        record { lists = search needs; empty = λ i h. zeroed-at n work i (omega arith) }
 
     -- the room around it: as it was beyond, and cleared again
     module _ (begun after : List ℕ) (whole : Bool) (clears : begun ≡ zeroed n work) (ran : Divided p f g begun after whole) where
@@ -114,3 +98,6 @@ module _ (p : ℕ) (f g work : List ℕ) (can : CanDivide p f g work) where
           subst (Division (Modulo p P .ring) (poly p P f) (poly p P g) (terms-of p P (found p f g (remainder-cells begun))))
           (ap (λ (o : Outcome). o .whole) (sym (ran .outcome)))
           (divided-division p P f g (dividing can) (remainder-cells begun) (quotient-cells begun) begun-empty)
+
+      pub cleared-trial : {end : List ℕ} → end ≡ zeroed work-room after → TrialDivision p f g work end whole
+      cleared-trial e = record { quotient = found p f g (remainder-cells begun); division = cleared-division; room = cleared-room _ e }

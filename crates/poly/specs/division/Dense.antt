@@ -25,6 +25,7 @@ use Rattle.poly.specs.Keys.{exponents}
 use Rattle.poly.specs.Terms.{key-of, coefficient-of, term-of, poly}
 use Rattle.field.specs.loops.Places.{set-all}
 use Rattle.poly.specs.key.Laws.{exponents-injective, key-order-of}
+use Rattle.poly.specs.list.Folds.{fold-keeps}
 use Rattle.poly.specs.division.Model.{less-term, less-product}
 
 -- the cells of l are numbers modulo p
@@ -43,9 +44,7 @@ MovesUp s n [] = Unit {0}
 MovesUp s n (t ∷ ts) = (key-of t + s < n) × (exponents (key-of t + s) ≡ exponents s ⊞ exponents (key-of t)) × MovesUp s n ts
 
 pub less-length : (p s q : ℕ) (ts l : List ℕ) → length (less-product p s q ts l) ≡ length l
-unfolding fold
-less-length p s q [] l = refl
-less-length p s q (t ∷ ts) l = less-length p s q ts (less-term p s q t l) ∙ length-set l _ _
+less-length p s q ts l = fold-keeps (λ t. Unit {0}) (λ m. length m ≡ length l) (λ t m u e. length-set m _ _ ∙ e) ts (λ i b. tt) l refl
 
 module _ (p : ℕ) (P : Prime p) where
   abbrev R : CommRing
@@ -168,7 +167,4 @@ module _ (p : ℕ) (P : Prime p) where
       ∙ ring4 (S4 R) (λ d m a b. (d ⊖ m ⊗ a) ⊖ m ⊗ b ≗ d ⊖ m ⊗ (a ⊕ b)) tt (dense l) (monomial R (exponents s) (el p q)) (term R (term-of p P t)) (poly p P ts)
 
   pub less-reduced : (s q : ℕ) (ts l : List ℕ) → Reduced p l → Reduced p (less-product p s q ts l)
-  unfolding fold
-  less-reduced s q [] l red = red
-  less-reduced s q (t ∷ ts) l red =
-      less-reduced s q ts (less-term p s q t l) (set-reduced p l (key-of t + s) _ (mod-lt _ (prime-positive P)) red)
+  less-reduced s q ts = fold-keeps (λ t. Unit {0}) (Reduced p) (λ t m u red. set-reduced p m _ _ (mod-lt _ (prime-positive P)) red) ts (λ i b. tt)

@@ -4,6 +4,7 @@ use mathlib.Core.Bool.{Bool, true, false, true≢false}
 use mathlib.Core.List.{List, [], _∷_}
 use Prim.Native.Nat.{ℕ, _-_, _≤_, _<_}
 use native.Mathlib.Omega.{arith}
+use borrow.Author.Needs.{needs}
 use lib.ListN.{length, getD, replicate, length-map, length-replicate}
 use native.Mathlib.Decide.{decLt}
 use Rattle.algebra.specs.SeriesRing.{S4}
@@ -27,7 +28,7 @@ use Rattle.poly.specs.Lists.{Falling}
 use Rattle.poly.specs.list.Falling.{falling-keys}
 use Rattle.poly.specs.key.Terms.{poly-lead}
 use Rattle.poly.specs.division.GreatestExponents.{most-exponents, sizes}
-use Rattle.poly.specs.division.Dense.{Reduced, zeros-reduced, dense, dense-zero}
+use Rattle.poly.specs.division.Dense.{zeros-reduced, dense, dense-zero}
 use Rattle.poly.specs.division.Spread.{spread-length, spread-reduced, spread-dense}
 use Rattle.poly.specs.division.Steps.{by-lists, found-few}
 use Rattle.poly.specs.division.ModelLaws.{model-division}
@@ -54,14 +55,8 @@ pub no-cells-empty : Empty no-cells
 unfolding no-cells
 no-cells-empty = record { long = length-replicate {A = ℕ} keys 0; zeros = λ i. replicate-all (λ n. n ≡ 0) keys i 0 0 refl refl }
 
--- a list spread over them
+-- a list spread over them means itself
 module _ (p : ℕ) (P : Prime p) (f : List ℕ) (hf : Falling p keys f) (l : List ℕ) (empty : Empty l) where
-  begun-long : length (spread f l) ≡ keys
-  begun-long = spread-length f l ∙ empty .long
-
-  begun-reduced : Reduced p (spread f l)
-  begun-reduced = spread-reduced p f l keys hf (zeros-reduced p l (prime-positive P) (empty .zeros))
-
   begun-means : dense p P (spread f l) ≡ poly p P f
   begun-means =
       spread-dense p P f l keys hf (omega (arith, empty .long)) (λ i h. empty .zeros i)
@@ -110,7 +105,8 @@ module _ (p : ℕ) (P : Prime p) (t : ℕ) (ts : List ℕ) (u : ℕ) (us : List 
       by-lists p (t ∷ ts) (u ∷ us) l c (λ qs o. Division (Modulo p P .ring) (poly p P (t ∷ ts)) (poly p P (u ∷ us)) (terms-of p P qs) (o .whole)) too-wide
       (λ e.
       model-division p P word t ts u us hf hg (setting p (t ∷ ts) (u ∷ us) .inverse) lead-inverse (setting p (t ∷ ts) (u ∷ us) .bound) (spare e)
-      (spread (t ∷ ts) l) c (begun-long p P (t ∷ ts) hf l empty) (begun-reduced p P (t ∷ ts) hf l empty) (begun-means p P (t ∷ ts) hf l empty))
+      (spread (t ∷ ts) l) c (spread-length (t ∷ ts) l ∙ empty .long)
+      (spread-reduced p (t ∷ ts) l keys hf (zeros-reduced p l (prime-positive P) (empty .zeros))) (begun-means p P (t ∷ ts) hf l empty))
 
 -- two lists that are not empty and fall, modulo a number within a coefficient's place
 pub record Dividing (p : ℕ) (f g : List ℕ) : Type 0 where
@@ -121,14 +117,7 @@ pub record Dividing (p : ℕ) (f g : List ℕ) : Type 0 where
   pub divisor-falls : Falling p keys g
 
 pub dividing : {p : ℕ} {f g work : List ℕ} → CanDivide p f g work → Dividing p f g
-dividing can =
-    record {
-      word = let w = listed-below (can .is-listed) in omega arith;
-      some-dividend = can .some-dividend;
-      dividend-falls = can .dividend-falls;
-      some-divisor = can .some-divisor;
-      divisor-falls = can .divisor-falls;
-    }
+dividing can = let w = listed-below (can .is-listed) in search needs
 
 -- at most one term for each key
 pub found-terms-few : (p : ℕ) (f g l : List ℕ) → length (found p f g l) ≤ keys

@@ -27,8 +27,7 @@ pub record Going (d : Setting) (before work : List ℕ) (k : ℕ) : Type 0 where
 module _ (d : Setting) where
   -- a cell that is 0 is passed
   pub going-passed : (work : List ℕ) (k : ℕ) → k ≤ keys → ¬ (k ≡ 0) → getD work (k - 1) 0 ≡ 0 → left-of d work k ≡ left-of d work (k - 1)
-  going-passed work k h n z =
-      division-passed d k (remainder-cells work) (quotient-cells work) n (getD-take keys work (k - 1) 0 (omega arith) ∙ z)
+  going-passed work k h n z = division-passed d _ _ (omega arith) (getD-take keys work (k - 1) 0 (omega arith) ∙ z)
 
   -- so are n of them from the cell k on
   zeros-passed : (work : List ℕ) (n k : ℕ) → k + n ≤ keys → ((i : ℕ) → k ≤ i → i < keys → getD work i 0 ≡ 0) → left-of d work (k + n) ≡ left-of d work k
@@ -51,24 +50,20 @@ module _ (d : Setting) where
         same = ap (left-of d work) e ∙ zeros-passed work (keys - top) top (omega arith) (can .above);
       }
 
-  pub going-on : (before work : List ℕ) (k j : ℕ) → Going d before work k → j ≤ k → left-of d work k ≡ left-of d work j → Going d before work j
-  going-on before work k j g h e =
+  pub going-on : {before work : List ℕ} {k j : ℕ} → Going d before work k → j ≤ k → left-of d work k ≡ left-of d work j → Going d before work j
+  going-on g h e =
       record { cells = let c = g .cells in omega arith; same-length = g .same-length; rest = g .rest; same = g .same ∙ e }
 
-  module _ (before work : List ℕ) (k : ℕ) (g : Going d before work k) where
+  module _ {before work : List ℕ} {k : ℕ} (g : Going d before work k) where
     pub going-done : k ≡ 0 → Stepped d before work true
-    going-done e = record { outcome = sym (g .same ∙ division-done d k (remainder-cells work) (quotient-cells work) e); rest = g .rest }
+    going-done e = record { outcome = sym (g .same ∙ division-done d _ _ e); rest = g .rest }
 
     module _ (n : ¬ (k ≡ 0)) (nonzero : ¬ (getD work (k - 1) 0 ≡ 0)) where
       cell : getD (remainder-cells work) (k - 1) 0 ≡ getD work (k - 1) 0
       cell = getD-take keys work (k - 1) 0 (let c = g .cells in omega arith)
 
       pub going-stopped : fits d (k - 1) ≡ false → Stepped d before work false
-      going-stopped f =
-          record {
-            outcome = sym (g .same ∙ division-stopped d k (remainder-cells work) (quotient-cells work) n (λ z. nonzero (sym cell ∙ z)) f);
-            rest = g .rest;
-          }
+      going-stopped f = record { outcome = sym (g .same ∙ division-stopped d _ _ (omega arith) (λ z. nonzero (sym cell ∙ z)) f); rest = g .rest }
 
       -- a step: the quotient's coefficient q stored, the product taken away
       module _ {top : ℕ} (can : CanStep d top before) (f : fits d (k - 1) ≡ true) where
@@ -92,8 +87,8 @@ module _ (d : Setting) where
               rest = ap beyond ea ∙ step-beyond (d .modulus) s q (d .terms) work small product-below ∙ g .rest;
               same =
                   g .same
-                  ∙ division-taken d k (remainder-cells work) (quotient-cells work) {q = q} n (λ z. nonzero (sym cell ∙ z)) f
-                  (eq ∙ ap (λ (v : ℕ). (v * d .inverse) % d .modulus) (sym cell)) refl
+                  ∙ division-taken d _ _ (omega arith) (λ z. nonzero (sym cell ∙ z)) f
+                  (eq ∙ ap (λ (v : ℕ). (v * d .inverse) % d .modulus) (sym cell))
                   ∙ ap₂ (λ (l c : List ℕ). divide-from d (k - 1) l c)
                   (sym (step-remainder (d .modulus) s q (d .terms) work small product-below) ∙ ap remainder-cells (sym ea))
                   (sym (step-quotient (d .modulus) s q (d .terms) work small product-below) ∙ ap quotient-cells (sym ea));

@@ -76,14 +76,11 @@ module _ (p : ℕ) (P : Prime p) where
         stands = λ e. r .stands (sym (poly-rest p P t (u ∷ us) (r .key) (λ q. let c = r .below in omega arith)) ∙ e);
       }
 
-  most-is : (t : ℕ) (ts : List ℕ) (b : ℕ) → Falling p b (t ∷ ts) → (v : Variable) → GreatestExponent R v (most v (t ∷ ts)) (poly p P (t ∷ ts))
-  most-is t ts b h v =
-      let r = reached v t ts b h in
-      record { within = within v (t ∷ ts); place = exponents (r .key); reached = r .is-most; stands = r .stands }
-
   pub poly-most : (t : ℕ) (ts : List ℕ) (b : ℕ) → Falling p b (t ∷ ts) → Most R (most-of (t ∷ ts)) (poly p P (t ∷ ts))
   poly-most t ts b h v =
-      subst (λ (n : ℕ). GreatestExponent R v n (poly p P (t ∷ ts))) (sym (exponent-most v (t ∷ ts))) (most-is t ts b h v)
+      let r = reached v t ts b h in
+      subst (λ (n : ℕ). GreatestExponent R v n (poly p P (t ∷ ts))) (sym (exponent-most v (t ∷ ts)))
+      (record { within = within v (t ∷ ts); place = exponents (r .key); reached = r .is-most; stands = r .stands })
 
   -- what the rule of division needs to know of two lists
   abbrev pub sizes : (t : ℕ) (ts : List ℕ) (u : ℕ) (us : List ℕ) → Falling p keys (t ∷ ts) → Falling p keys (u ∷ us)

@@ -62,12 +62,6 @@ module _ (p : ℕ) (P : Prime p) (word : p ≤ coefficient-limit) (t : ℕ) (ts 
   factor-below : (k : ℕ) (l : List ℕ) → factor d k l < p
   factor-below k l = mod-lt _ (prime-positive P)
 
-  divisor-moves : (k : ℕ) → Fits d (most-of (t ∷ ts)) (most-of (u ∷ us)) spare k → MovesUp (k - key-of u) keys (u ∷ us)
-  divisor-moves k o =
-      moves-up (k - key-of u) (most-of (t ∷ ts)) (most-of (u ∷ us)) (o .bounded)
-      (λ v. omega (arith, exponent-most v (t ∷ ts), most-small v (t ∷ ts) (falling-keys p keys (t ∷ ts) hf)))
-      (u ∷ us) (λ v. omega (arith, exponent-most v (u ∷ us)))
-
   -- a cell that is not 0 and can be divided
   module _ (k : ℕ) (l : List ℕ) (long : length l ≡ keys) (red : Reduced p l) (zeros : Clear (suc k) l) (nonzero : ¬ (getD l k 0 ≡ 0)) where
     leads : Lead R (exponents k) (dense p P l)
@@ -103,7 +97,11 @@ module _ (p : ℕ) (P : Prime p) (word : p ≤ coefficient-limit) (t : ℕ) (ts 
           }
 
       fitting : MovesUp s (length l) (u ∷ us)
-      fitting = subst (λ (m : ℕ). MovesUp s m (u ∷ us)) (sym long) (divisor-moves k taken)
+      fitting =
+          subst (λ (m : ℕ). MovesUp s m (u ∷ us)) (sym long)
+          (moves-up s (most-of (t ∷ ts)) (most-of (u ∷ us)) (taken .bounded)
+          (λ v. omega (arith, exponent-most v (t ∷ ts), most-small v (t ∷ ts) (falling-keys p keys (t ∷ ts) hf)))
+          (u ∷ us) (λ v. omega (arith, exponent-most v (u ∷ us))))
 
       times-lead : mul (el p (coefficient-of T)) (coef R G (exponents (key-of u))) ≡ coef R (dense p P l) (exponents k)
       times-lead =

@@ -21,35 +21,33 @@ use Rattle.poly.specs.Keys.{exponents}
 use Rattle.poly.specs.Terms.{key-of, coefficient-of, poly, coefficient-limit, keyed}
 use Rattle.poly.specs.Lists.{Falling}
 use Rattle.poly.specs.key.Terms.{key-of-term, coefficient-of-term}
+use Rattle.poly.specs.list.Falling.{falling-coefficient}
+use Rattle.poly.specs.list.Folds.{fold-keeps}
 use Rattle.field.specs.loops.Places.{set-all, Clear, clear-one-less}
 use Rattle.poly.specs.division.Dense.{Reduced, dense, dense-set, dense-store, dense-zero, set-reduced}
 use Rattle.poly.specs.division.SpreadModel.{spread, gathered}
 
 pub spread-length : (ts l : List ℕ) → length (spread ts l) ≡ length l
-unfolding fold
-spread-length [] l = refl
-spread-length (t ∷ ts) l = spread-length ts (set l (key-of t) (coefficient-of t)) ∙ length-set l _ _
+spread-length ts l = fold-keeps (λ t. Unit {0}) (λ m. length m ≡ length l) (λ t m u e. length-set m _ _ ∙ e) ts (λ i b. tt) l refl
 
 -- a cell above every key stays as it is
 pub spread-above : (ts l : List ℕ) (i : ℕ) → ((j : ℕ) → j < length ts → key-of (getD ts j 0) < i) → getD (spread ts l) i 0 ≡ getD l i 0
-unfolding fold
-spread-above [] l i h = refl
-spread-above (t ∷ ts) l i h =
-    let first : key-of t < i = h 0 (omega arith) in
-    spread-above ts (set l (key-of t) (coefficient-of t)) i (λ j b. h (suc j) (omega arith))
-    ∙ getD-set-other l (key-of t) i (coefficient-of t) 0 (λ e. omega arith)
+spread-above ts l i h =
+    fold-keeps (λ t. key-of t < i) (λ m. getD m i 0 ≡ getD l i 0) (λ t m b e. getD-set-other m _ i _ 0 (λ q. omega arith) ∙ e) ts h l refl
 
-pub gather-passed : (k : ℕ) (l : List ℕ) → getD l k 0 ≡ 0 → gathered (suc k) l ≡ gathered k l
-unfolding gathered
-gather-passed k l e = rw (eq-eqb _ _ e, gathered)
+-- from k down to j
+module _ {j k : ℕ} (e : k ≡ suc j) (l : List ℕ) where
+  pub gather-passed : getD l j 0 ≡ 0 → gathered k l ≡ gathered j l
+  unfolding gathered
+  gather-passed z = rw (e, eq-eqb _ _ z, gathered)
 
-pub gather-taken : (k : ℕ) (l : List ℕ) → ¬ (getD l k 0 ≡ 0) → gathered (suc k) l ≡ keyed k (getD l k 0) ∷ gathered k l
-unfolding gathered
-gather-taken k l e = rw (ne-eqb _ _ e, gathered)
+  pub gather-taken : ¬ (getD l j 0 ≡ 0) → gathered k l ≡ keyed j (getD l j 0) ∷ gathered j l
+  unfolding gathered
+  gather-taken n = rw (e, ne-eqb _ _ n, gathered)
 
 gather-step : (k : ℕ) (l m : List ℕ) → getD l k 0 ≡ getD m k 0 → gathered k l ≡ gathered k m → Dec (getD l k 0 ≡ 0) → gathered (suc k) l ≡ gathered (suc k) m
-gather-step k l m e h (yes z) = gather-passed k l z ∙ h ∙ sym (gather-passed k m (sym e ∙ z))
-gather-step k l m e h (no n) = gather-taken k l n ∙ ap₂ (λ (c : ℕ) (r : List ℕ). keyed k c ∷ r) e h ∙ sym (gather-taken k m (λ z. n (e ∙ z)))
+gather-step k l m e h (yes z) = gather-passed refl l z ∙ h ∙ sym (gather-passed refl m (sym e ∙ z))
+gather-step k l m e h (no n) = gather-taken refl l n ∙ ap₂ (λ (c : ℕ) (r : List ℕ). keyed k c ∷ r) e h ∙ sym (gather-taken refl m (λ z. n (e ∙ z)))
 
 -- only the cells below k count
 gather-set : (k j v : ℕ) (l : List ℕ) → k ≤ j → gathered k (set l j v) ≡ gathered k l
@@ -60,10 +58,8 @@ gather-set (suc k) j v l h =
     (ℕ-discrete (getD (set l j v) k 0) 0)
 
 pub spread-reduced : (p : ℕ) (ts l : List ℕ) (b : ℕ) → Falling p b ts → Reduced p l → Reduced p (spread ts l)
-unfolding fold
-spread-reduced p [] l b h red = red
-spread-reduced p (t ∷ ts) l b h red =
-    spread-reduced p ts (set l (key-of t) (coefficient-of t)) (key-of t) (h .3) (set-reduced p l (key-of t) (coefficient-of t) (h .2) red)
+spread-reduced p ts l b h =
+    fold-keeps (λ t. coefficient-of t < p) (Reduced p) (λ t m c red. set-reduced p m _ _ c red) ts (falling-coefficient p b ts h) l
 
 pub gather-falling : (p : ℕ) → p ≤ coefficient-limit → (k : ℕ) (l : List ℕ) (b : ℕ) → k ≤ b → Reduced p l → Falling p b (gathered k l)
 unfolding gathered
@@ -71,12 +67,12 @@ gather-falling p w zero l b m red = tt
 gather-falling p w (suc k) l b m red = go (ℕ-discrete (getD l k 0) 0) (λ c n. gather-falling p w k l c n red)
   where
     go : Dec (getD l k 0 ≡ 0) → ((c : ℕ) → k ≤ c → Falling p c (gathered k l)) → Falling p b (gathered (suc k) l)
-    go (yes z) again = subst (Falling p b) (sym (gather-passed k l z)) (again b (omega arith))
+    go (yes z) again = subst (Falling p b) (sym (gather-passed refl l z)) (again b (omega arith))
     go (no n) again =
         let r = red k in
         let ek : key-of (keyed k (getD l k 0)) ≡ k = key-of-term k (getD l k 0) (omega arith) in
         let ec : coefficient-of (keyed k (getD l k 0)) ≡ getD l k 0 = coefficient-of-term k (getD l k 0) (omega arith) in
-        subst (Falling p b) (sym (gather-taken k l n)) (omega arith, omega arith, omega arith, again (key-of (keyed k (getD l k 0))) (omega arith))
+        subst (Falling p b) (sym (gather-taken refl l n)) (omega arith, omega arith, omega arith, again (key-of (keyed k (getD l k 0))) (omega arith))
 
 module _ (p : ℕ) (P : Prime p) where
   abbrev R : CommRing
@@ -108,12 +104,12 @@ module _ (p : ℕ) (P : Prime p) where
 
       go : Dec (getD l k 0 ≡ 0) → ((l′ : List ℕ) → k ≤ length l′ → Reduced p l′ → Clear k l′ → poly p P (gathered k l′) ≡ dense p P l′)
           → poly p P (gathered (suc k) l) ≡ dense p P l
-      go (yes e) again = ap (poly p P) (gather-passed k l e) ∙ again l (omega arith) red (clear-one-less k l e z)
+      go (yes e) again = ap (poly p P) (gather-passed refl l e) ∙ again l (omega arith) red (clear-one-less k l e z)
       go (no n) again =
           let v = getD l k 0 in
           let lv : v < coefficient-limit = let r = red k in omega arith in
           let M : Fp p → S4 R .Car = monomial R (exponents k) in
-          ap (poly p P) (gather-taken k l n)
+          ap (poly p P) (gather-taken refl l n)
           ∙ ap₂ (S4 R .add) (ap₂ (λ (i j : ℕ). monomial R (exponents i) (el p j)) (key-of-term k v lv) (coefficient-of-term k v lv))
           (ap (poly p P) (sym (gather-set k k 0 l (omega arith)))
           ∙ again (set l k 0) (subst (λ (n : ℕ). k ≤ n) (sym (length-set l k 0)) (omega arith)) (set-reduced p l k 0 (prime-positive P) red) cleared

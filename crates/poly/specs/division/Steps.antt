@@ -1,6 +1,6 @@
 -- The division on cells goes on by one cell: a cell that is 0 is passed, a leading term that can be divided is taken away, one that cannot ends it.
 -- The outcome and the terms found go the same way, so what each step keeps holds of both.
-use mathlib.Core.Path.{_≡_, refl, sym, ap, _∙_, subst}
+use mathlib.Core.Path.{_≡_, refl, ap}
 use mathlib.Core.Bool.{Bool, true, false}
 use mathlib.Core.List.{List, [], _∷_}
 use Prim.Native.Nat.{ℕ, zero, suc, _-_, _≤_}
@@ -14,54 +14,25 @@ use Rattle.poly.specs.division.SpreadModel.{spread}
 use Rattle.poly.specs.division.Model.{most-key, at-most, Setting, less-product, fits, factor, less, Outcome, divide-from, found-from, setting}
 use Rattle.poly.specs.division.Model.{divided, found}
 
-module _ (d : Setting) where
-  outcome-passed : (k : ℕ) (l c : List ℕ) → getD l k 0 ≡ 0 → divide-from d (suc k) l c ≡ divide-from d k l c
+-- the outcome, as the code takes its steps: from k down to j
+module _ (d : Setting) (l c : List ℕ) where
+  pub division-done : {k : ℕ} → k ≡ 0 → divide-from d k l c ≡ record { whole = true; quotient = c }
   unfolding divide-from
-  outcome-passed k l c e = rw (eq-eqb _ _ e, divide-from)
+  division-done e = ap (λ (n : ℕ). divide-from d n l c) e
 
-  outcome-taken : (k : ℕ) (l c : List ℕ) → ¬ (getD l k 0 ≡ 0) → fits d k ≡ true
-      → divide-from d (suc k) l c ≡ divide-from d k (less d k l) (set c (k - d .lead) (factor d k l))
-  unfolding divide-from
-  outcome-taken k l c n f = rw (ne-eqb _ _ n, divide-from) (rw (f, divide-from))
+  module _ {j k : ℕ} (e : k ≡ suc j) where
+    pub division-passed : getD l j 0 ≡ 0 → divide-from d k l c ≡ divide-from d j l c
+    unfolding divide-from
+    division-passed z = rw (e, eq-eqb _ _ z, divide-from)
 
-  outcome-stopped : (k : ℕ) (l c : List ℕ) → ¬ (getD l k 0 ≡ 0) → fits d k ≡ false
-      → divide-from d (suc k) l c ≡ record { whole = false; quotient = c }
-  unfolding divide-from
-  outcome-stopped k l c n f = rw (ne-eqb _ _ n, divide-from) (rw (f, divide-from))
+    pub division-taken : ¬ (getD l j 0 ≡ 0) → fits d j ≡ true → {q : ℕ} → q ≡ factor d j l
+        → divide-from d k l c ≡ divide-from d j (less-product (d .modulus) (j - d .lead) q (d .terms) l) (set c (j - d .lead) q)
+    unfolding divide-from
+    division-taken n f eq = rw (eq, e, ne-eqb _ _ n, divide-from) (rw (f, divide-from))
 
-  found-passed : (k : ℕ) (l : List ℕ) → getD l k 0 ≡ 0 → found-from d (suc k) l ≡ found-from d k l
-  unfolding found-from
-  found-passed k l e = rw (eq-eqb _ _ e, found-from)
-
-  found-taken : (k : ℕ) (l : List ℕ) → ¬ (getD l k 0 ≡ 0) → fits d k ≡ true
-      → found-from d (suc k) l ≡ keyed (k - d .lead) (factor d k l) ∷ found-from d k (less d k l)
-  unfolding found-from
-  found-taken k l n f = rw (ne-eqb _ _ n, found-from) (rw (f, found-from))
-
-  found-stopped : (k : ℕ) (l : List ℕ) → ¬ (getD l k 0 ≡ 0) → fits d k ≡ false → found-from d (suc k) l ≡ []
-  unfolding found-from
-  found-stopped k l n f = rw (ne-eqb _ _ n, found-from) (rw (f, found-from))
-
-  -- the outcome, as the code takes its steps: from k down to k - 1
-  down : (k : ℕ) → ¬ (k ≡ 0) → k ≡ suc (k - 1)
-  down k n = omega arith
-
-  pub division-done : (k : ℕ) (l c : List ℕ) → k ≡ 0 → divide-from d k l c ≡ record { whole = true; quotient = c }
-  unfolding divide-from
-  division-done k l c e = ap (λ (n : ℕ). divide-from d n l c) e
-
-  pub division-passed : (k : ℕ) (l c : List ℕ) → ¬ (k ≡ 0) → getD l (k - 1) 0 ≡ 0 → divide-from d k l c ≡ divide-from d (k - 1) l c
-  division-passed k l c n e = ap (λ (m : ℕ). divide-from d m l c) (down k n) ∙ outcome-passed (k - 1) l c e
-
-  pub division-taken : (k : ℕ) (l c : List ℕ) {q : ℕ} {m : List ℕ} → ¬ (k ≡ 0) → ¬ (getD l (k - 1) 0 ≡ 0) → fits d (k - 1) ≡ true
-      → q ≡ factor d (k - 1) l → m ≡ less-product (d .modulus) (k - 1 - d .lead) q (d .terms) l
-      → divide-from d k l c ≡ divide-from d (k - 1) m (set c (k - 1 - d .lead) q)
-  division-taken k l c n e f eq em =
-      rw (em, eq) (ap (λ (m : ℕ). divide-from d m l c) (down k n) ∙ outcome-taken (k - 1) l c e f)
-
-  pub division-stopped : (k : ℕ) (l c : List ℕ) → ¬ (k ≡ 0) → ¬ (getD l (k - 1) 0 ≡ 0) → fits d (k - 1) ≡ false
-      → divide-from d k l c ≡ record { whole = false; quotient = c }
-  division-stopped k l c n e f = ap (λ (m : ℕ). divide-from d m l c) (down k n) ∙ outcome-stopped (k - 1) l c e f
+    pub division-stopped : ¬ (getD l j 0 ≡ 0) → fits d j ≡ false → divide-from d k l c ≡ record { whole = false; quotient = c }
+    unfolding divide-from
+    division-stopped n f = rw (e, ne-eqb _ _ n, divide-from) (rw (f, divide-from))
 
 -- What holds where a division ends, and of one cell more where it holds of what is left, holds of every division: of its cells l and c,
 -- the terms found and the outcome.
@@ -76,14 +47,11 @@ module _ (d : Setting) (Holds : ℕ → List ℕ → List ℕ → List ℕ → O
   by-cells zero l c = ends l c
   by-cells (suc k) l c = cell (ℕ-discrete (getD l k 0) 0) (fits d k) refl (λ m b. by-cells k m b)
     where
-      to : (qs rs : List ℕ) (o r : Outcome) → qs ≡ rs → o ≡ r → Holds (suc k) l c rs r → Holds (suc k) l c qs o
-      to qs rs o r e f h = subst (λ (x : List ℕ). Holds (suc k) l c x o) (sym e) (subst (λ (x : Outcome). Holds (suc k) l c rs x) (sym f) h)
-
       cell : Dec (getD l k 0 ≡ 0) → (a : Bool) → fits d k ≡ a → ((m b : List ℕ) → Holds k m b (found-from d k m) (divide-from d k m b))
           → Holds (suc k) l c (found-from d (suc k) l) (divide-from d (suc k) l c)
-      cell (yes e) a q again = to _ _ _ _ (found-passed d k l e) (outcome-passed d k l c e) (passes k l c _ _ e (again l c))
-      cell (no n) true q again = to _ _ _ _ (found-taken d k l n q) (outcome-taken d k l c n q) (takes k l c _ _ n q (again _ _))
-      cell (no n) false q again = to _ _ _ _ (found-stopped d k l n q) (outcome-stopped d k l c n q) (stops k l c n q)
+      cell (yes e) a q again = rw (eq-eqb _ _ e, found-from, divide-from) (passes k l c _ _ e (again l c))
+      cell (no n) true q again = rw (ne-eqb _ _ n, found-from, divide-from) (rw (q, found-from, divide-from) (takes k l c _ _ n q (again _ _)))
+      cell (no n) false q again = rw (ne-eqb _ _ n, found-from, divide-from) (rw (q, found-from, divide-from) (stops k l c n q))
 
 -- no more terms than cells
 pub found-few : (d : Setting) (k : ℕ) (l : List ℕ) → length (found-from d k l) ≤ k

@@ -1,7 +1,7 @@
 -- How the models of a division go on by one term of a list or by one cell, as the loops do.
-use mathlib.Core.Path.{_≡_, refl, sym, _∙_, ap, ap₂}
+use mathlib.Core.Path.{_≡_, sym, _∙_, ap, ap₂}
 use mathlib.Core.List.{List, [], _∷_, _++_, append-nil, append-assoc}
-use Prim.Native.Nat.{ℕ, suc, _+_, _-_, _*_, _%_, _≤_, _<_, max}
+use Prim.Native.Nat.{ℕ, _+_, _-_, _*_, _%_, _≤_, _<_, max}
 use native.Mathlib.Nat.{max-zero, zero-max}
 use native.Mathlib.Numerals.{add-one}
 use native.Mathlib.Omega.{arith}
@@ -44,27 +44,19 @@ less-is p s q l t ek ec ev = rw (ev, ec, ek)
 
 -- gathering from the cells below k: n terms stand in the output
 module _ (l out : List ℕ) (k n : ℕ) (G : List ℕ) (e : G ≡ take n out ++ gathered k l) where
-  down : 0 < k → k ≡ suc (k - 1)
-  down h = omega arith
-
   pub gather-pass : 0 < k → getD l (k - 1) 0 ≡ 0 → G ≡ take n out ++ gathered (k - 1) l
-  gather-pass h z = e ∙ ap (λ (r : List ℕ). take n out ++ r) (ap (λ (m : ℕ). gathered m l) (down h) ∙ gather-passed (k - 1) l z)
-
-  next : 0 < k → ¬ (getD l (k - 1) 0 ≡ 0) → G ≡ take n out ++ keyed (k - 1) (getD l (k - 1) 0) ∷ gathered (k - 1) l
-  next h z = e ∙ ap (λ (r : List ℕ). take n out ++ r) (ap (λ (m : ℕ). gathered m l) (down h) ∙ gather-taken (k - 1) l z)
+  gather-pass h z = e ∙ ap (λ (r : List ℕ). take n out ++ r) (gather-passed (omega arith) l z)
 
   pub gather-turn : {v : ℕ} → 0 < k → ¬ (getD l (k - 1) 0 ≡ 0) → n < length out → v ≡ keyed (k - 1) (getD l (k - 1) 0)
       → G ≡ take (n + 1) (set out n v) ++ gathered (k - 1) l
-  gather-turn h z b ev = rw (add-one, take-suc-set out n _ b, append-assoc, ev) (next h z)
-
-  none-gathered : gathered 0 l ≡ []
-  unfolding gathered
-  none-gathered = refl
+  gather-turn h z b ev =
+      rw (add-one, take-suc-set out n _ b, append-assoc, ev) (e ∙ ap (λ (r : List ℕ). take n out ++ r) (gather-taken (omega arith) l z))
 
   pub gather-end : k ≤ 0 → take n out ≡ G
+  unfolding gathered
   gather-end h =
       let z : k ≡ 0 = omega arith in
-      sym (e ∙ ap (λ (m : ℕ). take n out ++ gathered m l) z ∙ ap (λ (r : List ℕ). take n out ++ r) none-gathered ∙ append-nil (take n out))
+      sym (e ∙ ap (λ (m : ℕ). take n out ++ gathered m l) z ∙ append-nil (take n out))
 
 -- the terms written first, and the rest left
 pub gather-written : (G before out : List ℕ) (n : ℕ) → n ≤ length out → take n out ≡ G → drop n out ≡ drop n before → (n ≡ length G) × (out ≡ written G before)

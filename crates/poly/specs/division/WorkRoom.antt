@@ -1,59 +1,41 @@
 -- The parts of the work room while a division goes on: what is written into one leaves the others.
 use mathlib.Core.Path.{_≡_, refl, sym, _∙_, ap}
-use mathlib.Core.List.{List, [], _∷_}
-use Prim.Native.Nat.{ℕ, suc, _+_, _-_, _*_, _%_, _≤_, _<_}
+use mathlib.Core.List.{List}
+use Prim.Native.Nat.{ℕ, _+_, _-_, _*_, _%_, _≤_, _<_}
 use native.Mathlib.Omega.{arith}
 use lib.ListN.{length, getD, set, take, drop, length-drop}
 use lib.Seq.{take-set-le, take-set-lt, drop-set-lt, drop-set-add, getD-take, getD-drop, drop-drop, length-take-le}
-use Rattle.field.specs.loops.Fold.{fold}
+use Rattle.poly.specs.list.Folds.{fold-keeps, fold-through}
 use Rattle.poly.specs.Keys.{keys}
 use Rattle.poly.specs.Terms.{key-of, coefficient-of}
 use Rattle.poly.specs.Room.{work-room}
 use Rattle.poly.specs.division.Ends.{Empty, empty-cells}
 use Rattle.poly.specs.division.SpreadModel.{spread}
-use Rattle.poly.specs.division.Model.{KeysBelow, less-term, less-product}
+use Rattle.poly.specs.division.Model.{KeysBelow, less-product}
 use Rattle.poly.specs.division.WorkRoomModel.{remainder-cells, quotient-cells, beyond}
-
-later : (s n t : ℕ) (ts : List ℕ) → KeysBelow s n (t ∷ ts) → KeysBelow s n ts
-later s n t ts h i l = h (suc i) (omega arith)
 
 -- the subtraction of a product, in a list of which the cells are the first n numbers
 module _ (p s q n : ℕ) where
   take-less : (ts l : List ℕ) → KeysBelow s n ts → take n (less-product p s q ts l) ≡ less-product p s q ts (take n l)
-  unfolding fold
-  take-less [] l h = refl
-  take-less (t ∷ ts) l h =
-      let b : key-of t + s < n = h 0 (omega arith) in
-      take-less ts (less-term p s q t l) (later s n t ts h)
-      ∙ ap (less-product p s q ts)
-      (take-set-lt n l (key-of t + s) _ b
-      ∙ ap (λ (v : ℕ). set (take n l) (key-of t + s) ((v + (p - q) * coefficient-of t) % p)) (sym (getD-take n l (key-of t + s) 0 b)))
+  take-less ts l h =
+      fold-through (λ t. key-of t + s < n) (take n)
+      (λ t m b. take-set-lt n m (key-of t + s) _ b
+      ∙ ap (λ (v : ℕ). set (take n m) (key-of t + s) ((v + (p - q) * coefficient-of t) % p)) (sym (getD-take n m (key-of t + s) 0 b))) ts h l
 
   drop-less : (ts l : List ℕ) → KeysBelow s n ts → drop n (less-product p s q ts l) ≡ drop n l
-  unfolding fold
-  drop-less [] l h = refl
-  drop-less (t ∷ ts) l h = drop-less ts (less-term p s q t l) (later s n t ts h) ∙ drop-set-lt n l (key-of t + s) _ (h 0 (omega arith))
+  drop-less ts l h =
+      fold-keeps (λ t. key-of t + s < n) (λ m. drop n m ≡ drop n l) (λ t m b e. drop-set-lt n m (key-of t + s) _ b ∙ e) ts h l refl
 
 -- a list spread over the cells
 module _ (n : ℕ) where
   pub take-spread : (ts l : List ℕ) → KeysBelow 0 n ts → take n (spread ts l) ≡ spread ts (take n l)
-  unfolding fold
-  take-spread [] l h = refl
-  take-spread (t ∷ ts) l h =
-      let b : key-of t + 0 < n = h 0 (omega arith) in
-      take-spread ts (set l (key-of t) (coefficient-of t)) (later 0 n t ts h) ∙ ap (spread ts) (take-set-lt n l (key-of t) (coefficient-of t) (omega arith))
+  take-spread ts l h = fold-through (λ t. key-of t + 0 < n) (take n) (λ t m b. take-set-lt n m (key-of t) (coefficient-of t) (omega arith)) ts h l
 
   pub drop-spread : (ts l : List ℕ) → KeysBelow 0 n ts → drop n (spread ts l) ≡ drop n l
-  unfolding fold
-  drop-spread [] l h = refl
-  drop-spread (t ∷ ts) l h =
-      let b : key-of t + 0 < n = h 0 (omega arith) in
-      drop-spread ts (set l (key-of t) (coefficient-of t)) (later 0 n t ts h) ∙ drop-set-lt n l (key-of t) (coefficient-of t) (omega arith)
+  drop-spread ts l h =
+      fold-keeps (λ t. key-of t + 0 < n) (λ m. drop n m ≡ drop n l) (λ t m b e. drop-set-lt n m (key-of t) _ (omega arith) ∙ e) ts h l refl
 
--- what stands behind the remainder's cells settles the two other parts
-pub same-quotient-cells : (l m : List ℕ) → drop keys l ≡ drop keys m → quotient-cells l ≡ quotient-cells m
-same-quotient-cells l m e = ap (take keys) e
-
+-- what stands behind the remainder's cells settles what is beyond
 pub same-beyond : (l m : List ℕ) → drop keys l ≡ drop keys m → beyond l ≡ beyond m
 same-beyond l m e = sym (drop-drop keys keys l) ∙ ap (drop keys) e ∙ drop-drop keys keys m
 

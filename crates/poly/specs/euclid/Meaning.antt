@@ -95,8 +95,17 @@ module _ {p : ℕ} (P : Prime p) where
   unfolding monic
   monic-eight n f = scaled-eight p (prime-positive P) (inv (el p (getD f n 0)) .val) f
 
-  -- all divided by the number at n
-  module _ (n : ℕ) (f : List ℕ) (h : Eight p f) where
+  -- all divided by the highest number that is not 0, which stands below the size
+  module _ (f : List ℕ) (h : Eight p f) (q : ¬ (size f ≡ 0)) where
+    abbrev n : ℕ
+    n = size f - 1
+
+    nonzero : ¬ (getD f n 0 ≡ 0)
+    nonzero = size-lead 8 f (omega arith)
+
+    clear : Clear (suc n) f
+    clear i l = size-clear 8 f (eight-clear p f h) i (omega arith)
+
     abbrev inverse : ℕ
     inverse = inv (el p (getD f n 0)) .val
 
@@ -114,43 +123,27 @@ module _ {p : ℕ} (P : Prime p) where
         (λ b. el-mod p (inverse * getD f i 0) ∙ times-el i)
         (λ b. sym (ap (λ (x : ℕ). mul (inv (el p (getD f n 0))) (el p x)) (past-end 8 i f (h .eight) b) ∙ mul-zero ring _))
 
-    -- where it is the highest that is not 0
-    module _ (q : ¬ (getD f n 0 ≡ 0)) (c : Clear (suc n) f) where
-      monic-leads : Leads n (monic p n f)
-      unfolding monic scaled
-      monic-leads =
-          record {
-            one =
-                cells-at times 8 n (elim (decLt n 8) [ yes l ↦ l | no l ↦ absurd (q (past-end 8 n f (h .eight) (omega arith))) ])
-                ∙ el-inj p (inverse * getD f n 0) 1
-                (times-el n ∙ ring .mul-comm _ _ ∙ mul-inv P (el p (getD f n 0)) (el-nonzero p (getD f n 0) (h .below n) q))
-                ∙ mod-eq-of-lt (P .above);
-            clear =
-                λ i l.
-                cells-all (λ x. x ≡ 0) times 8 i
-                (λ b. ap (λ (x : ℕ). (inverse * x) % p) (c i l) ∙ ap (λ (x : ℕ). x % p) (mul-zeroₙ inverse) ∙ zero-mod p)
-                (λ b. refl);
-          }
-
-      -- made monic, a polynomial has the divisors that it had
-      monic-associate : Associate (Poly (Modulo p P)) (PolyD (Modulo p P)) (series p (monic p n f)) (series p f)
-      monic-associate =
-          let a =
-          over-lead-associate (Modulo p P) n (series p f)
-          (record { nonzero = el-nonzero p (getD f n 0) (h .below n) q; ends = clear-ends p (prime-positive P) (suc n) f c }) in
-          subst (λ (u : ℕ → Fp p). Associate (Poly (Modulo p P)) (PolyD (Modulo p P)) u (series p f)) (sym monic-series)
-          (record { to = a .from; from = a .to })
-
-  -- the highest stands below the size
-  module _ (f : List ℕ) (h : Eight p f) (q : ¬ (size f ≡ 0)) where
-    nonzero : ¬ (getD f (size f - 1) 0 ≡ 0)
-    nonzero = size-lead 8 f (omega arith)
-
-    clear : Clear (suc (size f - 1)) f
-    clear i l = size-clear 8 f (eight-clear p f h) i (omega arith)
-
     pub highest-leads : Leads (size f - 1) (monic p (size f - 1) f)
-    highest-leads = monic-leads (size f - 1) f h nonzero clear
+    unfolding monic scaled
+    highest-leads =
+        record {
+          one =
+              cells-at times 8 n (elim (decLt n 8) [ yes l ↦ l | no l ↦ absurd (nonzero (past-end 8 n f (h .eight) (omega arith))) ])
+              ∙ el-inj p (inverse * getD f n 0) 1
+              (times-el n ∙ ring .mul-comm _ _ ∙ mul-inv P (el p (getD f n 0)) (el-nonzero p (getD f n 0) (h .below n) nonzero))
+              ∙ mod-eq-of-lt (P .above);
+          clear =
+              λ i l.
+              cells-all (λ x. x ≡ 0) times 8 i
+              (λ b. ap (λ (x : ℕ). (inverse * x) % p) (clear i l) ∙ ap (λ (x : ℕ). x % p) (mul-zeroₙ inverse) ∙ zero-mod p)
+              (λ b. refl);
+        }
 
+    -- made monic, a polynomial has the divisors that it had
     pub highest-associate : Associate (Poly (Modulo p P)) (PolyD (Modulo p P)) (series p (monic p (size f - 1) f)) (series p f)
-    highest-associate = monic-associate (size f - 1) f h nonzero clear
+    highest-associate =
+        let a =
+        over-lead-associate (Modulo p P) n (series p f)
+        (record { nonzero = el-nonzero p (getD f n 0) (h .below n) nonzero; ends = clear-ends p (prime-positive P) (suc n) f clear }) in
+        subst (λ (u : ℕ → Fp p). Associate (Poly (Modulo p P)) (PolyD (Modulo p P)) u (series p f)) (sym monic-series)
+        (record { to = a .from; from = a .to })

@@ -19,15 +19,6 @@ pub record Leads (n : ℕ) (f : List ℕ) : Type 0 where
   pub one : getD f n 0 ≡ 1
   pub clear : Clear (suc n) f
 
--- what a test decides, the number at n says
-size-to-zero : (n : ℕ) (f : List ℕ) → getD f n 0 ≡ 0 → size-to (suc n) f ≡ size-to n f
-unfolding size-to
-size-to-zero n f e = rw (eq-eqb (getD f n 0) 0 e, size-to)
-
-size-to-here : (n : ℕ) (f : List ℕ) → ¬ (getD f n 0 ≡ 0) → size-to (suc n) f ≡ suc n
-unfolding size-to
-size-to-here n f q = rw (ne-eqb (getD f n 0) 0 q, size-to)
-
 -- what holds of the size of no number, past a 0, and where a number stands holds of each size
 module _ (f : List ℕ) (Holds : ℕ → ℕ → Type 0) (none : Holds 0 0)
     (passed : (n s : ℕ) → getD f n 0 ≡ 0 → Holds n s → Holds (suc n) s) (here : (n : ℕ) → ¬ (getD f n 0 ≡ 0) → Holds (suc n) (suc n)) where
@@ -37,8 +28,8 @@ module _ (f : List ℕ) (Holds : ℕ → ℕ → Type 0) (none : Holds 0 0)
   by-size (suc n) = go (ℕ-discrete (getD f n 0) 0) (by-size n)
     where
       go : Dec (getD f n 0 ≡ 0) → Holds n (size-to n f) → Holds (suc n) (size-to (suc n) f)
-      go (yes e) again = subst (Holds (suc n)) (sym (size-to-zero n f e)) (passed n (size-to n f) e again)
-      go (no q) again = subst (Holds (suc n)) (sym (size-to-here n f q)) (here n q)
+      go (yes e) again = rw (eq-eqb (getD f n 0) 0 e, size-to) (passed n (size-to n f) e again)
+      go (no q) again = rw (ne-eqb (getD f n 0) 0 q, size-to) (here n q)
 
 -- a list is clear from its size on
 pub size-clear : (n : ℕ) (f : List ℕ) → Clear n f → Clear (size-to n f) f
@@ -123,20 +114,16 @@ module _ (p : ℕ) (pos : 0 < p) where
       remainder-clear m g g1 cg k (subtract p (getD f (k + m) 0) k f g) (subtract-eight (getD f (k + m) 0) k f g h)
       (subtract-clear k m f g h cf g1 cg)
 
--- how the code looks for the size: down from n
-pub size-down : (n : ℕ) (f : List ℕ) → 0 < n → getD f (n - 1) 0 ≡ 0 → size-to n f ≡ size-to (n - 1) f
-size-down zero f l e = absurd (omega arith)
-size-down (suc n) f l e =
-    let m : suc n - 1 ≡ n = omega arith in
-    size-to-zero n f (ap (λ (k : ℕ). getD f k 0) (sym m) ∙ e) ∙ ap (λ (k : ℕ). size-to k f) (sym m)
+-- how the code looks for the size: from n down to m
+module _ (f : List ℕ) {n : ℕ} where
+  pub size-down : {m : ℕ} → n ≡ suc m → getD f m 0 ≡ 0 → size-to n f ≡ size-to m f
+  unfolding size-to
+  size-down e z = rw (e, eq-eqb _ _ z, size-to)
 
-pub size-found : (n : ℕ) (f : List ℕ) → 0 < n → ¬ (getD f (n - 1) 0 ≡ 0) → size-to n f ≡ n
-size-found zero f l q = absurd (omega arith)
-size-found (suc n) f l q =
-    let m : suc n - 1 ≡ n = omega arith in
-    size-to-here n f (λ e. q (ap (λ (k : ℕ). getD f k 0) m ∙ e))
+  pub size-found : {m : ℕ} → n ≡ suc m → ¬ (getD f m 0 ≡ 0) → size-to n f ≡ n
+  unfolding size-to
+  size-found e q = rw (e, ne-eqb _ _ q, size-to)
 
-pub size-none : (n : ℕ) (f : List ℕ) → n ≡ 0 → size-to n f ≡ 0
-unfolding size-to
-size-none zero f e = refl
-size-none (suc n) f e = absurd (omega arith)
+  pub size-none : n ≡ 0 → size-to n f ≡ 0
+  unfolding size-to
+  size-none e = ap (λ (k : ℕ). size-to k f) e

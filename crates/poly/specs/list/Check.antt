@@ -2,7 +2,7 @@
 use mathlib.Core.Path.{_≡_, refl, ap}
 use mathlib.Core.Logic.{inl, inr}
 use mathlib.Core.List.{List, map}
-use Prim.Native.Nat.{ℕ, zero, suc, _+_, _≤_, _<_}
+use Prim.Native.Nat.{ℕ, zero, suc, _≤_, _<_}
 use native.Mathlib.Omega.{arith}
 use lib.ListN.{length, getD, length-map, List·getD-map}
 use Rattle.field.specs.Numbers.{FIRST_COUNT, FIRST_TERM}
@@ -28,15 +28,6 @@ wrong-within p ts i (coefficient-large l m) = l
 
 pub wrong-beyond : (p : ℕ) (ts : List ℕ) (i : ℕ) → length ts ≤ i → ¬ WrongModulo p ts i
 wrong-beyond p ts i l w = omega (arith, wrong-within p ts i w)
-
--- how the code carries the key before along
-pub key-before-first : (ts : List ℕ) → key-before ts 0 ≡ keys
-unfolding key-before
-key-before-first ts = refl
-
-pub key-before-next : (ts : List ℕ) (i : ℕ) → key-before ts (i + 1) ≡ key-of (getD ts i 0)
-unfolding key-before
-key-before-next ts i = let s : i + 1 ≡ suc i = omega arith in ap (key-before ts) s
 
 -- what the test of the term at i says, where the key before is in range
 module _ (bound : ℕ) (ts : List ℕ) (i : ℕ) where

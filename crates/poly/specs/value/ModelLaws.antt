@@ -1,15 +1,13 @@
 -- How the model of the value goes on from term to term, on eight numbers below p.
 use mathlib.Core.Path.{refl, _∙_}
-use mathlib.Core.List.{List, [], _∷_}
+use mathlib.Core.List.{List}
 use Prim.Native.Nat.{ℕ, _<_}
 use native.Mathlib.Nat.{mod-lt}
-use lib.ListN.{getD, set, replicate, length-set}
-use Rattle.field.specs.loops.Fold.{fold}
+use lib.ListN.{set, replicate, length-set}
+use Rattle.poly.specs.list.Folds.{fold-keeps}
 use Rattle.poly.specs.Coefficients.{Eight}
 use Rattle.field.specs.loops.Places.{set-all, replicate-all}
-use Rattle.poly.specs.Keys.{exponents}
-use Rattle.poly.specs.Terms.{key-of}
-use Rattle.poly.specs.value.Model.{plus-term, value-from, value-of}
+use Rattle.poly.specs.value.Model.{plus-term, value-of}
 
 pub set-eight : (p : ℕ) (r : List ℕ) (x v : ℕ) → Eight p r → v < p → Eight p (set r x v)
 set-eight p r x v h l = record { eight = length-set r x v ∙ h .eight; below = λ i. set-all (λ n. n < p) r x i v 0 l (h .below i) }
@@ -22,14 +20,7 @@ module _ (p : ℕ) (ys zs ws : List ℕ) where
   unfolding plus-term
   plus-term-below h t r = mod-lt _ h
 
-  value-from-eight : 0 < p → (ts r : List ℕ) → Eight p r → Eight p (value-from p ys zs ws ts r)
-  unfolding fold
-  value-from-eight pos [] r h = h
-  value-from-eight pos (t ∷ ts) r h =
-      let v = plus-term p ys zs ws t (getD r (exponents (key-of t) .x) 0) in
-      value-from-eight pos ts (set r (exponents (key-of t) .x) v)
-      (set-eight p r (exponents (key-of t) .x) v h (plus-term-below pos t (getD r (exponents (key-of t) .x) 0)))
-
   pub value-of-eight : 0 < p → (ts : List ℕ) → Eight p (value-of p ys zs ws ts)
   unfolding value-of
-  value-of-eight pos ts = value-from-eight pos ts (replicate 8 0) (zeros-eight p pos)
+  value-of-eight pos ts =
+      fold-keeps (λ t. Unit {0}) (Eight p) (λ t r u h. set-eight p r _ _ h (plus-term-below pos t _)) ts (λ i b. tt) (replicate 8 0) (zeros-eight p pos)

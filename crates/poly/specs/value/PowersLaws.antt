@@ -1,7 +1,7 @@
--- The table of powers holds the powers, below p, and nothing else does; how it goes on from one power to the next.
+-- The table of powers holds the powers, below p, and nothing else does.
 use mathlib.Core.Path.{_≡_, refl, sym, ap, _∙_, subst}
 use mathlib.Core.List.{List}
-use Prim.Native.Nat.{ℕ, zero, suc, _-_, _*_, _^_, _%_, _≤_, _<_}
+use Prim.Native.Nat.{ℕ, zero, suc, _*_, _^_, _%_, _<_}
 use native.Mathlib.Nat.{mod-lt, mod-mod, pow-zero, pow-suc}
 use native.Mathlib.Omega.{arith}
 use lib.ListN.{getD}
@@ -73,14 +73,3 @@ powers-of {p} {y} {e} {r} q h = powers-model p y r (subst (λ (e : Element). Pow
 
 pub powers-determined : (p y : ℕ) (r q : List ℕ) → Powers p y r → Powers p y q → r ≡ q
 powers-determined p y r q h k = powers-model p y r h ∙ sym (powers-model p y q k)
-
--- how the code goes on: from the power before
-pub power-start : (p y : ℕ) (r : List ℕ) → getD r 0 0 ≡ 1 → (j : ℕ) → j < 1 → getD r j 0 ≡ power p y j
-unfolding power
-power-start p y r e zero l = e
-power-start p y r e (suc j) l = absurd (omega arith)
-
-pub power-next : (p y i : ℕ) → 1 ≤ i → (power p y (i - 1) * y) % p ≡ power p y i
-unfolding power
-power-next p y zero l = absurd (omega arith)
-power-next p y (suc i) l = let e : suc i - 1 ≡ i = omega arith in ap (λ (k : ℕ). (power p y k * y) % p) e

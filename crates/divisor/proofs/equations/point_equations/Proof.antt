@@ -195,6 +195,7 @@ returns c =
 
 pub point-equations-spec : {M : Type 1} → statement M
 point-equations-spec =
-    tie.close (tie.spec Inv-loop μ-loop (λ c. search needs) (λ c κs. search needs) powers-requires (λ c. search needs) (λ c κs. search needs) powers-requires-2
-    (λ c. search needs) (λ c κs. search needs) powers-requires-3 loop-holds (λ c κs. search needs) (λ c. search needs) (λ c. search needs) (λ c κs. search needs) difference-requires
-    (λ c. search needs) equation-requires (λ c κs. search needs) with-added-requires (λ c. search needs) (λ c. search needs) loop-again returns)
+    tie.close (tie.spec Inv-loop μ-loop (λ c. search needs) (λ c κs. search needs) powers-requires (λ c. search needs) (λ c κs. search needs)
+    powers-requires-2 (λ c. search needs) (λ c κs. search needs) powers-requires-3 loop-holds (λ c κs. search needs) (λ c. search needs)
+    (λ c. search needs) (λ c κs. search needs) difference-requires (λ c. search needs) equation-requires (λ c κs. search needs) with-added-requires
+    (λ c. search needs) (λ c. search needs) loop-again returns)

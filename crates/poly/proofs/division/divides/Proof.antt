@@ -5,9 +5,7 @@ use native.Mathlib.Omega.{arith}
 use Rattle.poly.specs.Keys.{keys}
 use Rattle.poly.specs.Room.{work-room, zeroed}
 use Rattle.poly.specs.rooms.Laws.{zeroed-all}
-use Rattle.poly.specs.division.Begins.{cleared-begins, cleared-division, cleared-room}
-use Rattle.poly.specs.division.Model.{found}
-use Rattle.poly.specs.division.WorkRoomModel.{remainder-cells}
+use Rattle.poly.specs.division.Begins.{cleared-begins, cleared-trial}
 use borrow.Author.Needs.{needs}
 use Rattle.poly.proofs.division.divides.Statement.{statement}
 use Rattle.poly.proofs.division.divides.Tie as tie
@@ -32,17 +30,8 @@ returns c =
     let d = e .before .before .before .before in
     let l = d .before .before .before .before in
     let z = start l in
-    let a = z .args in
-    record {
-      quotient = found (a .p) (a .dividend .now) (a .divisor .now) (remainder-cells (l .clear .last .1 .0));
-      division =
-          cleared-division (a .p) (a .dividend .now) (a .divisor .now) (a .work .now) (z .pre) keys (omega arith) (omega arith) _ _ (d .divide .result)
-          (begun l) (d .divide .ensures);
-      room =
-          cleared-room (a .p) (a .dividend .now) (a .divisor .now) (a .work .now) (z .pre) keys (omega arith) (omega arith) _ _ (d .divide .result)
-          (begun l) (d .divide .ensures) _
-          (zeroed-all work-room _ (omega (arith, z .pre .room)) (e .clear2 .ensures));
-    }
+    cleared-trial (z .args .p) (z .args .dividend .now) (z .args .divisor .now) (z .args .work .now) (z .pre) keys (omega arith) (omega arith) _ _ _
+    (begun l) (d .divide .ensures) (zeroed-all work-room _ (omega (arith, z .pre .room)) (e .clear2 .ensures))
 
 pub divides-spec : {M : Type 1} → statement M
 divides-spec =

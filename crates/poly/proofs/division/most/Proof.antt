@@ -1,6 +1,6 @@
 -- `poly::division::most` meets its contract. The loop is a fold: each term raises the exponents so far (`raised`), and that gives the greatest.
 use mathlib.Core.Path.{_≡_, sym, ap, _∙_, subst}
-use Prim.Native.Nat.{ℕ, _-_, _≤_}
+use Prim.Native.Nat.{_-_, _≤_}
 use native.Mathlib.Omega.{arith}
 use lib.ListN.{length}
 use Rattle.algebra.specs.Four.{Exponents}

@@ -66,7 +66,7 @@ module _ (l : tie.At-loop Inv-loop μ-loop Inv-steps μ-steps) where
   work = l .before .steps .work
 
   going : Going d before work (l .loop .k)
-  going = going-on d before work (l .before .steps .k) (l .loop .k) (l .before .steps .inv .going) (l .loop .inv .within) (l .loop .inv .same)
+  going = going-on d (l .before .steps .inv .going) (l .loop .inv .within) (l .loop .inv .same)
 
 -- where the turn begins whose cell is not 0
 abbrev turn : tie.Then1 Inv-loop μ-loop Inv-steps μ-steps → tie.In-loop Inv-loop μ-loop Inv-steps μ-steps
@@ -87,18 +87,10 @@ module _ (c : tie.Else2 Inv-loop μ-loop Inv-steps μ-steps) where
   yes = sym (c .before .fits2 .ensures) ∙ not-false _ (c .if2 .left)
 
   below : d at .lead ≤ at .loop .k - 1
-  below =
-      lead-below (d at) (before at) (work at) (at .loop .k) (going at) below-top nonzero (start at .pre) yes
+  below = lead-below (d at) (going at) below-top nonzero (start at .pre) yes
 
   within : KeysBelow (at .loop .k - 1 - d at .lead) keys (d at .terms)
-  within =
-      product-below (d at) (before at) (work at) (at .loop .k) (going at) below-top nonzero (start at .pre) yes
-
-  taken : (q : ℕ) (after : List ℕ) → q ≡ (getD (work at) (at .loop .k - 1) 0 * d at .inverse) % d at .modulus
-      → after ≡ less-product (d at .modulus) (at .loop .k - 1 - d at .lead) q (d at .terms) (set (work at) (keys + (at .loop .k - 1 - d at .lead)) q)
-      → Going (d at) (before at) after (at .loop .k - 1)
-  taken =
-      going-taken (d at) (before at) (work at) (at .loop .k) (going at) below-top nonzero (start at .pre) yes
+  within = product-below (d at) (going at) below-top nonzero (start at .pre) yes
 
 -- the quotient's coefficient there
 module _ (c : tie.After-product Inv-loop μ-loop Inv-steps μ-steps) where
@@ -155,20 +147,20 @@ steps-again c =
     record {
       answer = l .loop .inv .answer ∙ l .before .steps .inv .answer;
       going =
-          taken e v _ (ap (λ (x : Element). x .value) (factor-is q))
+          going-taken (d l) (going l) (below-top e) (nonzero e) (start l .pre) (yes e) v _ (ap (λ (x : Element). x .value) (factor-is q))
           (u .subtract .ensures ∙ ap (λ (x : Element). less-product (x .modulus) s v (d l .terms) (set (work l) (keys + s) v)) (factor-is q));
     }
 
 returns : tie.Need-returns Inv-loop μ-loop Inv-steps μ-steps
 returns c =
     let l = c .before in
-    rw (l .loop .inv .answer ∙ l .before .steps .inv .answer) (going-done (d l) (before l) (work l) (l .loop .k) (going l) (c .loop-test .taken))
+    rw (l .loop .inv .answer ∙ l .before .steps .inv .answer) (going-done (d l) (going l) (c .loop-test .taken))
 
 returns-2 : tie.Need-returns-2 Inv-loop μ-loop Inv-steps μ-steps
 returns-2 c =
     let t = c .before .before in
     let l = turn t .before in
-    going-stopped (d l) (before l) (work l) (l .loop .k) (going l) (turn t .loop-test .left) (t .if1 .taken)
+    going-stopped (d l) (going l) (turn t .loop-test .left) (t .if1 .taken)
     (sym (c .before .fits2 .ensures) ∙ not-true _ (c .if2 .taken))
 
 pub steps-spec : {M : Type 1} → statement M

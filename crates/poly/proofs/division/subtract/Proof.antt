@@ -30,7 +30,7 @@ abbrev start : tie.At-loop Inv-loop μ-loop → tie.Start Inv-loop μ-loop
 start l = l .before .before .before
 
 -- the cell of the term at i is one of the cells
-at-below : (c : tie.After-struct-known Inv-loop μ-loop) → c .before .of .result .bits + start (turn c .before) .args .shift < length (turn c .before .loop .cells)
+at-below : (c : tie.After-struct-known Inv-loop μ-loop) → let l = turn c .before in c .before .of .result .bits + start l .args .shift < length (l .loop .cells)
 at-below c =
     let l = turn c .before in
     omega (arith, start l .pre .within (l .loop .i) (turn c .loop-test .taken), c .before .of .ensures, l .loop .inv .same-length)

@@ -1,5 +1,5 @@
 -- `poly::euclid::gcd` meets its contract: the loop keeps `Turning`, the model's answer; the measure is the size of g.
-use mathlib.Core.Path.{_≡_, sym, ap, ap₂, _∙_, subst}
+use mathlib.Core.Path.{sym, ap, ap₂, _∙_, subst}
 use mathlib.Core.List.{List}
 use Prim.Native.Nat.{ℕ, _-_}
 use native.Mathlib.Omega.{arith}

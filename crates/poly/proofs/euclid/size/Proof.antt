@@ -25,17 +25,17 @@ loop-holds c = record { within = omega arith; same = refl }
 returns : tie.Need-returns Inv-loop μ-loop
 returns c =
     let l = c .before .before in
-    sym (l .loop .inv .same ∙ size-found (l .loop .place) (l .before .args .t1) (omega arith) (c .if1 .taken))
+    sym (l .loop .inv .same ∙ size-found (l .before .args .t1) (omega arith) (c .if1 .taken))
 
 loop-again : tie.Need-loop-again Inv-loop μ-loop
 loop-again c =
     let l = c .before .before in
-    record { within = omega arith; same = l .loop .inv .same ∙ size-down (l .loop .place) (l .before .args .t1) (omega arith) (c .if1 .left) }
+    record { within = omega arith; same = l .loop .inv .same ∙ size-down (l .before .args .t1) (omega arith) (c .if1 .left) }
 
 returns-2 : tie.Need-returns-2 Inv-loop μ-loop
 returns-2 c =
     let l = c .before in
-    sym (l .loop .inv .same ∙ size-none (l .loop .place) (l .before .args .t1) (omega arith))
+    sym (l .loop .inv .same ∙ size-none (l .before .args .t1) (omega arith))
 
 pub size-spec : {M : Type 1} → statement M
 size-spec =

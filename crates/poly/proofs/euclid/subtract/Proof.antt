@@ -41,9 +41,7 @@ loop-again c =
 
 returns : tie.Need-returns Inv-loop μ-loop
 unfolding subtract
-returns c =
-    let l = c .before .loop in
-    part-end (l .inv) (omega arith)
+returns c = part-end (c .before .loop .inv) (omega arith)
 
 pub subtract-spec : {M : Type 1} → statement M
 subtract-spec =

@@ -1,7 +1,6 @@
 -- `poly::image::image` meets its contract: a refusal of the table, or the record of what the point gives.
 use mathlib.Core.Path.{_≡_, sym, ap, _∙_}
 use Prim.Native.Nat.{_-_}
-use native.Mathlib.Omega.{arith}
 use Rattle.field.specs.declared.faults.Fault.{Fault}
 use Rattle.poly.specs.declared.ImageRecord.{ImageRecord}
 use Rattle.poly.specs.ImageCall.{image-call, refused-image, image-record, ImageAnswer}

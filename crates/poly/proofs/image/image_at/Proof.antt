@@ -169,5 +169,5 @@ returns-2 c =
 pub image-at-spec : {M : Type 1} → statement M
 image-at-spec =
     tie.close (tie.spec (λ c. search needs) (λ c κs. search needs) powers-requires (λ c. search needs) (λ c κs. search needs) powers-requires-2
-    (λ c. search needs) (λ c κs. search needs) powers-requires-3 value-requires shared-slice-read-of-4 (λ c κs. search needs) (λ c κs. search needs) (λ c. search needs) (λ c. search needs) array-read-if1 returns value-requires-2
-    gcd-requires (λ c κs. search needs) cast-t14 returns-2)
+    (λ c. search needs) (λ c κs. search needs) powers-requires-3 value-requires shared-slice-read-of-4 (λ c κs. search needs) (λ c κs. search needs)
+    (λ c. search needs) (λ c. search needs) array-read-if1 returns value-requires-2 gcd-requires (λ c κs. search needs) cast-t14 returns-2)

@@ -1,8 +1,8 @@
 -- `poly::value::powers` meets its contract: the loop fills the table from 1 on.
 use borrow.Author.Needs.{needs}
 use mathlib.Core.List.{List}
-use mathlib.Core.Path.{refl, sym, ap, _∙_, subst}
-use Prim.Native.Nat.{ℕ, _-_, _*_, _%_, _≤_}
+use mathlib.Core.Path.{_≡_, refl, sym, ap, _∙_, subst}
+use Prim.Native.Nat.{ℕ, suc, _-_, _*_, _%_, _≤_}
 use native.Mathlib.Omega.{arith}
 use lib.ListN.{replicate}
 use Rattle.field.specs.declared.elements.Element.{Element}
@@ -11,7 +11,7 @@ use Rattle.poly.specs.Powers.{Powers}
 use Rattle.field.specs.loops.Filled.{Filled}
 use Rattle.field.specs.loops.Cells.{filled-start, filled-next, filled-end}
 use Rattle.poly.specs.value.PowersModel.{power, powers}
-use Rattle.poly.specs.value.PowersLaws.{power-start, power-next, powers-are}
+use Rattle.poly.specs.value.PowersLaws.{powers-are}
 use Rattle.poly.proofs.value.powers.Statement.{statement}
 use Rattle.poly.proofs.value.powers.Tie as tie
 
@@ -30,26 +30,27 @@ ones : List ℕ
 ones = replicate 8 1
 
 loop-holds : tie.Need-loop-holds Inv-loop μ-loop
-unfolding ones
+unfolding ones power
 loop-holds c =
-    let y = c .args .y in
-    record { from = omega arith; filled = filled-start {old = ones} (omega arith) refl (power-start (y .modulus) (y .value) ones refl) }
+    record { from = omega arith; filled = filled-start {old = ones} (omega arith) refl (λ j l. let z : j ≡ 0 = omega arith in rw (z, power)) }
 
 product-requires : tie.Need-product-requires Inv-loop μ-loop
 product-requires c κs = let start = c .before .before .before in has-modulus (c .of .ensures) (start .pre)
 
 loop-again : tie.Need-loop-again Inv-loop μ-loop
+unfolding power
 loop-again c =
     let at = c .before .before .before in
     let l = at .loop in
     let filled = l .inv .filled in
     let y = at .before .args .y in
+    let next : suc (l .i - 1) ≡ l .i = omega (arith, l .inv .from) in
     record {
       from = omega arith;
       filled =
           filled-next filled (omega arith)
           (ap (λ (v : Element). v .value) (product-is (c .before .of .ensures) refl (c .product .ensures))
-          ∙ ap (λ (x : ℕ). (x * y .value) % y .modulus) (filled .done (l .i - 1) (omega arith)) ∙ power-next (y .modulus) (y .value) (l .i) (l .inv .from));
+          ∙ ap (λ (x : ℕ). (x * y .value) % y .modulus) (filled .done (l .i - 1) (omega arith)) ∙ ap (power (y .modulus) (y .value)) next);
     }
 
 returns : tie.Need-returns Inv-loop μ-loop
@@ -61,4 +62,5 @@ returns c =
 
 pub powers-spec : {M : Type 1} → statement M
 powers-spec =
-    tie.close (tie.spec Inv-loop μ-loop loop-holds (λ c. search needs) (λ c. search needs) (λ c. search needs) (λ c κs. search needs) product-requires (λ c. search needs) (λ c. search needs) (λ c. search needs) (λ c. search needs) loop-again returns)
+    tie.close (tie.spec Inv-loop μ-loop loop-holds (λ c. search needs) (λ c. search needs) (λ c. search needs) (λ c κs. search needs) product-requires
+    (λ c. search needs) (λ c. search needs) (λ c. search needs) (λ c. search needs) loop-again returns)
