@@ -3,7 +3,6 @@ use Prim.Native.Nat.{ℕ}
 use mathlib.Core.Path.{_≡_}
 use mathlib.Core.List.{List}
 use lib.ListN.{take}
-use Rattle.field.specs.declared.faults.Fault.{Fault}
 use Rattle.case_file.specs.declared.Counts.{Counts as CaseCounts}
 use Rattle.case_file.specs.Reading.{Reading, read}
 use Rattle.case_file.specs.Handed.{fault, Gives}

@@ -2,13 +2,13 @@
 -- from j on make of the row is what all columns make of the equation. The measure is the number of columns left.
 use mathlib.Core.Path.{_≡_, refl, sym, ap, _∙_, subst}
 use mathlib.Core.Logic.{⊎-elim}
-use Prim.Native.Nat.{ℕ, _+_, _-_, _<_, _≤_}
+use Prim.Native.Nat.{ℕ, _+_, _-_, _≤_}
 use native.Mathlib.Nat.{sub-zero}
 use native.Mathlib.Omega.{arith}
 use lib.ListN.{set}
 use Rattle.divisor.specs.declared.table.Row.{Row}
 use Rattle.divisor.specs.declared.table.Table.{Table}
-use Rattle.divisor.specs.table.Model.{cell, row-at, diagonal, insert, with-row, minus, scaled-row, RowReady, Column}
+use Rattle.divisor.specs.table.Model.{row-at, diagonal, insert, with-row, minus, scaled-row, RowReady, Column}
 use Rattle.divisor.specs.table.Turns.{insert-skip, insert-kept, insert-minus, insert-end}
 use Rattle.divisor.specs.table.Rows.{minus-ready}
 use borrow.Author.Needs.{needs}

@@ -1,21 +1,20 @@
--- `poly::quotient::gather` meets its contract. The invariant: the terms of the cells from k on stand first in the output, and
--- the rest of it is as it was.
-use mathlib.Core.Path.{_≡_, refl, _∙_}
-use mathlib.Core.List.{List, _++_}
+-- `poly::quotient::gather` meets its contract. The invariant: the terms of the cells from k on are collected, and those of the cells below k are left.
+use mathlib.Core.Path.{refl, subst}
+use mathlib.Core.List.{List}
 use Prim.Native.Nat.{ℕ, _+_, _≤_, _<_}
 use native.Mathlib.Omega.{arith}
-use lib.ListN.{length, take, drop, length-set}
+use lib.ListN.{length}
+use Rattle.field.specs.loops.Collected.{Collecting, collecting-start, collecting-next, collecting-end, collecting-all}
+use Rattle.poly.specs.division.Spread.{gather-passed, gather-taken}
 use Rattle.poly.specs.division.SpreadModel.{gathered}
-use Rattle.poly.specs.division.Turns.{gather-pass, gather-turn, gather-end, gather-written, drop-written}
+use Rattle.poly.specs.division.Turns.{gather-none}
 use borrow.Author.Needs.{needs}
 use Rattle.poly.proofs.quotient.gather.Statement.{statement}
 use Rattle.poly.proofs.quotient.gather.Tie as tie
 
 record Gathering (cells before out : List ℕ) (k n : ℕ) : Type 0 where
   few : n + k ≤ length cells
-  same-length : length out ≡ length before
-  terms : gathered (length cells) cells ≡ take n out ++ gathered k cells
-  rest : drop n out ≡ drop n before
+  terms : Collecting (gathered (length cells) cells) (length before) before out n (gathered k cells)
 
 abbrev Inv-loop : tie.InvT-loop
 Inv-loop cells out₀ k₀ n₀ out k n = Gathering cells out₀ out k n
@@ -34,49 +33,43 @@ start a = a .before .before .before
 room : (c : tie.After-term Inv-loop μ-loop) → let l = turn c .before .loop in l .n < length (l .out)
 room c =
     let a = turn c .before in
-    omega (arith, a .loop .inv .few, a .loop .inv .same-length, start a .pre .room, turn c .loop-test .taken)
+    omega (arith, a .loop .inv .few, a .loop .inv .terms .filled .long, start a .pre .room, turn c .loop-test .taken)
 
 loop-holds : tie.Need-loop-holds Inv-loop μ-loop
-loop-holds c = record { few = omega arith; same-length = refl; terms = refl; rest = refl }
+loop-holds c = record { few = omega arith; terms = collecting-start refl }
 
 mul-out : tie.Need-mul-out Inv-loop μ-loop
 mul-out c =
     let a = turn c .before in
-    omega (arith, room c, start a .good .1 .0 .0, a .loop .inv .same-length)
+    omega (arith, room c, start a .good .1 .0 .0, a .loop .inv .terms .filled .long)
 
 loop-again : tie.Need-loop-again Inv-loop μ-loop
 loop-again c =
     let a = turn c .before in
-    let x = start a .args in
+    let terms = a .loop .inv .terms in
     record {
       few = omega (arith, a .loop .inv .few, turn c .loop-test .taken);
-      same-length = length-set (a .loop .out) (a .loop .n) (c .term .result) ∙ a .loop .inv .same-length;
       terms =
-          gather-turn (x .cells .now) (a .loop .out) (a .loop .k) (a .loop .n) _ (a .loop .inv .terms) (turn c .loop-test .taken)
-          (c .before .if1 .taken) (room c) (c .term .ensures);
-      rest = drop-written (a .loop .out) (x .out .now) (a .loop .n) (c .term .result) (a .loop .inv .rest);
+          rw (c .term .ensures)
+          (collecting-next terms (omega (arith, room c, terms .filled .long)) (gather-taken (omega arith) (start a .args .cells .now) (c .before .if1 .taken)));
     }
 
 loop-again-2 : tie.Need-loop-again-2 Inv-loop μ-loop
 loop-again-2 c =
     let a = c .before .before .before in
+    let cells = start a .args .cells .now in
     record {
       few = omega (arith, a .loop .inv .few);
-      same-length = a .loop .inv .same-length;
       terms =
-          gather-pass (start a .args .cells .now) (a .loop .out) (a .loop .k) (a .loop .n) _ (a .loop .inv .terms)
-          (c .before .before .loop-test .taken) (c .if1 .left);
-      rest = a .loop .inv .rest;
+          subst (Collecting (gathered (length cells) cells) (length (start a .args .out .now)) (start a .args .out .now) (a .loop .out) (a .loop .n))
+          (gather-passed (omega arith) cells (c .if1 .left)) (a .loop .inv .terms);
     }
 
 returns : tie.Need-returns Inv-loop μ-loop
 returns c =
-    let a = c .before in
-    let z = start a in
-    let w =
-    gather-written _ (z .args .out .now) (a .loop .out) (a .loop .n) (omega (arith, a .loop .inv .few, a .loop .inv .same-length, z .pre .room))
-    (gather-end (z .args .cells .now) (a .loop .out) (a .loop .k) (a .loop .n) _ (a .loop .inv .terms) (c .loop-test .left)) (a .loop .inv .rest) in
-    record { count = w .0; output = w .1 }
+    let l = c .before .loop in
+    let none = gather-none (l .k) (start (c .before) .args .cells .now) (c .loop-test .left) in
+    record { count = collecting-end (l .inv .terms) none; output = collecting-all (l .inv .terms) refl none }
 
 pub gather-spec : {M : Type 1} → statement M
 gather-spec =
