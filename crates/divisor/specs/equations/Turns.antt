@@ -9,7 +9,7 @@ use lib.Seq.{getD-set-same, getD-set-other}
 use Rattle.poly.specs.Keys.{exponents}
 use Rattle.field.specs.loops.Places.{replicate-all}
 use Rattle.field.specs.loops.Filled.{Filled}
-use Rattle.field.specs.loops.Cells.{filled-start, filled-next}
+use Rattle.field.specs.loops.Cells.{filled-start, filled-next, filled-passed}
 use Rattle.divisor.specs.declared.table.Row.{Row}
 use Rattle.divisor.specs.table.Model.{most-columns, cell, zeros}
 use Rattle.divisor.specs.equations.Model.{monomial-number, IsEquation}
@@ -26,20 +26,11 @@ module _ (p : ℕ) (ys zs ws ks : List ℕ) (i : ℕ) where
   equation-start = filled-start (omega arith) (length-replicate {A = ℕ} most-columns 0) (λ k l. absurd (omega arith))
 
   module _ (j : ℕ) (r : Row) (h : Filled number-at most-columns zeros j (r .cells)) where
-    left-zero : (k : ℕ) → j ≤ k → cell r k ≡ 0
-    left-zero k l = h .left k l ∙ replicate-all (λ a. a ≡ 0) most-columns k 0 0 refl refl
+    zero-at : (k : ℕ) → getD zeros k 0 ≡ 0
+    zero-at k = replicate-all (λ a. a ≡ 0) most-columns k 0 0 refl refl
 
     pub equation-passed : j < most-columns → ¬ (exponents (getD ks j 0) .x ≡ i) → Filled number-at most-columns zeros (j + 1) (r .cells)
-    equation-passed b n = record {
-      within = omega arith;
-      long = h .long;
-      done = λ k l. go k l (ℕ-discrete k j);
-      left = λ k l. h .left k (omega arith);
-    }
-      where
-        go : (k : ℕ) → k < j + 1 → Dec (k ≡ j) → cell r k ≡ number-at k
-        go k l (yes e) = left-zero k (omega arith) ∙ sym (ap number-at e ∙ number-there p ys zs ws i (getD ks j 0) n)
-        go k l (no e) = h .done k (omega arith)
+    equation-passed b n = filled-passed h b (zero-at j ∙ sym (number-there p ys zs ws i (getD ks j 0) n))
 
     pub equation-taken : (v : ℕ) → exponents (getD ks j 0) .x ≡ i → j < most-columns
         → v ≡ (getD ys (exponents (getD ks j 0) .y) 0 * getD zs (exponents (getD ks j 0) .z) 0) % p * getD ws (exponents (getD ks j 0) .w) 0 % p
@@ -53,5 +44,5 @@ module _ (p : ℕ) (ys zs ws ks : List ℕ) (i : ℕ) where
       size = length-set (r .cells) column u ∙ h .long;
       monomials = λ k a. getD-set-other (r .cells) column k u 0 (λ z. omega arith) ∙ h .done k (omega arith);
       multiplier = getD-set-same (r .cells) column u 0 (omega (arith, h .long));
-      others = λ k a n. getD-set-other (r .cells) column k u 0 n ∙ left-zero k (omega arith);
+      others = λ k a n. getD-set-other (r .cells) column k u 0 n ∙ h .left k (omega arith) ∙ zero-at k;
     }
