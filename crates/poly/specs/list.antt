@@ -2,7 +2,6 @@
 pub mod Model
 pub mod Laws
 pub mod Falling
-pub mod Folds
 pub mod Right
 pub mod Check
 pub mod Leading

@@ -74,3 +74,17 @@ module _ {f : ℕ → List ℕ → List ℕ} {ts old : List ℕ} where
   pub folding-cells-next : {i : ℕ} {cells : List ℕ} → FoldingCells f ts old i cells → i < length ts
       → {new : List ℕ} → length new ≡ length cells → new ≡ f (getD ts i 0) cells → FoldingCells f ts old (i + 1) new
   folding-cells-next h l n e = record { same-length = n ∙ h .same-length; folding = folding-next (h .folding) l e }
+
+-- what each member of a list keeps, a fold over the list keeps; what changes place with each step does so with the fold
+module _ {A : Type 0} {f : ℕ → A → A} (Q : ℕ → Type 0) where
+  pub fold-keeps : (P : A → Type 0) → ((t : ℕ) (a : A) → Q t → P a → P (f t a)) → (ts : List ℕ) → ((i : ℕ) → i < length ts → Q (getD ts i 0))
+      → (a : A) → P a → P (fold f ts a)
+  unfolding fold
+  fold-keeps P step [] q a h = h
+  fold-keeps P step (t ∷ ts) q a h = fold-keeps P step ts (λ i l. q (suc i) (omega arith)) (f t a) (step t a (q 0 (omega arith)) h)
+
+  pub fold-through : (m : A → A) → ((t : ℕ) (a : A) → Q t → m (f t a) ≡ f t (m a)) → (ts : List ℕ) → ((i : ℕ) → i < length ts → Q (getD ts i 0))
+      → (a : A) → m (fold f ts a) ≡ fold f ts (m a)
+  unfolding fold
+  fold-through m step [] q a = refl
+  fold-through m step (t ∷ ts) q a = fold-through m step ts (λ i l. q (suc i) (omega arith)) (f t a) ∙ ap (fold f ts) (step t a (q 0 (omega arith)))

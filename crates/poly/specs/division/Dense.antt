@@ -14,7 +14,7 @@ use Rattle.algebra.specs.Lead.{Lead, Upto}
 use Rattle.algebra.specs.Laws.Ring.{zero-add}
 use Rattle.algebra.specs.Laws.Solver.{_⊕_, _⊗_, _⊖_, ⊝, _≗_, k0, ring1, ring2, ring3, ring4}
 use Rattle.algebra.specs.Laws.Monomial.{monomial-at, monomial-off, monomial-add, monomial-zero, monomial-neg, monomial-mul}
-use Rattle.field.specs.loops.Fold.{fold}
+use Rattle.field.specs.loops.Fold.{fold, fold-keeps}
 use Rattle.field.specs.Fp.{Fp, el, add, neg, mul}
 use Rattle.field.specs.elements.Fp.{el-nonzero}
 use Rattle.field.specs.Prime.{Prime}
@@ -25,7 +25,6 @@ use Rattle.poly.specs.Keys.{exponents}
 use Rattle.poly.specs.Terms.{key-of, coefficient-of, term-of, poly}
 use Rattle.field.specs.loops.Places.{set-all}
 use Rattle.poly.specs.key.Laws.{exponents-injective, key-order-of}
-use Rattle.poly.specs.list.Folds.{fold-keeps}
 use Rattle.poly.specs.division.Model.{less-term, less-product}
 
 -- the cells of l are numbers modulo p

@@ -12,7 +12,7 @@ use Rattle.algebra.specs.SeriesRing.{S4}
 use Rattle.algebra.specs.Monomial.{monomial, polynomial}
 use Rattle.algebra.specs.Laws.Solver.{_⊕_, _⊖_, ⊝, _≗_, k0, ring1, ring2}
 use Rattle.algebra.specs.Laws.Monomial.{monomial-neg}
-use Rattle.field.specs.loops.Fold.{fold}
+use Rattle.field.specs.loops.Fold.{fold, fold-keeps}
 use Rattle.field.specs.Fp.{Fp, el}
 use Rattle.field.specs.Prime.{Prime}
 use Rattle.field.specs.modulus.Prime.{prime-positive}
@@ -22,7 +22,6 @@ use Rattle.poly.specs.Terms.{key-of, coefficient-of, poly, coefficient-l
 use Rattle.poly.specs.Lists.{Falling}
 use Rattle.poly.specs.key.Terms.{key-of-term, coefficient-of-term}
 use Rattle.poly.specs.list.Falling.{falling-coefficient}
-use Rattle.poly.specs.list.Folds.{fold-keeps}
 use Rattle.field.specs.loops.Places.{set-all, Clear, clear-one-less}
 use Rattle.poly.specs.division.Dense.{Reduced, dense, dense-set, dense-store, dense-zero, set-reduced}
 use Rattle.poly.specs.division.SpreadModel.{spread, gathered}

@@ -5,7 +5,7 @@ use Prim.Native.Nat.{ℕ, _+_, _-_, _*_, _%_, _≤_, _<_}
 use native.Mathlib.Omega.{arith}
 use lib.ListN.{length, getD, set, take, drop, length-drop}
 use lib.Seq.{take-set-le, take-set-lt, drop-set-lt, drop-set-add, getD-take, getD-drop, drop-drop, length-take-le}
-use Rattle.poly.specs.list.Folds.{fold-keeps, fold-through}
+use Rattle.field.specs.loops.Fold.{fold-keeps, fold-through}
 use Rattle.poly.specs.Keys.{keys}
 use Rattle.poly.specs.Terms.{key-of, coefficient-of}
 use Rattle.poly.specs.Room.{work-room}

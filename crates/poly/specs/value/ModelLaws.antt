@@ -4,7 +4,7 @@ use mathlib.Core.List.{List}
 use Prim.Native.Nat.{ℕ, _<_}
 use native.Mathlib.Nat.{mod-lt}
 use lib.ListN.{set, replicate, length-set}
-use Rattle.poly.specs.list.Folds.{fold-keeps}
+use Rattle.field.specs.loops.Fold.{fold-keeps}
 use Rattle.poly.specs.Coefficients.{Eight}
 use Rattle.field.specs.loops.Places.{set-all, replicate-all}
 use Rattle.poly.specs.value.Model.{plus-term, value-of}
