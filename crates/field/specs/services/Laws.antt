@@ -72,22 +72,19 @@ inverse-determined a =
     arithmetic-determined (inverse-operand a) (inverse-operand-one-place a) (Inverse a) (inverses-equal a) a
 
 -- operands to which no line applies are those that the operations ask for
-pub operands-fit : (a b : Element) → Passes (two-operands a b) → Fit a b
-operands-fit a b h =
-    let first = never-placed (h .1 .0) in
-    let second = never-placed (h .1 .1 .0) in
-    record {
-      below = omega arith;
-      other-below = let large : ¬ (a .modulus ≤ b .value) = λ l. second (inl l) in omega arith;
-    }
+pub operands-fit : (a b : Element) (f : Fault) → Tested (two-operands a b) f → f .number ≡ 0 → Fit a b
+operands-fit a b f t z =
+    let passed = tested-passes (two-operands a b) tt f t z .0 in
+    let first = never-placed (passed .1 .0) in
+    let large : ¬ (a .modulus ≤ b .value) = λ l. never-placed (passed .1 .1 .0) (inl l) in
+    record { below = omega arith; other-below = omega arith }
 
-pub operand-invertible : (a : Element) → Passes (inverse-operand a) → Invertible a
-operand-invertible a h =
-    record {
-      is-listed = listed-stable (a .modulus) (never-placed (h .0));
-      below = let first = never-placed (h .1 .0) in omega (arith, first);
-      nonzero = let zero = never-placed (h .1 .1 .0) in omega (arith, zero);
-    }
+pub operand-invertible : (a : Element) (f : Fault) → Tested (inverse-operand a) f → f .number ≡ 0 → Invertible a
+operand-invertible a f t z =
+    let passed = tested-passes (inverse-operand a) tt f t z .0 in
+    let first = never-placed (passed .1 .0) in
+    let zero = never-placed (passed .1 .1 .0) in
+    record { is-listed = listed-stable (a .modulus) (never-placed (passed .0)); below = omega arith; nonzero = omega arith }
 
 -- a service that tested its lines and answers by the fault's number
 module _ (lines : List Line) (Outcome : Element → Type 0) (a : Element) (f : Fault) (t : Tested lines f) (e : Element) where

@@ -9,13 +9,20 @@ use borrow.Author.Needs.{needs}
 use Rattle.field.specs.declared.faults.Fault.{Fault}
 use Rattle.field.specs.Refusal.{Tested}
 use Rattle.field.specs.faults.Laws.{placed-never, tested-line, tested-past, tested-end, tested-stops, tested-goes-on}
-use Rattle.field.specs.Arithmetic.{first-operand, second-operand, two-operands}
+use Rattle.field.specs.Arithmetic.{second-operand, two-operands}
 use Rattle.field.proofs.services.two_operands_fault.Statement.{statement}
 use Rattle.field.proofs.services.two_operands_fault.Tie as tie
 
+-- where both operands are lent, from the first test, and that test, from the second
+abbrev start : tie.After-struct-known → tie.Start
+start c = c .before .before
+
+abbrev passed : tie.After-struct-known5 → tie.Else1
+passed c = c .before .before .before .before
+
 -- past the first test the lines of the second operand are left
-second : (c : tie.Else1) {f : Fault} → Tested (second-operand (c .before .before .before .args .a) (c .before .before .before .args .b)) f
-    → Tested (two-operands (c .before .before .before .args .a) (c .before .before .before .args .b)) f
+second : (c : tie.Else1) {f : Fault} → Tested (second-operand (start (c .before) .args .a) (start (c .before) .args .b)) f
+    → Tested (two-operands (start (c .before) .args .a) (start (c .before) .args .b)) f
 second c = tested-goes-on _ _ _ (c .before .before .first-operand-fault .ensures) tt (c .if1 .left)
 
 -- what the test of the second operand says of its value v and modulus m
@@ -33,22 +40,16 @@ module _ (v m p : ℕ) where
 
 returns : tie.Need-returns
 returns c =
-    let args = c .before .before .before .args in
-    tested-stops (first-operand (args .a)) (second-operand (args .a) (args .b)) _
-    (c .before .before .first-operand-fault .ensures)
-    (c .if1 .taken)
+    let args = start (c .before) .args in
+    tested-stops _ (second-operand (args .a) (args .b)) _ (c .before .before .first-operand-fault .ensures) (c .if1 .taken)
 
 returns-2 : tie.Need-returns-2
-returns-2 c =
-    let then2 = c .before in
-    second (then2 .before .before .before .before .before)
-    (tested-line 1 (unfit _ _ _ (not-true _ (then2 .if2 .taken)), refl) (c .at .ensures))
+returns-2 c = second (passed (c .before .before)) (tested-line 1 (unfit _ _ _ (not-true _ (c .before .if2 .taken)), refl) (c .at .ensures))
 
 returns-3 : tie.Need-returns-3
 returns-3 c =
-    let else2 = c .before in
-    second (else2 .before .before .before .before .before)
-    (tested-past (placed-never (fit _ _ _ (not-false _ (else2 .if2 .left)))) (tested-end (c .none .ensures)))
+    second (passed (c .before .before))
+    (tested-past (placed-never (fit _ _ _ (not-false _ (c .before .if2 .left)))) (tested-end (c .none .ensures)))
 
 pub two-operands-fault-spec : {M : Type 1} → statement M
 two-operands-fault-spec =

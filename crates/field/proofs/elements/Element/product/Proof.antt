@@ -5,7 +5,6 @@ use native.Mathlib.Nat.{mod-lt}
 use Rattle.field.specs.Widths.{residue-limit}
 use Rattle.field.specs.elements.Products.{mul-below}
 use borrow.Author.Needs.{needs}
-use borrow.Author.Needs.{needs}
 use Rattle.field.proofs.elements.Element.product.Statement.{statement}
 use Rattle.field.proofs.elements.Element.product.Tie as tie
 
