@@ -1,18 +1,13 @@
 -- A product of two numbers below m, with a third added too, is below the square of m.
-use mathlib.Core.Path.{_≡_}
 use Prim.Native.Nat.{ℕ, zero, suc, _+_, _*_, _≤_, _<_}
 use native.Mathlib.Omega.{arith}
 use native.Mathlib.Nat.{mul-le-mul, mul-suc, suc-mul}
-
-square-next : (k : ℕ) → suc k * suc k ≡ k * k + k + suc k
-square-next k = let e = mul-suc (suc k) k in let f = suc-mul k k in omega arith
 
 below-square : (m r a b : ℕ) → r < m → a < m → b < m → r + a * b < m * m
 below-square zero r a b hr ha hb = absurd (omega arith)
 below-square (suc k) r a b hr ha hb =
     let product : a * b ≤ k * k = mul-le-mul {n₁ = a} {m₁ = b} {n₂ = k} {m₂ = k} (omega arith) (omega arith) in
-    let square = square-next k in
-    omega arith
+    omega (arith, mul-suc (suc k) k, suc-mul k k)
 
 pub plus-below : {r a b m : ℕ} → r < m → a < m → b < m → r + a * b < m * m
 plus-below {r} {a} {b} {m} = below-square m r a b

@@ -34,17 +34,11 @@ arithmetic-determined lines one Outcome same a r q (answered x h o) (refused g k
 arithmetic-determined lines one Outcome same a r q (answered x h o) (answered y k u) =
     ap (λ (e : Element). answer none e) (same x y o u)
 
-two-operands-one-place : (a b : Element) → OnePlaceEach (two-operands a b)
-two-operands-one-place a b = (whole-one-place _, (placed-one-place 0 _, (placed-one-place 1 _, tt)))
-
-inverse-operand-one-place : (a : Element) → OnePlaceEach (inverse-operand a)
-inverse-operand-one-place a = (whole-one-place _, (placed-one-place 0 _, (whole-one-place _, tt)))
-
 -- an outcome that is said outright, as the sum, the difference and the product
 said-determined : (a b e : Element) (r q : Answer)
     → Arithmetic (two-operands a b) (λ x. x ≡ e) a r → Arithmetic (two-operands a b) (λ x. x ≡ e) a q → r ≡ q
 said-determined a b e =
-    arithmetic-determined (two-operands a b) (two-operands-one-place a b) (λ x. x ≡ e) (λ x y h k. h ∙ sym k) a
+    arithmetic-determined (two-operands a b) (whole-one-place _, (placed-one-place 0 _, (placed-one-place 1 _, tt))) (λ x. x ≡ e) (λ x y h k. h ∙ sym k) a
 
 pub sum-determined : (a b : Element) (r q : Answer) → AskSum a b r → AskSum a b q → r ≡ q
 sum-determined a b = said-determined a b (sum-of a b)
@@ -69,7 +63,7 @@ inverses-equal a r q h k =
 
 pub inverse-determined : (a : Element) (r q : Answer) → AskInverse a r → AskInverse a q → r ≡ q
 inverse-determined a =
-    arithmetic-determined (inverse-operand a) (inverse-operand-one-place a) (Inverse a) (inverses-equal a) a
+    arithmetic-determined (inverse-operand a) (whole-one-place _, (placed-one-place 0 _, (whole-one-place _, tt))) (Inverse a) (inverses-equal a) a
 
 -- operands to which no line applies are those that the operations ask for
 pub operands-fit : (a b : Element) (f : Fault) → Tested (two-operands a b) f → f .number ≡ 0 → Fit a b

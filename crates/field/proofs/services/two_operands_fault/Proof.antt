@@ -1,10 +1,12 @@
 -- `field::two_operands_fault` meets its contract: the lines of the first operand by `first_operand_fault`, then those of the second.
-use mathlib.Core.Path.{_≡_, refl, sym, ap, _∙_, subst}
+use mathlib.Core.Path.{_≡_, refl}
 use mathlib.Core.Logic.{_⊎_, inl, inr}
-use mathlib.Core.Bool.{Bool, true, false, _&&_, and-false}
+use mathlib.Core.Bool.{true, false, _&&_, and-eq-true-iff}
 use Prim.Native.Nat.{ℕ, _≤_}
-use lib.Dec.{T, eqb, ltb}
-use borrow.Author.Tests.{not-true, not-false, ltb-false, eqb-false, le-ltb, ne-eqb}
+use native.Mathlib.Decide.{decLt}
+use native.Mathlib.Omega.{arith}
+use lib.Dec.{eqb, ltb}
+use borrow.Author.Tests.{not-true, not-false, ltb-true, eqb-true, eqb-false, lt-ltb}
 use borrow.Author.Needs.{needs}
 use Rattle.field.specs.declared.faults.Fault.{Fault}
 use Rattle.field.specs.Refusal.{Tested}
@@ -28,15 +30,11 @@ second c = tested-goes-on _ _ _ (c .before .before .first-operand-fault .ensures
 -- what the test of the second operand says of its value v and modulus m
 module _ (v m p : ℕ) where
   unfit : (ltb v p && eqb m p) ≡ false → (p ≤ v) ⊎ (¬ (m ≡ p))
-  unfit e = go (ltb v p) refl e
-    where
-      go : (b : Bool) → ltb v p ≡ b → (b && eqb m p) ≡ false → (p ≤ v) ⊎ (¬ (m ≡ p))
-      go true q e = inr (eqb-false m p e)
-      go false q e = inl (ltb-false v p q)
+  unfit e = elim (decLt v p) [ yes l ↦ inr (eqb-false m p (rw (lt-ltb v p l) at e)) | no n ↦ inl (omega arith) ]
 
   fit : (ltb v p && eqb m p) ≡ true → ¬ ((p ≤ v) ⊎ (¬ (m ≡ p)))
-  fit e (inl l) = let q : ltb v p ≡ false = le-ltb v p l in subst T (sym e ∙ ap (_&& eqb m p) q) tt
-  fit e (inr n) = let q : eqb m p ≡ false = ne-eqb m p n in subst T (sym e ∙ ap (ltb v p &&_) q ∙ and-false (ltb v p)) tt
+  fit e (inl l) = omega (arith, ltb-true v p (and-eq-true-iff (ltb v p) (eqb m p) .0 e .0))
+  fit e (inr n) = n (eqb-true m p (and-eq-true-iff (ltb v p) (eqb m p) .0 e .1))
 
 returns : tie.Need-returns
 returns c =
