@@ -94,5 +94,6 @@ module _ {bytes : List ℕ} {k at : ℕ} {r : Counts} (ready : Ready bytes k at 
     unfolding kind-of added
     point-added e {y} {z} {w} t u v q c g fresh =
         let a = point-place e in
-        let m = one-more a (c point-kind) (rw (g .record-is)) (y ∷ z ∷ w ∷ []) (rw (of-three bytes at (a .whole), t, u, v)) (q .counted) (g .points-is) (q .stored ∙ rw (add-one (r .points), add-two (r .points))) in
+        let b = rw (add-one (r .points), add-two (r .points)) at (q .stored) in
+        let m = one-more a (c point-kind) (rw (g .record-is)) (y ∷ z ∷ w ∷ []) (rw (of-three bytes at (a .whole), t, u, v)) (q .counted) (g .points-is) b in
         rw e (gives (rw (m .0, g .record-is)) (g .first-is) (g .second-is) (g .skeleton-is) (m .1))

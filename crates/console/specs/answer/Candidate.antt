@@ -3,7 +3,7 @@ use Prim.Native.Nat.{ℕ}
 use mathlib.Core.Path.{_≡_}
 use mathlib.Core.List.{List}
 use Rattle.case_file.specs.declared.Counts.{Counts as CaseCounts}
-use Rattle.case_file.specs.Reading.{Reading, read}
+use Rattle.case_file.specs.Reading.{read}
 use Rattle.case_file.specs.Handed.{Gives}
 use Rattle.divisor.specs.Candidate.{candidate-call, Result, Candidate}
 use Rattle.divisor.specs.answer.CandidateDetermined.{candidate-determined}
@@ -14,8 +14,7 @@ use Rattle.console.specs.answer.TermsFirst.{none-first, candidate-first}
 module _ (bytes output work : List ℕ) where
   pub candidate-answered-determined : (r q : Result) → CandidateAnswered output work bytes r → CandidateAnswered output work bytes q → r ≡ q
   candidate-answered-determined r q x y =
-      of-file-determined (unread output work) (λ (o : Reading). Candidate (call output work o)) bytes (λ o. candidate-determined (call output work o))
-      r q (x .is) (y .is)
+      of-file-determined _ _ bytes (λ o. candidate-determined (call output work o)) r q (x .is) (y .is)
 
   pub candidate-meets : {counts : CaseCounts} {first second skeleton points : List ℕ} → Gives (read bytes) counts first second skeleton points
       → Meets (unread output work) (λ p a b k n. Candidate (candidate-call p a b k n output work)) (λ r. r .found .terms) (λ r. r .output) bytes

@@ -6,4 +6,5 @@ use Rattle.handheld.proofs.balungkiro_difference.Tie as tie
 
 pub balungkiro-difference-spec : {M : Type 1} → statement M
 balungkiro-difference-spec =
-    tie.close (tie.spec (λ c κs. search needs) (λ c κs. search needs) (λ c. rw (c .answer-numbers .ensures) (laid (c .before .ask-difference .result) (search needs))))
+    tie.close (tie.spec (λ c κs. search needs) (λ c κs. search needs)
+    (λ c. rw (c .answer-numbers .ensures) (laid (c .before .ask-difference .result) (search needs))))

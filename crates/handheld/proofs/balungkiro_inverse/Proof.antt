@@ -6,4 +6,5 @@ use Rattle.handheld.proofs.balungkiro_inverse.Tie as tie
 
 pub balungkiro-inverse-spec : {M : Type 1} → statement M
 balungkiro-inverse-spec =
-    tie.close (tie.spec (λ c κs. search needs) (λ c κs. search needs) (λ c. rw (c .answer-numbers .ensures) (laid (c .before .ask-inverse .result) (search needs))))
+    tie.close (tie.spec (λ c κs. search needs) (λ c κs. search needs)
+    (λ c. rw (c .answer-numbers .ensures) (laid (c .before .ask-inverse .result) (search needs))))

@@ -6,4 +6,5 @@ use Rattle.handheld.proofs.balungkiro_product.Tie as tie
 
 pub balungkiro-product-spec : {M : Type 1} → statement M
 balungkiro-product-spec =
-    tie.close (tie.spec (λ c κs. search needs) (λ c κs. search needs) (λ c. rw (c .answer-numbers .ensures) (laid (c .before .ask-product .result) (search needs))))
+    tie.close (tie.spec (λ c κs. search needs) (λ c κs. search needs)
+    (λ c. rw (c .answer-numbers .ensures) (laid (c .before .ask-product .result) (search needs))))

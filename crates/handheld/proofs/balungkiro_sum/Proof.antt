@@ -6,4 +6,5 @@ use Rattle.handheld.proofs.balungkiro_sum.Tie as tie
 
 pub balungkiro-sum-spec : {M : Type 1} → statement M
 balungkiro-sum-spec =
-    tie.close (tie.spec (λ c κs. search needs) (λ c κs. search needs) (λ c. rw (c .answer-numbers .ensures) (laid (c .before .ask-sum .result) (search needs))))
+    tie.close (tie.spec (λ c κs. search needs) (λ c κs. search needs)
+    (λ c. rw (c .answer-numbers .ensures) (laid (c .before .ask-sum .result) (search needs))))

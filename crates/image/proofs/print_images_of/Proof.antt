@@ -16,5 +16,6 @@ pub print-images-of-spec : {M : Type 1} → statement M
 print-images-of-spec =
     tie.close (tie.spec (λ c κs. search needs) (λ c κs. search needs) (λ c. search needs) (λ c. search (needs, lists-read (read c .read-into .ensures)))
     (λ c. search (needs, lists-read (read (c .before) .read-into .ensures))) (λ c. search (needs, lists-read (read (c .before) .read-into .ensures)))
-    (λ c. search (needs, lists-read (read (c .before .before) .read-into .ensures))) (λ c. search (needs, lists-read (read (c .before .before) .read-into .ensures)))
+    (λ c. search (needs, lists-read (read (c .before .before) .read-into .ensures)))
+    (λ c. search (needs, lists-read (read (c .before .before) .read-into .ensures)))
     (λ c. search (needs, lists-read (read (passed c) .read-into .ensures))) (λ c κs. search needs) (λ c. search needs))

@@ -3,7 +3,7 @@ use Prim.Native.Nat.{ℕ}
 use mathlib.Core.Path.{_≡_}
 use mathlib.Core.List.{List}
 use Rattle.case_file.specs.declared.Counts.{Counts as CaseCounts}
-use Rattle.case_file.specs.Reading.{Reading, read}
+use Rattle.case_file.specs.Reading.{read}
 use Rattle.case_file.specs.Handed.{Gives}
 use Rattle.poly.specs.QuotientCall.{quotient-call, QuotientResult, Quotient}
 use Rattle.poly.specs.quotient.Laws.{quotient-determined}
@@ -14,8 +14,7 @@ use Rattle.quotient.specs.QuotientOfFile.{unread, call, QuotientAnswered
 module _ (bytes output work : List ℕ) where
   pub quotient-answered-determined : (r q : QuotientResult) → QuotientAnswered output work bytes r → QuotientAnswered output work bytes q → r ≡ q
   quotient-answered-determined r q x y =
-      of-file-determined (unread output work) (λ (o : Reading). Quotient (call output work o)) bytes (λ o. quotient-determined (call output work o))
-      r q (x .is) (y .is)
+      of-file-determined _ _ bytes (λ o. quotient-determined (call output work o)) r q (x .is) (y .is)
 
   pub quotient-meets : {counts : CaseCounts} {first second skeleton points : List ℕ} → Gives (read bytes) counts first second skeleton points
       → Meets (unread output work) (λ p a b k n. Quotient (quotient-call p a b output work)) (λ r. r .found .terms) (λ r. r .output) bytes

@@ -12,4 +12,5 @@ asked c = c .before .before .before .before .before .before
 pub candidate-in-spec : {M : Type 1} → statement M
 candidate-in-spec =
     tie.close (tie.spec (λ c κs. search needs) (λ c. search needs) (λ c. search needs) (λ c. search (needs, candidate-first _ _ (asked c .candidate .ensures)))
-    (λ c. search (needs, candidate-first _ _ (asked (c .before) .candidate .ensures))) (λ c κs. search needs) (λ c. search needs) (λ c. search needs) (λ c. search needs))
+    (λ c. search (needs, candidate-first _ _ (asked (c .before) .candidate .ensures))) (λ c κs. search needs) (λ c. search needs)
+    (λ c. search needs) (λ c. search needs))

@@ -11,4 +11,5 @@ asked c = c .before .before .before .before .before .before
 pub quotient-spec : {M : Type 1} → statement M
 quotient-spec =
     tie.close (tie.spec (λ c κs. search needs) (λ c. search needs) (λ c. search needs) (λ c. search (needs, quotient-first _ _ (asked c .quotient .ensures)))
-    (λ c. search (needs, quotient-first _ _ (asked (c .before) .quotient .ensures))) (λ c κs. search needs) (λ c. search needs) (λ c. search needs) (λ c. search needs))
+    (λ c. search (needs, quotient-first _ _ (asked (c .before) .quotient .ensures))) (λ c κs. search needs) (λ c. search needs)
+    (λ c. search needs) (λ c. search needs))

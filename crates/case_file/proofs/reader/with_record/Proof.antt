@@ -24,6 +24,7 @@ in-body c = point-place (c .before .before .pre) (is-point c) .whole
 abbrev arm : tie.After-number25 → tie.At-match-rest
 arm c = c .before .before .before
 
+-- d is the arm of the kind
 pub with-record-spec : {M : Type 1} → statement M
 with-record-spec =
     tie.close (tie.spec (λ c κs. search (needs, modulus-whole))
@@ -36,8 +37,5 @@ with-record-spec =
     (λ c κs. let h = in-body c in search needs) (λ c. let h = in-body (c .before) in search needs) (λ c κs. let h = in-body (c .before) in search needs)
     (λ c. let h = in-body (c .before .before) in search needs) (λ c κs. let h = in-body (c .before .before) in search needs)
     (λ c κs. let d = arm (c .before) in search (needs, point-place (d .before .before .pre) (is-point d)))
-    (λ c. search (needs, modulus-added))
-    (λ c. search (needs, first-added))
-    (λ c. search (needs, second-added))
-    (λ c. search (needs, key-added))
+    (λ c. search (needs, modulus-added)) (λ c. search (needs, first-added)) (λ c. search (needs, second-added)) (λ c. search (needs, key-added))
     (λ c. let h = is-point (arm (c .before .before)) in search (needs, point-added)))

@@ -29,6 +29,7 @@ pub candidate-of-spec : {M : Type 1} → statement M
 candidate-of-spec =
     tie.close (tie.spec (λ c κs. search needs) (λ c κs. search needs) returns (λ c. search (needs, lists-read (read c .read-into .ensures)))
     (λ c. search (needs, lists-read (read (c .before) .read-into .ensures))) (λ c. search (needs, lists-read (read (c .before) .read-into .ensures)))
-    (λ c. search (needs, lists-read (read (c .before .before) .read-into .ensures))) (λ c. search (needs, lists-read (read (c .before .before) .read-into .ensures)))
+    (λ c. search (needs, lists-read (read (c .before .before) .read-into .ensures)))
+    (λ c. search (needs, lists-read (read (c .before .before) .read-into .ensures)))
     (λ c. search (needs, lists-read (read (passed c) .read-into .ensures))) (λ c. search (needs, lists-read (read (passed c) .read-into .ensures)))
     (λ c. search (needs, lists-read (read (passed (c .before)) .read-into .ensures))) (λ c κs. search needs) (λ c. search needs) (λ c. search needs) returns-2)

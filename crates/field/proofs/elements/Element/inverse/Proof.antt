@@ -6,7 +6,7 @@ use native.Mathlib.Nat.{div-le-self, le-of-lt, mod-lt}
 use borrow.Author.Needs.{needs}
 use Rattle.field.specs.Widths.{residue-limit}
 use Rattle.field.specs.modulus.Laws.{listed-prime}
-use Rattle.field.specs.elements.Products.{mul-below}
+use Rattle.field.specs.elements.Products.{product-fits}
 use Rattle.field.specs.elements.Chase.{Chased, begin, next, end}
 use Rattle.field.proofs.elements.Element.inverse.Statement.{statement}
 use Rattle.field.proofs.elements.Element.inverse.Tie as tie
@@ -31,7 +31,7 @@ mul-m c =
     let p = start c .args .self .modulus in
     let q : p / c .before .loop .r < residue-limit = omega (arith, div-le-self p (c .before .loop .r)) in
     let t : c .before .loop .t < residue-limit = omega arith in
-    record { fits = mul-below q t }
+    product-fits _ _ q t
 
 sub-t : tie.Need-sub-t Inv-loop μ-loop
 sub-t c = le-of-lt (mod-lt _ (omega arith))
