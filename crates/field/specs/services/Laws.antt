@@ -1,9 +1,8 @@
 -- The promises of the arithmetic services settle their answers, and what is known where no line applies.
 use mathlib.Core.Path.{_≡_, sym, ap, _∙_}
-use mathlib.Core.Logic.{inl, inr}
+use mathlib.Core.Logic.{inl}
 use mathlib.Core.List.{List}
 use Prim.Native.Nat.{ℕ, _*_, _%_, _≤_, _<_}
-use native.Mathlib.Decide.{ℕ-discrete}
 use native.Mathlib.Omega.{arith}
 use lib.Dec.{T}
 use Rattle.field.specs.modulus.Laws.{listed-stable}
@@ -11,7 +10,7 @@ use Rattle.field.specs.Fp.{el}
 use Rattle.field.specs.elements.Fp.{el-below-inj}
 use Rattle.field.specs.elements.Inverse.{inverse-unique}
 use Rattle.field.specs.elements.Link.{inverse-mul}
-use Rattle.field.specs.Refusal.{Line, none, Passes, Tested}
+use Rattle.field.specs.Refusal.{Line, none, Tested}
 use Rattle.field.specs.faults.Laws.{OnePlaceEach, placed-one-place, whole-one-place, never-placed}
 use Rattle.field.specs.faults.Laws.{refuses-determined, not-passes-and-refuses, numbered, tested-passes, tested-refuses}
 use Rattle.field.specs.Contract.{element, Fit, Invertible, sum-of, difference-of, product-of, Inverse}

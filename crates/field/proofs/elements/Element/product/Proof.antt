@@ -6,5 +6,5 @@ use Rattle.field.proofs.elements.Element.product.Tie as tie
 
 pub product-spec : {M : Type 1} → statement M
 product-spec =
-    tie.close (tie.spec (λ c. search needs) (λ c. search needs) (λ c. search (needs, product-fits)) (λ c. search needs) (λ c. search needs) (λ c. search (needs, remainder-fits))
-    (λ c. search needs))
+    tie.close (tie.spec (λ c. search needs) (λ c. search needs) (λ c. search (needs, product-fits)) (λ c. search needs) (λ c. search needs)
+    (λ c. search (needs, remainder-fits)) (λ c. search needs))
