@@ -82,10 +82,7 @@ el-neg p n = refl
 
 -- n is (n / d) d + n % d
 pub el-div : (p n d : ℕ) → el p n ≡ add (mul (el p (n / d)) (el p d)) (el p (n % d))
-el-div p n d =
-    ap (λ (k : ℕ). el p k) (sym (div-add-mod n d) ∙ ap (λ (k : ℕ). k + n % d) (mul-comm d (n / d)))
-    ∙ el-add p (n / d * d) (n % d)
-    ∙ ap (λ (x : Fp p). add x (el p (n % d))) (el-mul p (n / d) d)
+el-div p n d = rw (← el-mul p (n / d) d, ← el-add p (n / d * d) (n % d), mul-comm (n / d) d, div-add-mod n d)
 
 -- the laws of a commutative ring
 module _ {p : ℕ} where
