@@ -1,4 +1,7 @@
 // The lines that are run only, also those that no case file can bring about: P1 with one input changed.
+ghost use mathlib.Core.List.{[], _∷_};
+ghost use Rattle.divisor.specs.declared.CandidateRecord.{CandidateRecord};
+ghost use Rattle.divisor.specs.Candidate.{candidate-call, candidate-result, Candidate};
 use crate::ask;
 use crate::lists;
 use crate::lists::MODULUS;
@@ -21,7 +24,12 @@ fn with_points(label: &[u8], points: &[Residue]) {
     ask::candidate(label, MODULUS, &P1_FIRST, &P1_SECOND, &X_1, points);
 }
 
-fn with_rooms(label: &[u8], out: &mut [Term], work: &mut [Residue]) {
+// P1 in rooms of the caller's, which are left as the service leaves them.
+fn with_rooms(label: &[u8], out: &mut [Term], work: &mut [Residue])
+    ensures { λ _. ⌜ ((found : CandidateRecord) × Candidate (candidate-call 17 (67108865 ∷ 16 ∷ []) (67108865 ∷ 33554434 ∷ 1 ∷ []) (512 ∷ 0 ∷ [])
+        (0 ∷ 0 ∷ 0 ∷ []) (now (out .entry)) (now (work .entry)))
+        (candidate-result found (now (out .exit)) (now (work .exit)))) ⌝ }
+{
     let origin = [0, 0, 0];
     ask::candidate_in(
         label,

@@ -5,7 +5,7 @@ use mathlib.Core.Logic.{_↔_}
 use mathlib.Core.List.{List, [], _++_, append-nil}
 use native.Mathlib.Nat.{le-refl}
 use native.Mathlib.Omega.{arith}
-use lib.ListN.{length}
+use lib.ListN.{length, drop-of-length-le}
 use Rattle.case_file.specs.Format.{Format, WellFormed, base}
 use Rattle.case_file.specs.Case.{Case}
 use Rattle.case_file.specs.Reading.{Reading, whole, refused, read-one-in, read-in}
@@ -13,7 +13,7 @@ use Rattle.case_file.specs.Handed.{fault}
 use Rattle.case_file.specs.Written.{file-of, Below, Storable}
 use Rattle.case_file.specs.reader.Alone.{Numbered, read-numbered, stays-whole, alone-whole}
 use Rattle.case_file.specs.reader.ReadBack.{written-of-read-one}
-use Rattle.case_file.specs.reader.RoundTrip.{empty-by-length, read-one-of-written}
+use Rattle.case_file.specs.reader.RoundTrip.{read-one-of-written}
 
 module _ (f : Format) where
   -- the file is the case c, written
@@ -35,10 +35,9 @@ module _ (f : Format) (w : WellFormed f) where
     accepted-holds b e =
         let a = alone-whole (length bs) (read-one-in f bs) c n e in
         let r = written-of-read-one f w bs c n b (a .0) in
-        let z : length (r .0) ≡ 0 = omega (arith, r .2, a .1) in
         record {
           storable = r .3;
-          same = r .1 ∙ ap (λ (l : List ℕ). file-of f c ++ l) (empty-by-length (r .0) z) ∙ append-nil (file-of f c);
+          same = r .1 ∙ ap (λ (l : List ℕ). file-of f c ++ l) (drop-of-length-le (r .0) {i = 0} (omega (arith, r .2, a .1))) ∙ append-nil (file-of f c);
           all = omega (arith, r .2);
         }
 

@@ -1,6 +1,6 @@
 -- What `with_record` asks and promises, and why it holds for each kind: the record's numbers go behind those of its list, the other lists stay.
 use Prim.Native.Nat.{ℕ, _+_, _%_, _≤_, _<_}
-use mathlib.Core.Path.{_≡_, _∙_}
+use mathlib.Core.Path.{_≡_}
 use mathlib.Core.List.{List, [], _∷_}
 use native.Mathlib.Numerals.{add-one, add-two}
 use native.Mathlib.Omega.{arith}
@@ -13,7 +13,7 @@ use Rattle.case_file.specs.Handed.{Gives}
 use Rattle.case_file.specs.declared.Counts.{Counts}
 use Rattle.case_file.specs.record.Room.{held, Place, two, four, Put, PutThree}
 use Rattle.case_file.specs.record.Packing.{of-two, of-four, of-three}
-use Rattle.case_file.specs.record.Arrays.{now-counted, now-stored, gives}
+use Rattle.case_file.specs.record.Arrays.{one-more, gives}
 
 -- a record of kind k, whose body begins at the offset at, can be added
 pub record Ready (bytes : List ℕ) (k at : ℕ) (r : Counts) : Type 0 where
@@ -69,30 +69,24 @@ module _ {bytes : List ℕ} {k at : ℕ} {r : Counts} (ready : Ready bytes k at 
     unfolding kind-of added
     first-added e {v} t q c g fresh =
         let a = first-place e in
-        let h : r .first ≡ length (flat (c first-kind)) = rw (g .record-is) in
-        let b = now-stored a (c first-kind) h (v ∷ []) (rw (of-four bytes at (a .whole), t)) (g .first-is) in
-        rw e
-        (gives (rw (q .counted, now-counted a (c first-kind) h, g .record-is)) (q .stored ∙ b) (g .second-is) (g .skeleton-is) (g .points-is))
+        let m = one-more a (c first-kind) (rw (g .record-is)) (v ∷ []) (rw (of-four bytes at (a .whole), t)) (q .counted) (g .first-is) (q .stored) in
+        rw e (gives (rw (m .0, g .record-is)) (m .1) (g .second-is) (g .skeleton-is) (g .points-is))
 
     pub second-added : k ≡ second-kind → {v n : ℕ} {s′ : List ℕ} → v ≡ four bytes at → Put v (r .second) n s s′
         → Adds bytes k at r (counts-of r (r .modulus) (r .first) n (r .skeleton) (r .points)) f s l p f s′ l p
     unfolding kind-of added
     second-added e {v} t q c g fresh =
         let a = second-place e in
-        let h : r .second ≡ length (flat (c second-kind)) = rw (g .record-is) in
-        let b = now-stored a (c second-kind) h (v ∷ []) (rw (of-four bytes at (a .whole), t)) (g .second-is) in
-        rw e
-        (gives (rw (q .counted, now-counted a (c second-kind) h, g .record-is)) (g .first-is) (q .stored ∙ b) (g .skeleton-is) (g .points-is))
+        let m = one-more a (c second-kind) (rw (g .record-is)) (v ∷ []) (rw (of-four bytes at (a .whole), t)) (q .counted) (g .second-is) (q .stored) in
+        rw e (gives (rw (m .0, g .record-is)) (g .first-is) (m .1) (g .skeleton-is) (g .points-is))
 
     pub key-added : k ≡ skeleton-kind → {v n : ℕ} {l′ : List ℕ} → v ≡ two bytes at → Put v (r .skeleton) n l l′
         → Adds bytes k at r (counts-of r (r .modulus) (r .first) (r .second) n (r .points)) f s l p f s l′ p
     unfolding kind-of added
     key-added e {v} t q c g fresh =
         let a = key-place e in
-        let h : r .skeleton ≡ length (flat (c skeleton-kind)) = rw (g .record-is) in
-        let b = now-stored a (c skeleton-kind) h (v ∷ []) (rw (of-two bytes at (a .whole), t)) (g .skeleton-is) in
-        rw e
-        (gives (rw (q .counted, now-counted a (c skeleton-kind) h, g .record-is)) (g .first-is) (g .second-is) (q .stored ∙ b) (g .points-is))
+        let m = one-more a (c skeleton-kind) (rw (g .record-is)) (v ∷ []) (rw (of-two bytes at (a .whole), t)) (q .counted) (g .skeleton-is) (q .stored) in
+        rw e (gives (rw (m .0, g .record-is)) (g .first-is) (g .second-is) (m .1) (g .points-is))
 
     pub point-added : k ≡ point-kind → {y z w n : ℕ} {p′ : List ℕ} → y ≡ two bytes at → z ≡ two bytes (at + 2) → w ≡ two bytes (at + 4)
         → PutThree y z w (r .points) n p p′
@@ -100,8 +94,6 @@ module _ {bytes : List ℕ} {k at : ℕ} {r : Counts} (ready : Ready bytes k at 
     unfolding kind-of added
     point-added e {y} {z} {w} t u v q c g fresh =
         let a = point-place e in
-        let h : r .points ≡ length (flat (c point-kind)) = rw (g .record-is) in
-        let b = now-stored a (c point-kind) h (y ∷ z ∷ w ∷ []) (rw (of-three bytes at (a .whole), t, u, v)) (g .points-is) in
-        rw e
-        (gives (rw (q .counted, now-counted a (c point-kind) h, g .record-is)) (g .first-is) (g .second-is) (g .skeleton-is)
-        (q .stored ∙ rw (add-one (r .points), add-two (r .points)) b))
+        let b = rw (add-one (r .points), add-two (r .points)) at (q .stored) in
+        let m = one-more a (c point-kind) (rw (g .record-is)) (y ∷ z ∷ w ∷ []) (rw (of-three bytes at (a .whole), t, u, v)) (q .counted) (g .points-is) b in
+        rw e (gives (rw (m .0, g .record-is)) (g .first-is) (g .second-is) (g .skeleton-is) (m .1))

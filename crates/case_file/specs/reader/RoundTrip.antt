@@ -7,7 +7,7 @@ use mathlib.Core.List.{List, [], _∷_, _++_, append-assoc, append-nil}
 use native.Mathlib.Nat.{add-zero}
 use native.Mathlib.Omega.{arith}
 use borrow.Author.Tests.{ne-eqb}
-use lib.ListN.{length, length-append}
+use lib.ListN.{length, length-append, drop-of-length-le}
 use lib.Seq.{drop-at}
 use Rattle.case_file.specs.Format.{Kind, Format, WellFormed, first-byte, last-byte, bytes-of, order, member, known, rises, widths, limit, body, follows}
 use Rattle.case_file.specs.Case.{Case, no-records, added}
@@ -23,10 +23,6 @@ single : (rs : List (List ℕ)) → length rs ≡ 1 → (ns : List ℕ) × (rs �
 single [] h = absurd (omega arith)
 single (ns ∷ []) h = (ns, refl)
 single (ns ∷ ms ∷ rs) h = absurd (omega arith)
-
-pub empty-by-length : {A : Type 0} (l : List A) → length l ≡ 0 → l ≡ []
-empty-by-length [] h = refl
-empty-by-length (x ∷ l) h = absurd (omega arith)
 
 module _ (f : Format) where
   -- the bytes of the kinds ks and of the last kind
@@ -96,7 +92,7 @@ module _ (f : Format) (w : WellFormed f) (c : Case) (s : Storable f c) where
   unfolding known
   partly-start =
       record {
-        same = λ j h. sym (empty-by-length (c j) (omega (arith, s .within j, ap (λ (k : Kind). k .limit) (unknown-kind f j h))));
+        same = λ j h. sym (drop-of-length-le (c j) {i = 0} (omega (arith, s .within j, ap (λ (k : Kind). k .limit) (unknown-kind f j h))));
         later = λ j h. refl;
       }
 

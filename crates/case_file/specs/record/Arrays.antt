@@ -32,16 +32,15 @@ unfolding flat
 flat-more [] ns = append-nil ns
 flat-more (r ∷ rs) ns = rw (flat-more rs ns) (sym (append-assoc r (flat rs) ns))
 
--- the list of the records rs of kind k, with one more
-module _ {k : Kind} {bytes : List ℕ} {at n : ℕ} (p : Place k bytes at n) (rs : List (List ℕ)) (e : n ≡ length (flat rs)) where
-  pub now-counted : n + length (k .widths) ≡ length (flat (rs ++ numbers (k .widths) (drop at bytes) ∷ []))
-  now-counted = rw (flat-more, length-append, length-numbers, e)
-
-  pub now-stored : (vs : List ℕ) → numbers (k .widths) (drop at bytes) ≡ vs → {before : List ℕ} → before ≡ padded (most k) (flat rs)
-      → sets before n vs ≡ padded (most k) (flat (rs ++ numbers (k .widths) (drop at bytes) ∷ []))
-  now-stored vs v b =
-      rw (flat-more, ← v, b)
-      (padded-sets (most k) n (flat rs) (numbers (k .widths) (drop at bytes)) e (rw length-numbers (p .room)))
+-- the list of the records rs of kind k, with one more: its count, and the array that holds it
+pub one-more : {k : Kind} {bytes : List ℕ} {at n : ℕ} → Place k bytes at n → (rs : List (List ℕ)) → n ≡ length (flat rs)
+    → (vs : List ℕ) → numbers (k .widths) (drop at bytes) ≡ vs → {m : ℕ} → m ≡ n + length (k .widths)
+    → {before after : List ℕ} → before ≡ padded (most k) (flat rs) → after ≡ sets before n vs
+    → (m ≡ length (flat (rs ++ numbers (k .widths) (drop at bytes) ∷ []))) × (after ≡ padded (most k) (flat (rs ++ numbers (k .widths) (drop at bytes) ∷ [])))
+one-more {k} {bytes} {at} {n} p rs e vs v c b a = (
+  rw (c, flat-more, length-append, length-numbers, e),
+  rw (a, flat-more, ← v, b) (padded-sets (most k) n (flat rs) (numbers (k .widths) (drop at bytes)) e (rw length-numbers (p .room))),
+)
 
 -- what is handed back, from its parts
 pub gives : {o : Reading} {r : Counts} {f s k p : List ℕ} → r ≡ counts o → f ≡ array o first-kind → s ≡ array o second-kind

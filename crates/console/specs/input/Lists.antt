@@ -1,6 +1,5 @@
 -- What the reader gives, list by list: each list of the case stands first in its array, and on refusal they are empty.
 use Prim.Native.Nat.{ℕ}
-use mathlib.Core.Path.{ap}
 use mathlib.Core.List.{List}
 use Rattle.case_file.specs.Format.{first-kind, second-kind, skeleton-kind, point-kind}
 use Rattle.case_file.specs.Reading.{Reading}
@@ -9,7 +8,6 @@ use Rattle.case_file.specs.declared.Counts.{Counts}
 use Rattle.console.specs.input.First.{First, padded-first}
 
 pub record Lists (o : Reading) (r : Counts) (first second skeleton points : List ℕ) : Type 0 where
-  pub given : Gives o r first second skeleton points
   pub first-list : First (r .first) first (list o first-kind)
   pub second-list : First (r .second) second (list o second-kind)
   pub skeleton-list : First (r .skeleton) skeleton (list o skeleton-kind)
@@ -18,9 +16,8 @@ pub record Lists (o : Reading) (r : Counts) (first second skeleton points : List
 pub lists-read : {o : Reading} {r : Counts} {first second skeleton points : List ℕ} → Gives o r first second skeleton points
     → Lists o r first second skeleton points
 lists-read h = record {
-  given = h;
-  first-list = padded-first _ _ _ _ (ap (λ (r : Counts). r .first) (h .record-is)) (h .first-is);
-  second-list = padded-first _ _ _ _ (ap (λ (r : Counts). r .second) (h .record-is)) (h .second-is);
-  skeleton-list = padded-first _ _ _ _ (ap (λ (r : Counts). r .skeleton) (h .record-is)) (h .skeleton-is);
-  point-list = padded-first _ _ _ _ (ap (λ (r : Counts). r .points) (h .record-is)) (h .points-is);
+  first-list = padded-first _ _ _ _ (rw (h .record-is)) (h .first-is);
+  second-list = padded-first _ _ _ _ (rw (h .record-is)) (h .second-is);
+  skeleton-list = padded-first _ _ _ _ (rw (h .record-is)) (h .skeleton-is);
+  point-list = padded-first _ _ _ _ (rw (h .record-is)) (h .points-is);
 }

@@ -5,7 +5,7 @@ use native.Mathlib.Omega.{arith}
 use native.Mathlib.Nat.{mod-eq-of-lt, mod-lt}
 use Rattle.field.specs.Prime.{Prime}
 use Rattle.field.specs.modulus.Prime.{prime-leaves, prime-positive}
-use Rattle.field.specs.Fp.{Fp, el, mul, neg}
+use Rattle.field.specs.Fp.{el, mul}
 use Rattle.field.specs.elements.Fp.{el-inj, el-mod, el-mul, el-neg, Fp-mul-one}
 use Rattle.field.specs.elements.Inverse.{inverse-turn}
 
@@ -22,10 +22,7 @@ pub next : {p a r t : ℕ} → Prime p → Chased p a r t → ¬ (r ≡ 1) → C
 next {p} {a} {r} {t} P k n =
     let m : p % r < r = mod-lt p (k .low) in
     record {
-      holds =
-          ap (λ (x : Fp p). mul (el p a) x)
-          (el-mod p (p - p / r * t % p) ∙ el-neg p (p / r * t) ∙ ap (λ (x : Fp p). neg x) (el-mul p (p / r) t))
-          ∙ inverse-turn p (prime-positive P) (el p a) (el p t) r (k .holds);
+      holds = rw (el-mod, el-neg, el-mul) (inverse-turn p (prime-positive P) (el p a) (el p t) r (k .holds));
       low = prime-leaves P r (omega arith) (k .high);
       high = omega arith;
       below = mod-lt (p - p / r * t % p) (prime-positive P);

@@ -82,10 +82,7 @@ el-neg p n = refl
 
 -- n is (n / d) d + n % d
 pub el-div : (p n d : ℕ) → el p n ≡ add (mul (el p (n / d)) (el p d)) (el p (n % d))
-el-div p n d =
-    ap (λ (k : ℕ). el p k) (sym (div-add-mod n d) ∙ ap (λ (k : ℕ). k + n % d) (mul-comm d (n / d)))
-    ∙ el-add p (n / d * d) (n % d)
-    ∙ ap (λ (x : Fp p). add x (el p (n % d))) (el-mul p (n / d) d)
+el-div p n d = rw (← el-mul p (n / d) d, ← el-add p (n / d * d) (n % d), mul-comm (n / d) d, div-add-mod n d)
 
 -- the laws of a commutative ring
 module _ {p : ℕ} where
@@ -99,39 +96,27 @@ module _ {p : ℕ} where
 
   pub Fp-add-assoc : (x y z : Fp p) → add (add x y) z ≡ add x (add y z)
   unfolding add el
-  Fp-add-assoc x y z =
-      Fp-path
-      (mod-add-mod (x .val + y .val) p (z .val) ∙ ap (λ (n : ℕ). n % p) (add-assoc (x .val) (y .val) (z .val))
-      ∙ sym (add-mod-mod (x .val) (y .val + z .val) p))
+  Fp-add-assoc x y z = Fp-path (simp (mod-add-mod, add-mod-mod, add-assoc))
 
   pub Fp-mul-assoc : (x y z : Fp p) → mul (mul x y) z ≡ mul x (mul y z)
   unfolding mul el
-  Fp-mul-assoc x y z =
-      Fp-path
-      (mod-mul-mod (x .val * y .val) (z .val) p ∙ ap (λ (n : ℕ). n % p) (mul-assoc (x .val) (y .val) (z .val))
-      ∙ sym (mul-mod-mod (x .val) (y .val * z .val) p))
+  Fp-mul-assoc x y z = Fp-path (simp (mod-mul-mod, mul-mod-mod, mul-assoc))
 
   pub Fp-add-zero : (x : Fp p) → add x (el p 0) ≡ x
   unfolding add el
-  Fp-add-zero x =
-      Fp-path (add-mod-mod (x .val) 0 p ∙ ap (λ (n : ℕ). n % p) (add-zero (x .val)) ∙ x .reduced)
+  Fp-add-zero x = Fp-path (simp (add-mod-mod, add-zero) (x .reduced))
 
   pub Fp-mul-one : (x : Fp p) → mul x (el p 1) ≡ x
   unfolding mul el
-  Fp-mul-one x =
-      Fp-path (mul-mod-mod (x .val) 1 p ∙ ap (λ (n : ℕ). n % p) (mul-one (x .val)) ∙ x .reduced)
+  Fp-mul-one x = Fp-path (simp (mul-mod-mod, mul-one) (x .reduced))
 
   pub Fp-distrib : (x y z : Fp p) → mul (add x y) z ≡ add (mul x z) (mul y z)
   unfolding mul el add
-  Fp-distrib x y z =
-      Fp-path
-      (mod-mul-mod (x .val + y .val) (z .val) p ∙ ap (λ (n : ℕ). n % p) (add-mul (x .val) (y .val) (z .val))
-      ∙ sym (mod-add-mod (x .val * z .val) p (y .val * z .val % p) ∙ add-mod-mod (x .val * z .val) (y .val * z .val) p))
+  Fp-distrib x y z = Fp-path (simp (mod-mul-mod, mod-add-mod, add-mod-mod, add-mul))
 
   pub Fp-add-neg : 0 < p → (x : Fp p) → add x (neg x) ≡ el p 0
   unfolding add el neg
   Fp-add-neg h x =
       let b : x .val < p = val-lt h x in
       let e : x .val + (p - x .val) ≡ p = omega arith in
-      Fp-path
-      (add-mod-mod (x .val) (p - x .val) p ∙ ap (λ (n : ℕ). n % p) e ∙ mod-self p ∙ sym (zero-mod p))
+      Fp-path (simp (add-mod-mod, e, mod-self, zero-mod))

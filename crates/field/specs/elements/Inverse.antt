@@ -17,10 +17,8 @@ use Rattle.field.specs.Residues.{Residues}
 -- one turn: with a t = r, also a (- (p / r) t) = p % r
 pub inverse-turn : (p : ℕ) → 0 < p → (a t : Fp p) (r : ℕ) → mul a t ≡ el p r → mul a (neg (mul (el p (p / r)) t)) ≡ el p (p % r)
 inverse-turn p pos a t r e =
-    mul-neg (Residues p pos) a (mul (el p (p / r)) t)
-    ∙ ap (λ (x : Fp p). neg x)
-    (mul-left-comm (Residues p pos) a (el p (p / r)) t ∙ ap (λ (x : Fp p). mul (el p (p / r)) x) e)
-    ∙ sym (neg-unique (Residues p pos) (mul (el p (p / r)) (el p r)) (el p (p % r)) (sym (el-div p p r) ∙ el-self p))
+    rw (mul-neg (Residues p pos) a (mul (el p (p / r)) t), mul-left-comm (Residues p pos) a (el p (p / r)) t, e)
+    (sym (neg-unique (Residues p pos) (mul (el p (p / r)) (el p r)) (el p (p % r)) (sym (el-div p p r) ∙ el-self p)))
 
 chase-law : {p : ℕ} → Prime p → (a : Fp p) (fuel r : ℕ) → r ≤ fuel → 0 < r → r < p → (t : Fp p) → mul a t ≡ el p r
     → mul a (chase p fuel r t) ≡ el p 1
@@ -53,11 +51,7 @@ mul-inv {p} P a n =
 
 -- an inverse is the inverse, whatever the modulus
 pub inverse-unique : {p : ℕ} (a b c : Fp p) → mul a b ≡ el p 1 → mul a c ≡ el p 1 → b ≡ c
-inverse-unique {p} a b c e f =
-    sym (Fp-mul-one b) ∙ ap (λ (x : Fp p). mul b x) (sym f) ∙ sym (Fp-mul-assoc b a c)
-    ∙ ap (λ (x : Fp p). mul x c) (Fp-mul-comm b a ∙ e)
-    ∙ Fp-mul-comm (el p 1) c
-    ∙ Fp-mul-one c
+inverse-unique {p} a b c e f = cc (Fp-mul-one b, Fp-mul-assoc b a c, Fp-mul-comm b a, Fp-mul-comm (el p 1) c, Fp-mul-one c)
 
 -- 0 is not 1, modulo a number above 1
 pub one≢zero : {p : ℕ} → 1 < p → ¬ (el p 1 ≡ el p 0)

@@ -36,9 +36,7 @@ difference-el p a b pos h = sum-el p a (p - b) ∙ ap (add (el p a)) (opposite-e
 pub minus-times-el : (p r a b : ℕ) → 0 < p → a ≤ p
     → el p ((r + (p - a) * b) % p) ≡ add (el p r) (neg (mul (el p a) (el p b)))
 minus-times-el p r a b pos h =
-    plus-times-el p r (p - a) b
-    ∙ ap (add (el p r))
-    (ap (λ (x : Fp p). mul x (el p b)) (opposite-el p a pos h) ∙ neg-mul (Residues p pos) (el p a) (el p b))
+    rw (plus-times-el p r (p - a) b, opposite-el p a pos h) (ap (add (el p r)) (neg-mul (Residues p pos) (el p a) (el p b)))
 
 -- a number whose product with another is 1
 pub inverse-mul : (p a x : ℕ) → (a * x) % p ≡ 1 → mul (el p a) (el p x) ≡ el p 1

@@ -12,8 +12,7 @@ mod-mul-mod a b p =
     ∙ mul-add-mod-self-left p (a / p * b) (a % p * b))
 
 pub mul-mod-mod : (a b p : ℕ) → (a * (b % p)) % p ≡ (a * b) % p
-mul-mod-mod a b p =
-    ap (λ (n : ℕ). n % p) (mul-comm a (b % p)) ∙ mod-mul-mod b a p ∙ ap (λ (n : ℕ). n % p) (mul-comm b a)
+mul-mod-mod a b p = rw (mul-comm a (b % p), mod-mul-mod b a p, mul-comm b a)
 
 -- below twice the modulus a remainder is the number, or the number less the modulus
 pub once-reduced : (n p : ℕ) → p ≤ n → n < p + p → n - p ≡ n % p

@@ -11,13 +11,10 @@ use mir.Facts.{and-yes}
 use Rattle.field.specs.declared.faults.Fault.{Fault}
 use Rattle.field.specs.Refusal.{Line, placed, whole, first, fault, none, Refuses, Passes, Tested, refused, passed}
 
--- a line has one place
-abbrev pub OnePlace : Line → Type 0
-OnePlace l = (a b : ℕ) → l .given a → l .given b → a ≡ b
-
+-- each line has one place
 abbrev pub OnePlaceEach : List Line → Type 0
 OnePlaceEach [] = Unit {0}
-OnePlaceEach (l ∷ lines) = OnePlace l × OnePlaceEach lines
+OnePlaceEach (l ∷ lines) = ((a b : ℕ) → l .given a → l .given b → a ≡ b) × OnePlaceEach lines
 
 pub placed-one-place : (k : ℕ) (X : Type 0) (a b : ℕ) → placed k X a → placed k X b → a ≡ b
 placed-one-place k X a b h j = h .1 ∙ sym (j .1)

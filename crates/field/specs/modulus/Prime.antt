@@ -15,18 +15,14 @@ module _ (p m : ℕ) (above : 1 < p) (small : p < m * m) (none : (d : ℕ) → 2
   no-factors : (d c : ℕ) → p ≡ d * c → ¬ (d ≡ 1) → ¬ (d ≡ p) → ⊥
   no-factors d c e not-one not-p = go (decLt d m) (decLt c m)
     where
-      d-not-zero : ¬ (d ≡ 0)
-      d-not-zero z = omega (arith, e ∙ ap (λ (n : ℕ). n * c) z ∙ zero-mul c)
-
-      c-not-zero : ¬ (c ≡ 0)
-      c-not-zero z = omega (arith, e ∙ ap (λ (n : ℕ). d * n) z ∙ mul-zero d)
-
-      c-not-one : ¬ (c ≡ 1)
-      c-not-one z = not-p (sym (e ∙ ap (λ (n : ℕ). d * n) z ∙ mul-one d))
-
       go : Dec (d < m) → Dec (c < m) → ⊥
-      go (yes l) y = none d (omega (arith, d-not-zero)) l (ap (λ (n : ℕ). n % d) e ∙ mul-mod-right d c)
-      go (no l) (yes y) = none c (omega (arith, c-not-zero, c-not-one)) y (ap (λ (n : ℕ). n % c) e ∙ mul-mod-left d c)
+      go (yes l) y =
+          let not-zero : ¬ (d ≡ 0) = λ z. omega (arith, e ∙ ap (λ (n : ℕ). n * c) z ∙ zero-mul c) in
+          none d (omega arith) l (ap (λ (n : ℕ). n % d) e ∙ mul-mod-right d c)
+      go (no l) (yes y) =
+          let not-zero : ¬ (c ≡ 0) = λ z. omega (arith, e ∙ ap (λ (n : ℕ). d * n) z ∙ mul-zero d) in
+          let not-one : ¬ (c ≡ 1) = λ z. not-p (sym (e ∙ ap (λ (n : ℕ). d * n) z ∙ mul-one d)) in
+          none c (omega arith) y (ap (λ (n : ℕ). n % c) e ∙ mul-mod-left d c)
       go (no l) (no y) =
           let h : m * m ≤ d * c = mul-le-mul (omega arith) (omega arith) in
           omega arith
@@ -91,10 +87,6 @@ prime-positive P = omega (arith, P .above)
 pub prime-leaves : {p : ℕ} → Prime p → (r : ℕ) → 1 < r → r < p → 0 < p % r
 prime-leaves {p} P r h l = go (ℕ-discrete (p % r) 0)
   where
-    not-divides : (r ≡ 1) ⊎ (r ≡ p) → ⊥
-    not-divides (inl e) = omega arith
-    not-divides (inr e) = omega arith
-
     go : Dec (p % r ≡ 0) → 0 < p % r
-    go (yes e) = absurd (not-divides (P .only r (dvd-of-mod-eq-zero r e)))
+    go (yes e) = elim (P .only r (dvd-of-mod-eq-zero r e)) [ inl one ↦ omega arith | inr all ↦ omega arith ]
     go (no n) = omega arith

@@ -10,7 +10,7 @@ use Rattle.field.specs.Fp.{el}
 use Rattle.field.specs.elements.Fp.{el-below-inj}
 use Rattle.field.specs.elements.Inverse.{inverse-unique}
 use Rattle.field.specs.elements.Link.{inverse-mul}
-use Rattle.field.specs.Refusal.{Line, none, Passes, Tested}
+use Rattle.field.specs.Refusal.{Line, none, Tested}
 use Rattle.field.specs.faults.Laws.{OnePlaceEach, placed-one-place, whole-one-place, never-placed}
 use Rattle.field.specs.faults.Laws.{refuses-determined, not-passes-and-refuses, numbered, tested-passes, tested-refuses}
 use Rattle.field.specs.Contract.{element, Fit, Invertible, sum-of, difference-of, product-of, Inverse}
@@ -33,17 +33,11 @@ arithmetic-determined lines one Outcome same a r q (answered x h o) (refused g k
 arithmetic-determined lines one Outcome same a r q (answered x h o) (answered y k u) =
     ap (λ (e : Element). answer none e) (same x y o u)
 
-two-operands-one-place : (a b : Element) → OnePlaceEach (two-operands a b)
-two-operands-one-place a b = (whole-one-place _, (placed-one-place 0 _, (placed-one-place 1 _, tt)))
-
-inverse-operand-one-place : (a : Element) → OnePlaceEach (inverse-operand a)
-inverse-operand-one-place a = (whole-one-place _, (placed-one-place 0 _, (whole-one-place _, tt)))
-
 -- an outcome that is said outright, as the sum, the difference and the product
 said-determined : (a b e : Element) (r q : Answer)
     → Arithmetic (two-operands a b) (λ x. x ≡ e) a r → Arithmetic (two-operands a b) (λ x. x ≡ e) a q → r ≡ q
 said-determined a b e =
-    arithmetic-determined (two-operands a b) (two-operands-one-place a b) (λ x. x ≡ e) (λ x y h k. h ∙ sym k) a
+    arithmetic-determined (two-operands a b) (whole-one-place _, (placed-one-place 0 _, (placed-one-place 1 _, tt))) (λ x. x ≡ e) (λ x y h k. h ∙ sym k) a
 
 pub sum-determined : (a b : Element) (r q : Answer) → AskSum a b r → AskSum a b q → r ≡ q
 sum-determined a b = said-determined a b (sum-of a b)
@@ -68,25 +62,22 @@ inverses-equal a r q h k =
 
 pub inverse-determined : (a : Element) (r q : Answer) → AskInverse a r → AskInverse a q → r ≡ q
 inverse-determined a =
-    arithmetic-determined (inverse-operand a) (inverse-operand-one-place a) (Inverse a) (inverses-equal a) a
+    arithmetic-determined (inverse-operand a) (whole-one-place _, (placed-one-place 0 _, (whole-one-place _, tt))) (Inverse a) (inverses-equal a) a
 
 -- operands to which no line applies are those that the operations ask for
-pub operands-fit : (a b : Element) → Passes (two-operands a b) → Fit a b
-operands-fit a b h =
-    let first = never-placed (h .1 .0) in
-    let second = never-placed (h .1 .1 .0) in
-    record {
-      below = omega arith;
-      other-below = let large : ¬ (a .modulus ≤ b .value) = λ l. second (inl l) in omega arith;
-    }
+pub operands-fit : (a b : Element) (f : Fault) → Tested (two-operands a b) f → f .number ≡ 0 → Fit a b
+operands-fit a b f t z =
+    let passed = tested-passes (two-operands a b) tt f t z .0 in
+    let first = never-placed (passed .1 .0) in
+    let large : ¬ (a .modulus ≤ b .value) = λ l. never-placed (passed .1 .1 .0) (inl l) in
+    record { below = omega arith; other-below = omega arith }
 
-pub operand-invertible : (a : Element) → Passes (inverse-operand a) → Invertible a
-operand-invertible a h =
-    record {
-      is-listed = listed-stable (a .modulus) (never-placed (h .0));
-      below = let first = never-placed (h .1 .0) in omega (arith, first);
-      nonzero = let zero = never-placed (h .1 .1 .0) in omega (arith, zero);
-    }
+pub operand-invertible : (a : Element) (f : Fault) → Tested (inverse-operand a) f → f .number ≡ 0 → Invertible a
+operand-invertible a f t z =
+    let passed = tested-passes (inverse-operand a) tt f t z .0 in
+    let first = never-placed (passed .1 .0) in
+    let zero = never-placed (passed .1 .1 .0) in
+    record { is-listed = listed-stable (a .modulus) (never-placed (passed .0)); below = omega arith; nonzero = omega arith }
 
 -- a service that tested its lines and answers by the fault's number
 module _ (lines : List Line) (Outcome : Element → Type 0) (a : Element) (f : Fault) (t : Tested lines f) (e : Element) where

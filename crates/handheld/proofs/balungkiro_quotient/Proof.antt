@@ -4,9 +4,6 @@ use Rattle.handheld.specs.Layout.{laid}
 use Rattle.handheld.proofs.balungkiro_quotient.Statement.{statement}
 use Rattle.handheld.proofs.balungkiro_quotient.Tie as tie
 
-returns : tie.Need-returns
-returns c = laid _ (c .before .before .before .before .before .before .quotient .ensures)
-
 pub balungkiro-quotient-spec : {M : Type 1} → statement M
 balungkiro-quotient-spec =
-    tie.close (tie.spec (λ c κs. search needs) (λ c. search needs) (λ c. search needs) (λ c. search needs) returns)
+    tie.close (tie.spec (λ c κs. search needs) (λ c. search needs) (λ c. search needs) (λ c. search needs) (λ c. laid _ (search needs)))

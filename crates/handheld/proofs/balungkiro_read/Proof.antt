@@ -7,7 +7,8 @@ use Rattle.handheld.proofs.balungkiro_read.Tie as tie
 
 returns : tie.Need-returns
 returns c =
-    let g = c .before .before .before .read-into .ensures in
+    let read = c .before .before .before in
+    let g = read .read-into .ensures in
     rw (g .record-is, g .first-is, g .second-is, g .skeleton-is, g .points-is) (laid _ refl)
 
 pub balungkiro-read-spec : {M : Type 1} → statement M

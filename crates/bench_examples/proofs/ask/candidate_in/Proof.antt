@@ -5,13 +5,12 @@ use Rattle.console.specs.answer.TermsFirst.{candidate-first}
 use Rattle.bench_examples.proofs.ask.candidate_in.Statement.{statement}
 use Rattle.bench_examples.proofs.ask.candidate_in.Tie as tie
 
-slice-reshare-prefix-print-found : tie.Need-slice-reshare-prefix-print-found
-slice-reshare-prefix-print-found c = candidate-first _ _ (c .before .before .before .before .before .before .candidate .ensures) .0
-
-slice-aggregate-print-found-2 : tie.Need-slice-aggregate-print-found-2
-slice-aggregate-print-found-2 c = candidate-first _ _ (c .before .before .before .before .before .before .before .candidate .ensures) .1
+-- where the service is asked, from where its numbers are listed
+abbrev asked : tie.After-numbers → tie.After-candidate
+asked c = c .before .before .before .before .before .before
 
 pub candidate-in-spec : {M : Type 1} → statement M
 candidate-in-spec =
-    tie.close (tie.spec (λ c κs. search needs) (λ c. search needs) (λ c. search needs) slice-reshare-prefix-print-found slice-aggregate-print-found-2
-    (λ c κs. search needs) (λ c. search needs) (λ c. search needs) (λ c. search needs))
+    tie.close (tie.spec (λ c κs. search needs) (λ c. search needs) (λ c. search needs) (λ c. search (needs, candidate-first _ _ (asked c .candidate .ensures)))
+    (λ c. search (needs, candidate-first _ _ (asked (c .before) .candidate .ensures))) (λ c κs. search needs) (λ c. search needs)
+    (λ c. search needs) (λ c. search needs))

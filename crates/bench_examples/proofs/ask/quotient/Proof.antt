@@ -4,13 +4,12 @@ use Rattle.console.specs.answer.TermsFirst.{quotient-first}
 use Rattle.bench_examples.proofs.ask.quotient.Statement.{statement}
 use Rattle.bench_examples.proofs.ask.quotient.Tie as tie
 
-slice-reshare-prefix-print-found : tie.Need-slice-reshare-prefix-print-found
-slice-reshare-prefix-print-found c = quotient-first _ _ (c .before .before .before .before .before .before .quotient .ensures) .0
-
-slice-aggregate-print-found-2 : tie.Need-slice-aggregate-print-found-2
-slice-aggregate-print-found-2 c = quotient-first _ _ (c .before .before .before .before .before .before .before .quotient .ensures) .1
+-- where the service is asked, from where its numbers are listed
+abbrev asked : tie.After-numbers → tie.After-quotient
+asked c = c .before .before .before .before .before .before
 
 pub quotient-spec : {M : Type 1} → statement M
 quotient-spec =
-    tie.close (tie.spec (λ c κs. search needs) (λ c. search needs) (λ c. search needs) slice-reshare-prefix-print-found slice-aggregate-print-found-2
-    (λ c κs. search needs) (λ c. search needs) (λ c. search needs) (λ c. search needs))
+    tie.close (tie.spec (λ c κs. search needs) (λ c. search needs) (λ c. search needs) (λ c. search (needs, quotient-first _ _ (asked c .quotient .ensures)))
+    (λ c. search (needs, quotient-first _ _ (asked (c .before) .quotient .ensures))) (λ c κs. search needs) (λ c. search needs)
+    (λ c. search needs) (λ c. search needs))

@@ -4,10 +4,6 @@ use Rattle.case_file.specs.reader.Alone.{nothing-after, refused-before, 
 use Rattle.case_file.proofs.reader.read_into.Statement.{statement}
 use Rattle.case_file.proofs.reader.read_into.Tie as tie
 
--- the call, from where the case is read
-abbrev start : tie.After-read-one-into → tie.Start
-start d = d .before .before .before .before .before .before
-
 -- where the case is read, from the test whether it is refused
 abbrev read : tie.After-struct-known2 → tie.After-read-one-into
 read c = c .before .before .before
@@ -16,23 +12,11 @@ read c = c .before .before .before
 abbrev more : tie.After-nothing → tie.Else2
 more c = c .before .before .before .before .before
 
--- in what follows d is the place where the case is read
-returns : tie.Need-returns
-returns c =
-    let d = c .before .before in
-    nothing-after (start d .args .bytes .now) (d .read-one-into .ensures) (c .if1 .taken)
-
-returns-2 : tie.Need-returns-2
-returns-2 c =
-    let d = read (c .before) in
-    refused-before (start d .args .bytes .now) (d .read-one-into .ensures) (c .if2 .taken)
-
 returns-3 : tie.Need-returns-3
 returns-3 c =
     let t = more c in
-    let d = read (t .before) in
-    rw (bytes-after (start d .args .bytes .now) (d .read-one-into .ensures) (t .before .before .if1 .left) (t .if2 .left)) (c .nothing .ensures)
+    rw (bytes-after _ (read (t .before) .read-one-into .ensures) (t .before .before .if1 .left) (t .if2 .left)) (c .nothing .ensures)
 
 pub read-into-spec : {M : Type 1} → statement M
 read-into-spec =
-    tie.close (tie.spec (λ c κs. search needs) returns returns-2 (λ c κs. search needs) returns-3)
+    tie.close (tie.spec (λ c κs. search needs) (λ c. search (needs, nothing-after)) (λ c. search (needs, refused-before)) (λ c κs. search needs) returns-3)

@@ -32,9 +32,6 @@ more c = c .before .before .before .before .before
 abbrev over : tie.After-nothing3 Inv-loop μ-loop → tie.After-loop Inv-loop μ-loop
 over c = c .before .before .before .before .before
 
-loop-holds : tie.Need-loop-holds Inv-loop μ-loop
-loop-holds c = begun (start c .args .bytes .now) (c .nothing .ensures)
-
 -- in what follows d is the place where a record was tested, l the turn it belongs to, t the branch behind it
 returns : tie.Need-returns Inv-loop μ-loop
 returns c =
@@ -83,12 +80,7 @@ loop-less c =
     omega (arith, fits-in (l .before .loop .inv) (l .loop-test .taken) (d .fault-of .ensures) (t .if1 .left), c .body .ensures)
 
 loop-again : tie.Need-loop-again Inv-loop μ-loop
-loop-again c =
-    let t = more (c .before) in
-    let d = t .before .before in
-    let l = d .before .before in
-    rw (c .body .ensures)
-    (carried (l .before .loop .inv) (l .loop-test .taken) (d .fault-of .ensures) (t .before .if1 .left) (t .if2 .left) (c .before .with-record .ensures))
+loop-again c = rw (c .body .ensures) (search (needs, carried))
 
 returns-3 : tie.Need-returns-3 Inv-loop μ-loop
 returns-3 c =
@@ -97,6 +89,6 @@ returns-3 c =
 
 pub read-one-into-spec : {M : Type 1} → statement M
 read-one-into-spec =
-    tie.close (tie.spec Inv-loop μ-loop (λ c κs. search needs) loop-holds (λ c. search needs) (λ c. search needs) (λ c. search needs)
+    tie.close (tie.spec Inv-loop μ-loop (λ c κs. search needs) (λ c. search (needs, begun)) (λ c. search needs) (λ c. search needs) (λ c. search needs)
     (λ c κs. search needs) (λ c κs. search needs) returns returns-2 with-record-requires body-requires add-at loop-less loop-again
     (λ c κs. search needs) returns-3)

@@ -10,15 +10,18 @@ use Rattle.field.specs.faults.Laws.{placed-never, tested-line, tested-pa
 use Rattle.field.proofs.services.first_operand_fault.Statement.{statement}
 use Rattle.field.proofs.services.first_operand_fault.Tie as tie
 
--- past the first test the modulus is listed
-is-listed : (c : tie.Else1) → Listed (c .before .before .before .args .a .modulus)
+-- where the operand is lent, from past the first test
+abbrev start : tie.Else1 → tie.Start
+start c = c .before .before .before
+
+-- past that test the modulus is listed
+is-listed : (c : tie.Else1) → Listed (start c .args .a .modulus)
 is-listed c = sym (c .before .before .is-modulus .ensures) ∙ not-false _ (c .if1 .left)
 
 returns : tie.Need-returns
 returns c =
     let then1 = c .before in
-    let not-listed = sym (then1 .before .before .is-modulus .ensures) ∙ not-true _ (then1 .if1 .taken) in
-    tested-line 0 (unlisted _ not-listed, refl) (c .at .ensures)
+    tested-line 0 (unlisted _ (sym (then1 .before .before .is-modulus .ensures) ∙ not-true _ (then1 .if1 .taken)), refl) (c .at .ensures)
 
 returns-2 : tie.Need-returns-2
 returns-2 c =
@@ -27,7 +30,7 @@ returns-2 c =
 
 returns-3 : tie.Need-returns-3
 returns-3 c =
-    let a = c .before .before .before .before .before .args .a in
+    let a = start (c .before .before) .args .a in
     let below : a .value < a .modulus = ltb-true _ _ (not-false _ (c .before .if2 .left)) in
     tested-past (placed-never (λ n. n (is-listed (c .before .before))))
     (tested-past (placed-never (λ large. omega arith)) (tested-end (c .none .ensures)))

@@ -3,9 +3,10 @@ use mathlib.Core.Path.{refl}
 use Prim.Native.Nat.{_/_, _<_}
 use native.Mathlib.Omega.{arith}
 use native.Mathlib.Nat.{div-le-self, le-of-lt, mod-lt}
+use borrow.Author.Needs.{needs}
 use Rattle.field.specs.Widths.{residue-limit}
 use Rattle.field.specs.modulus.Laws.{listed-prime}
-use Rattle.field.specs.elements.Products.{mul-below}
+use Rattle.field.specs.elements.Products.{product-fits}
 use Rattle.field.specs.elements.Chase.{Chased, begin, next, end}
 use Rattle.field.proofs.elements.Element.inverse.Statement.{statement}
 use Rattle.field.proofs.elements.Element.inverse.Tie as tie
@@ -16,48 +17,30 @@ Inv-loop self p r₀ t₀ r t = Chased (self .modulus) (self .value) r t
 abbrev μ-loop : tie.MeasureT-loop
 μ-loop self p r₀ t₀ r t = r
 
-cast-p : tie.Need-cast-p Inv-loop μ-loop
-cast-p c = omega arith
-
-cast-r : tie.Need-cast-r Inv-loop μ-loop
-cast-r c = omega arith
+-- the call, from a turn of the loop
+abbrev start : tie.In-loop Inv-loop μ-loop → tie.Start Inv-loop μ-loop
+start c = c .before .before .before .before
 
 loop-holds : tie.Need-loop-holds Inv-loop μ-loop
 loop-holds c =
     let s = c .before .before in
     begin (listed-prime (s .pre .is-listed)) (s .args .self .value) (s .pre .nonzero) (s .pre .below)
 
-div-m : tie.Need-div-m Inv-loop μ-loop
-div-m c = omega arith
-
 mul-m : tie.Need-mul-m Inv-loop μ-loop
 mul-m c =
-    let p = c .before .before .before .before .args .self .modulus in
+    let p = start c .args .self .modulus in
     let q : p / c .before .loop .r < residue-limit = omega (arith, div-le-self p (c .before .loop .r)) in
     let t : c .before .loop .t < residue-limit = omega arith in
-    record { fits = mul-below q t }
-
-rem-m : tie.Need-rem-m Inv-loop μ-loop
-rem-m c = omega arith
-
-rem-r : tie.Need-rem-r Inv-loop μ-loop
-rem-r c = omega arith
+    product-fits _ _ q t
 
 sub-t : tie.Need-sub-t Inv-loop μ-loop
 sub-t c = le-of-lt (mod-lt _ (omega arith))
 
-rem-t : tie.Need-rem-t Inv-loop μ-loop
-rem-t c = omega arith
-
 loop-less : tie.Need-loop-less Inv-loop μ-loop
-loop-less c = mod-lt (c .before .before .before .before .args .self .modulus) (omega arith)
+loop-less c = mod-lt (start c .args .self .modulus) (omega arith)
 
 loop-again : tie.Need-loop-again Inv-loop μ-loop
-loop-again c =
-    next (listed-prime (c .before .before .before .before .pre .is-listed)) (c .before .loop .inv) (c .loop-test .taken)
-
-cast-t9 : tie.Need-cast-t9 Inv-loop μ-loop
-cast-t9 c = omega arith
+loop-again c = next (listed-prime (start c .pre .is-listed)) (c .before .loop .inv) (c .loop-test .taken)
 
 returns : tie.Need-returns Inv-loop μ-loop
 returns c =
@@ -69,4 +52,5 @@ returns c =
 
 pub inverse-spec : {M : Type 1} → statement M
 inverse-spec =
-    tie.close (tie.spec Inv-loop μ-loop cast-p cast-r loop-holds div-m mul-m rem-m rem-r sub-t rem-t loop-less loop-again cast-t9 returns)
+    tie.close (tie.spec Inv-loop μ-loop (λ c. search needs) (λ c. search needs) loop-holds (λ c. search needs) mul-m (λ c. search needs)
+    (λ c. search needs) sub-t (λ c. search needs) loop-less loop-again (λ c. search needs) returns)

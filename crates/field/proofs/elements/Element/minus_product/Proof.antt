@@ -1,27 +1,18 @@
 -- `field::Element::minus_product` meets its contract: the sum with the opposite times the other factor fits twice the width, and its remainder is below the
 -- modulus.
-use Prim.Native.Nat.{_+_, _-_, _*_}
 use native.Mathlib.Omega.{arith}
-use native.Mathlib.Nat.{mod-lt}
-use Rattle.field.specs.Widths.{residue-limit}
-use Rattle.field.specs.elements.Products.{mul-below, plus-below}
-use borrow.Author.Needs.{needs}
+use Rattle.field.specs.elements.Products.{product-fits, plus-product-fits, remainder-fits}
 use borrow.Author.Needs.{needs}
 use Rattle.field.proofs.elements.Element.minus_product.Statement.{statement}
 use Rattle.field.proofs.elements.Element.minus_product.Tie as tie
 
 mul-v : tie.Need-mul-v
-mul-v c = record { fits = mul-below {m = residue-limit} (omega arith) (omega arith) }
+mul-v c = product-fits _ _ (omega arith) (omega arith)
 
 add-v : tie.Need-add-v
-add-v c = record { fits = plus-below {m = residue-limit} (omega arith) (omega arith) (omega arith) }
-
-cast-t12 : tie.Need-cast-t12
-cast-t12 c =
-    let start = c .before .before .before .before .before in
-    omega (arith, mod-lt (start .args .self .value + (start .args .self .modulus - start .args .a .value) * start .args .b .value) (start .pre .positive))
+add-v c = plus-product-fits _ _ _ (omega arith) (omega arith) (omega arith)
 
 pub minus-product-spec : {M : Type 1} → statement M
 minus-product-spec =
     tie.close (tie.spec (λ c. search needs) (λ c. search needs) (λ c. search needs) (λ c. search needs) mul-v add-v (λ c. search needs)
-    (λ c. search needs) cast-t12 (λ c. search needs))
+    (λ c. search needs) (λ c. search (needs, remainder-fits)) (λ c. search needs))
