@@ -16,10 +16,14 @@ loop-holds : tie.Need-loop-holds Inv-loop μ-loop
 loop-holds c = keys-start _
 
 returns : tie.Need-returns Inv-loop μ-loop
-returns c = keys-stop _ _ _ (c .before .before .before .loop .inv) (c .before .before .loop-test .taken) (c .if1 .taken)
+returns c =
+    let turn = c .before .before in
+    keys-stop _ _ _ (turn .before .loop .inv) (turn .loop-test .taken) (c .if1 .taken)
 
 loop-again : tie.Need-loop-again Inv-loop μ-loop
-loop-again c = keys-next _ _ _ (c .before .before .before .before .loop .inv) (c .before .before .before .loop-test .taken) (c .before .if1 .left)
+loop-again c =
+    let turn = c .before .before .before in
+    keys-next _ _ _ (turn .before .loop .inv) (turn .loop-test .taken) (c .before .if1 .left)
 
 returns-2 : tie.Need-returns-2 Inv-loop μ-loop
 returns-2 c = keys-end _ _ _ (c .before .loop .inv) (c .loop-test .left)

@@ -31,13 +31,18 @@ loop-holds c =
     let a = c .before .args in
     record { within = omega arith; filled = equation-start (a .u .modulus) (a .t1) (a .t2) (a .t3) (a .skeleton .now) (a .i) }
 
--- with the power of x known: where the function began
-abbrev start : tie.After-x Inv-loop μ-loop → tie.Start Inv-loop μ-loop
-start c = c .before .before .before .before .before
+-- with the power of x known: the loop, and where the function began
+abbrev loop : tie.After-x Inv-loop μ-loop → tie.At-loop Inv-loop μ-loop
+loop c = c .before .before .before
+
+abbrev start : tie.At-loop Inv-loop μ-loop → tie.Start Inv-loop μ-loop
+start l = l .before .before
 
 -- the coefficient begun has the modulus
 positive : (c : tie.After-of Inv-loop μ-loop) → 0 < c .of .result .modulus
-positive c = rw (c .of .ensures) (listed-positive (start (c .before .before .before) .pre .listed))
+positive c =
+    let power = c .before .before .before in
+    rw (c .of .ensures) (listed-positive (start (loop power) .pre .listed))
 
 product-requires : tie.Need-product-requires Inv-loop μ-loop
 product-requires c κs = positive (c .before .before)
@@ -45,12 +50,13 @@ product-requires c κs = positive (c .before .before)
 product-requires-2 : tie.Need-product-requires-2 Inv-loop μ-loop
 product-requires-2 c κs =
     let yz = c .before .before in
-    rw (yz .product .ensures) (positive (yz .before .before .before))
+    let begun = yz .before .before .before in
+    rw (yz .product .ensures) (positive begun)
 
 loop-again : tie.Need-loop-again Inv-loop μ-loop
 loop-again c =
-    let s = start (c .before) in
-    let l = c .before .before .before .before .loop in
+    let s = start (loop (c .before)) in
+    let l = loop (c .before) .loop in
     let a = s .args in
     let p = a .u .modulus in
     let x = c .before .x .ensures in
@@ -79,7 +85,7 @@ loop-again c =
 
 returns : tie.Need-returns Inv-loop μ-loop
 returns c =
-    let s = c .before .before .before in
+    let s = start (c .before) in
     let l = c .before .loop in
     let a = s .args in
     equation-end (a .u .modulus) (a .t1) (a .t2) (a .t3) (a .skeleton .now) (a .i) (l .j) (l .row) (l .inv .filled) (a .column)

@@ -34,14 +34,12 @@ abbrev μ-loop : tie.MeasureT-loop
 μ-loop p skeleton points least columns work sizes t₀ kept₀ i₀ t kept i = length points / 3 - i
 
 loop-holds : tie.Need-loop-holds Inv-loop μ-loop
-loop-holds c =
-    let a = c .before .before .before .before .args in
-    record {
-      within = omega arith;
-      left = omega arith;
-      added = rw (c .empty .ensures) equations-start;
-      met = λ P. length-none P (a .least) (a .points .now) (a .t4) (a .work .now);
-    }
+loop-holds c = record {
+  within = omega arith;
+  left = omega arith;
+  added = rw (c .empty .ensures) equations-start;
+  met = λ P. length-none P _ _ _ _;
+}
 
 -- at the loop: where the function began
 abbrev start : tie.At-loop Inv-loop μ-loop → tie.Start Inv-loop μ-loop

@@ -101,8 +101,11 @@ difference-requires c κs =
 
 -- the multiplier's number
 module _ (c : tie.After-difference Inv-loop μ-loop) where
+  abbrev zeroed : tie.After-zero Inv-loop μ-loop
+  zeroed = c .before .before .before
+
   abbrev turn : tie.In-loop Inv-loop μ-loop
-  turn = c .before .before .before .before
+  turn = zeroed .before
 
   abbrev loop : tie.At-loop Inv-loop μ-loop
   loop = turn .before
@@ -111,7 +114,7 @@ module _ (c : tie.After-difference Inv-loop μ-loop) where
   opposite = (start loop .args .p - getD (start loop .args .image .now) (loop .loop .i) 0) % start loop .args .p
 
   u-is : c .difference .result ≡ element (start loop .args .p) opposite
-  u-is = c .difference .ensures ∙ (λ n. difference-of (c .before .before .before .zero .ensures n) (c .before .of4 .ensures n))
+  u-is = c .difference .ensures ∙ (λ n. difference-of (zeroed .zero .ensures n) (c .before .of4 .ensures n))
       ∙ ap (λ (n : ℕ). element (start loop .args .p) (n % start loop .args .p)) (zero-add _)
 
   opposite-below : opposite < start loop .args .p

@@ -23,7 +23,8 @@ returns-2 c = told (c .before .before) (c .enum-told2 .given .1)
 
 returns-3 : tie.Need-returns-3
 returns-3 c =
-    ap (λ v. record { kind = One; values = v }) (c .values-of .ensures) ∙ told (c .before .before .before) (c .before .enum-told3 .given .1)
+    let asked = c .before .before .before in
+    ap (λ v. record { kind = One; values = v }) (c .values-of .ensures) ∙ told asked (c .before .enum-told3 .given .1)
 
 pub solution-spec : {M : Type 1} → statement M
 solution-spec =

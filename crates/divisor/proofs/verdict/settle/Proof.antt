@@ -19,11 +19,13 @@ divided-requires c κs =
 
 returns : tie.Need-returns
 returns c =
-    settled-refused (unsolvable (c .before .before .before .before .enum-told .given .1)) (c .before .before .refused .ensures)
+    let refused = c .before .before in
+    settled-refused (unsolvable (refused .before .before .enum-told .given .1)) (refused .refused .ensures)
 
 returns-2 : tie.Need-returns-2
 returns-2 c =
-    settled-refused (several (c .before .before .before .before .enum-told2 .given .1)) (c .before .before .refused2 .ensures)
+    let refused = c .before .before in
+    settled-refused (several (refused .before .before .enum-told2 .given .1)) (refused .refused2 .ensures)
 
 returns-3 : tie.Need-returns-3
 returns-3 c =
