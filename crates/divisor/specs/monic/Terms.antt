@@ -16,6 +16,7 @@ use Rattle.field.specs.elements.Fp.{el-nonzero, el-val, val-of-el}
 use Rattle.field.specs.elements.Link.{product-el}
 use Rattle.field.specs.Modulo.{Modulo}
 use Rattle.poly.specs.Keys.{key, exponents}
+use Rattle.poly.specs.Search.{Searched}
 use Rattle.poly.specs.Terms.{Polynomial, numbers-of, keyed}
 use Rattle.poly.specs.key.Laws.{key-of-exponents}
 use Rattle.divisor.specs.Rule.{without-zeros, divided-by, made-monic}
@@ -40,6 +41,16 @@ leading-zero c cs e = rw (eq-eqb c 0 e, leading)
 pub leading-here : (c : ℕ) (cs : List ℕ) → ¬ (c ≡ 0) → leading (c ∷ cs) ≡ c
 unfolding leading
 leading-here c cs n = rw (ne-eqb c 0 n, leading)
+
+-- it is what a search for the first coefficient but 0 finds
+pub leading-searched : (n : ℕ) (cs : List ℕ) (i : ℕ) → Searched (λ k. ¬ (getD cs k 0 ≡ 0)) n i → leading (take n cs) ≡ getD (take n cs) i 0
+leading-searched zero cs i s = (unfold leading in refl)
+leading-searched (suc n) [] i s = (unfold leading in refl)
+leading-searched (suc n) (c ∷ cs) zero s = leading-here c (take n cs) (s .here (omega arith))
+leading-searched (suc n) (c ∷ cs) (suc i) s =
+    leading-zero c (take n cs) (elim (ℕ-discrete c 0) [ yes e ↦ e | no q ↦ absurd (s .before 0 (omega arith) q) ])
+    ∙ leading-searched n cs i
+    (record { within = omega (arith, s .within); before = λ k l. s .before (suc k) (omega arith); here = λ l. s .here (omega arith) })
 
 -- the leading coefficient is one of them, or 0
 leading-within : (p : ℕ) → 0 < p → (cs : List ℕ) → AllBelow p cs → leading cs < p

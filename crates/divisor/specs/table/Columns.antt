@@ -15,6 +15,7 @@ use Rattle.divisor.specs.declared.table.Kind.the-variants.{None, One, Se
 use Rattle.divisor.specs.table.Model.{row-at, cell, diagonal, empty-table, kind-from, kind}
 use Rattle.divisor.specs.table.Meaning.{entries, column, last-column, columns-of, table-of}
 use Rattle.divisor.specs.table.Kept.{empty-cell}
+use Rattle.divisor.specs.table.Turns.{several-from}
 
 -- the columns of a table, by the diagonal
 module _ (p : ℕ) (t : Table) (i : ℕ) where
@@ -100,14 +101,10 @@ failed-columns p t last (suc n) i h = go (eqb (diagonal t i) 0) ∙ failed-colum
 
 -- a row is kept in every column before the last
 pub full-columns : (p : ℕ) (t : Table) (n i : ℕ) → has-free (columns-of p t i n) ≡ false → (k : ℕ) → i ≤ k → k < i + n → ¬ (diagonal t k ≡ 0)
-full-columns p t zero i f k h m z = omega arith
-full-columns p t (suc n) i f k h m z =
-    go (ℕ-discrete k i) (ℕ-discrete (diagonal t i) 0) (λ g l. full-columns p t n (suc i) g k l (omega arith) z)
-  where
-    go : Dec (k ≡ i) → Dec (diagonal t i ≡ 0) → (has-free (columns-of p t (suc i) n) ≡ false → suc i ≤ k → ⊥) → ⊥
-    go c (yes y) later = true≢false (sym (ap has-free (column-free p t i n y)) ∙ f)
-    go (yes e) (no y) later = y (subst (λ j. diagonal t j ≡ 0) e z)
-    go (no e) (no y) later = later (sym (ap has-free (column-pivot p t i n y)) ∙ f) (omega arith)
+full-columns p t n i f k h m z =
+    true≢false
+    (ap (λ (x : Kind). elim x [ None ↦ true | One ↦ true | Several ↦ false ])
+    (ap some-kind (sym f) ∙ sym (free-columns p t n i) ∙ several-from t n i k h m z))
 
 -- the code's kind is that of the field's table
 pub kind-by-columns : (p : ℕ) (t : Table) (n : ℕ) → suc n ≡ t .columns → kind t ≡ kind-as (has-failed (table-of p n t)) (has-free (table-of p n t))

@@ -1,5 +1,5 @@
 -- The table's models one turn at a time, as the loops of the code move.
-use mathlib.Core.Path.{_≡_, refl, sym, ap, _∙_}
+use mathlib.Core.Path.{_≡_, refl, sym, ap, _∙_, subst}
 use mathlib.Core.Bool.{Bool, true, false}
 use Prim.Native.Nat.{ℕ, zero, suc, _+_, _-_, _<_, _≤_}
 use native.Mathlib.Numerals.{add-one}
@@ -80,29 +80,29 @@ blank-adds-nothing p t e most place past searched =
 module _ (t : Table) where
   pub kind-none : ¬ (diagonal t (t .columns - 1) ≡ 0) → kind t ≡ None
   unfolding kind
-  kind-none z =
-      ap (λ b. elim b [ true ↦ kind-from (t .columns - 1) 0 t | false ↦ None ]) (ne-eqb (diagonal t (t .columns - 1)) 0 z)
+  kind-none z = rw (ne-eqb (diagonal t (t .columns - 1)) 0 z, kind)
 
-  pub kind-some : diagonal t (t .columns - 1) ≡ 0 → kind t ≡ kind-from (t .columns - 1) 0 t
-  unfolding kind
-  kind-some z =
-      ap (λ b. elim b [ true ↦ kind-from (t .columns - 1) 0 t | false ↦ None ]) (eq-eqb (diagonal t (t .columns - 1)) 0 z)
+  -- a column without a row makes several solutions
+  pub several-from : (n i k : ℕ) → i ≤ k → k < i + n → diagonal t k ≡ 0 → kind-from n i t ≡ Several
+  unfolding kind-from
+  several-from zero i k h l z = absurd (omega arith)
+  several-from (suc n) i k h l z = elim (ℕ-discrete (diagonal t i) 0) [
+    | yes y ↦ rw (eq-eqb (diagonal t i) 0 y, kind-from)
+    | no y ↦
+        let other : ¬ (k ≡ i) = λ e. y (subst (λ j. diagonal t j ≡ 0) e z) in
+        rw (ne-eqb (diagonal t i) 0 y, kind-from) (several-from n (suc i) k (omega arith) (omega arith) z)
+  ]
 
-  module _ (j last : ℕ) where
-    kind-meets : j < last → (b : Bool) → eqb (diagonal t j) 0 ≡ b
-        → kind-from (last - j) j t ≡ elim b [ true ↦ Several | false ↦ kind-from (last - (j + 1)) (suc j) t ]
-    unfolding kind-from
-    kind-meets h b q =
-        ap (λ n. kind-from n j t) (turns-left j last h)
-        ∙ ap (λ b. elim b [ true ↦ Several | false ↦ kind-from (last - (j + 1)) (suc j) t ]) q
+  one-from : (n i : ℕ) → ((k : ℕ) → k < i + n → ¬ (diagonal t k ≡ 0)) → kind-from n i t ≡ One
+  unfolding kind-from
+  one-from zero i h = refl
+  one-from (suc n) i h = rw (ne-eqb (diagonal t i) 0 (h i (omega arith)), kind-from) (one-from n (suc i) (λ k l. h k (omega arith)))
 
-    pub kind-several : j < last → diagonal t j ≡ 0 → kind-from (last - j) j t ≡ Several
-    kind-several h z = kind-meets h true (eq-eqb (diagonal t j) 0 z)
+  module _ (z : diagonal t (t .columns - 1) ≡ 0) where
+    pub kind-several : (k : ℕ) → k < t .columns - 1 → diagonal t k ≡ 0 → kind t ≡ Several
+    unfolding kind
+    kind-several k l y = rw (eq-eqb (diagonal t (t .columns - 1)) 0 z, kind) (several-from (t .columns - 1) 0 k (omega arith) (omega arith) y)
 
-    pub kind-turn : j < last → ¬ (diagonal t j ≡ 0) → kind-from (last - j) j t ≡ kind-from (last - (j + 1)) (j + 1) t
-    kind-turn h z =
-        kind-meets h false (ne-eqb (diagonal t j) 0 z) ∙ ap (λ i. kind-from (last - (j + 1)) i t) (sym (add-one j))
-
-    pub kind-one : last ≤ j → kind-from (last - j) j t ≡ One
-    unfolding kind-from
-    kind-one h = ap (λ n. kind-from n j t) (no-turns-left j last h)
+    pub kind-one : ((k : ℕ) → k < t .columns - 1 → ¬ (diagonal t k ≡ 0)) → kind t ≡ One
+    unfolding kind
+    kind-one h = rw (eq-eqb (diagonal t (t .columns - 1)) 0 z, kind) (one-from (t .columns - 1) 0 (λ k l. h k (omega arith)))
