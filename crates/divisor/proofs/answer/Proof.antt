@@ -89,9 +89,6 @@ least-size-requires c κs = points-within (c .before .before)
 no-good-point-requires : tie.Need-no-good-point-requires
 no-good-point-requires c κs = room (looked (c .before .before))
 
-same-length : tie.Need-same-length
-same-length c = search needs
-
 returns : tie.Need-returns
 returns c =
     let r = c .before .before in
@@ -145,6 +142,6 @@ returns-2 c =
 
 pub answer-spec : {M : Type 1} → statement M
 answer-spec =
-    tie.close (tie.spec look-requires least-size-requires no-good-point-requires same-length returns alike-requires alike-requires-2 add-columns
+    tie.close (tie.spec look-requires least-size-requires no-good-point-requires (λ c. search needs) returns alike-requires alike-requires-2 add-columns
     equations-requires solution-requires settle-requires (λ c κs. search needs) (λ c. search needs) (λ c. search needs) sub-t31 sub-t32
     (λ c. search needs) same-length-3 returns-2)

@@ -71,33 +71,23 @@ kind-as false b = some-kind b
 
 free-columns : (p : ℕ) (t : Table) (n i : ℕ) → kind-from n i t ≡ some-kind (has-free (columns-of p t i n))
 unfolding kind-from columns-of
-free-columns p t zero i = go (eqb (diagonal t i) 0)
-  where
-    go : (b : Bool) → One ≡ some-kind (has-free (last-column {A = Fp p} b))
-    go true = refl
-    go false = refl
-free-columns p t (suc n) i = go (eqb (diagonal t i) 0) (free-columns p t n (suc i))
-  where
-    go : (b : Bool) → kind-from n (suc i) t ≡ some-kind (has-free (columns-of p t (suc i) n))
-        → elim b [ true ↦ Several | false ↦ kind-from n (suc i) t ]
-        ≡ some-kind (has-free (column b (entries p (row-at t i .cells) (suc i) (suc n)) (columns-of p t (suc i) n)))
-    go true later = refl
-    go false later = later
+free-columns p t zero i = elim (eqb (diagonal t i) 0) as (λ b. One ≡ some-kind (has-free (last-column {A = Fp p} b))) [ true ↦ refl | false ↦ refl ]
+free-columns p t (suc n) i = elim (ℕ-discrete (diagonal t i) 0) [
+  | yes z ↦ rw (eq-eqb (diagonal t i) 0 z, kind-from, columns-of)
+  | no z ↦ rw (ne-eqb (diagonal t i) 0 z, kind-from, columns-of) (free-columns p t n (suc i))
+]
 
 failed-columns : (p : ℕ) (t : Table) (last n i : ℕ) → i + n ≡ last → has-failed (columns-of p t i n) ≡ not (eqb (diagonal t last) 0)
 unfolding columns-of
 failed-columns p t last zero i h =
     let same : i ≡ last = omega arith in
-    go (eqb (diagonal t i) 0) ∙ ap (λ m. not (eqb (diagonal t m) 0)) same
-  where
-    go : (b : Bool) → has-failed (last-column {A = Fp p} b) ≡ not b
-    go true = refl
-    go false = refl
-failed-columns p t last (suc n) i h = go (eqb (diagonal t i) 0) ∙ failed-columns p t last n (suc i) (omega arith)
-  where
-    go : (b : Bool) → has-failed (column b (entries p (row-at t i .cells) (suc i) (suc n)) (columns-of p t (suc i) n)) ≡ has-failed (columns-of p t (suc i) n)
-    go true = refl
-    go false = refl
+    elim (eqb (diagonal t i) 0) as (λ b. has-failed (last-column {A = Fp p} b) ≡ not b) [ true ↦ refl | false ↦ refl ]
+    ∙ ap (λ m. not (eqb (diagonal t m) 0)) same
+failed-columns p t last (suc n) i h =
+    elim (eqb (diagonal t i) 0)
+    as (λ b. has-failed (column b (entries p (row-at t i .cells) (suc i) (suc n)) (columns-of p t (suc i) n)) ≡ has-failed (columns-of p t (suc i) n))
+    [ true ↦ refl | false ↦ refl ]
+    ∙ failed-columns p t last n (suc i) (omega arith)
 
 -- a row is kept in every column before the last
 pub full-columns : (p : ℕ) (t : Table) (n i : ℕ) → has-free (columns-of p t i n) ≡ false → (k : ℕ) → i ≤ k → k < i + n → ¬ (diagonal t k ≡ 0)

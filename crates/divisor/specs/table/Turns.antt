@@ -13,42 +13,29 @@ use Rattle.divisor.specs.declared.table.Table.{Table}
 use Rattle.divisor.specs.declared.table.Kind.the-variants.{None, One, Several}
 use Rattle.divisor.specs.table.Model.{most-columns, row-at, cell, Entry, diagonal, minus, kept, insert, with-row, kind-from, kind}
 
--- what is left of n turns at turn i
-turns-left : (i n : ℕ) → i < n → n - i ≡ suc (n - (i + 1))
-turns-left i n h = omega arith
-
-no-turns-left : (i n : ℕ) → n ≤ i → n - i ≡ 0
-no-turns-left i n h = omega arith
-
 -- a step at one column
 module _ (p : ℕ) (t : Table) (e : Row) (j n : ℕ) where
   abbrev taken-off : Table
   taken-off = insert n (suc j) p t (minus p e (row-at t j) j (t .columns))
 
-  abbrev by-diagonal : Bool → Table
-  by-diagonal b = elim b [ true ↦ kept p t j e | false ↦ taken-off ]
-
-  abbrev by-cell : Bool → Table
-  by-cell b = elim b [ true ↦ insert n (suc j) p t e | false ↦ by-diagonal (eqb (diagonal t j) 0) ]
-
   pub insert-at-zero : cell e j ≡ 0 → insert (suc n) j p t e ≡ insert n (suc j) p t e
   unfolding insert
-  insert-at-zero z = ap by-cell (eq-eqb (cell e j) 0 z)
+  insert-at-zero z = rw (eq-eqb (cell e j) 0 z, insert)
 
   pub insert-at-free : ¬ (cell e j ≡ 0) → diagonal t j ≡ 0 → insert (suc n) j p t e ≡ kept p t j e
   unfolding insert
-  insert-at-free z y = ap by-cell (ne-eqb (cell e j) 0 z) ∙ ap by-diagonal (eq-eqb (diagonal t j) 0 y)
+  insert-at-free z y = rw (ne-eqb (cell e j) 0 z, eq-eqb (diagonal t j) 0 y, insert)
 
   pub insert-at-kept : ¬ (cell e j ≡ 0) → ¬ (diagonal t j ≡ 0) → insert (suc n) j p t e ≡ taken-off
   unfolding insert
-  insert-at-kept z y = ap by-cell (ne-eqb (cell e j) 0 z) ∙ ap by-diagonal (ne-eqb (diagonal t j) 0 y)
+  insert-at-kept z y = rw (ne-eqb (cell e j) 0 z, ne-eqb (diagonal t j) 0 y, insert)
 
 module _ (p : ℕ) (t : Table) (e : Row) (j : ℕ) where
   abbrev left : ℕ
   left = t .columns - (j + 1)
 
   insert-more : j < t .columns → insert (t .columns - j) j p t e ≡ insert (suc left) j p t e
-  insert-more h = ap (λ n. insert n j p t e) (turns-left j (t .columns) h)
+  insert-more h = let q : t .columns - j ≡ suc left = omega arith in ap (λ n. insert n j p t e) q
 
   pub insert-skip : j < t .columns → cell e j ≡ 0 → insert (t .columns - j) j p t e ≡ insert left (j + 1) p t e
   insert-skip h z =
@@ -65,7 +52,7 @@ module _ (p : ℕ) (t : Table) (e : Row) (j : ℕ) where
 
   pub insert-end : t .columns ≤ j → insert (t .columns - j) j p t e ≡ t
   unfolding insert
-  insert-end h = ap (λ n. insert n j p t e) (no-turns-left j (t .columns) h)
+  insert-end h = let q : t .columns - j ≡ 0 = omega arith in ap (λ n. insert n j p t e) q
 
 -- an equation without entries adds nothing
 insert-blank : (p : ℕ) (t : Table) (e : Row) (n j : ℕ) → ((k : ℕ) → k < j + n → cell e k ≡ 0) → insert n j p t e ≡ t

@@ -9,9 +9,6 @@ use Rattle.divisor.proofs.verdict.settle.Tie as tie
 abbrev start : tie.After-enum-told3 → tie.Start
 start c = c .before .before .before .before .before .before .before .before
 
-enum-told : tie.Need-enum-told
-enum-told c = search needs
-
 divided-requires : tie.Need-divided-requires
 divided-requires c κs =
     let told = c .before .before in
@@ -35,5 +32,5 @@ returns-3 c =
 
 pub settle-spec : {M : Type 1} → statement M
 settle-spec =
-    tie.close (tie.spec enum-told (λ c κs. search needs) (λ c. search needs) (λ c κs. search needs) (λ c. search needs) divided-requires
+    tie.close (tie.spec (λ c. search needs) (λ c κs. search needs) (λ c. search needs) (λ c κs. search needs) (λ c. search needs) divided-requires
     (λ c. search needs) returns (λ c. search needs) returns-2 (λ c. search needs) (λ c. search needs) returns-3)
