@@ -26,7 +26,7 @@ use Rattle.poly.specs.image.Laws.{image-within}
 use Rattle.poly.specs.value.Laws.{polynomial-finite, valued, value-of-polynomial, WithinX, polynomial-ends}
 use Rattle.divisor.specs.declared.CandidateRecord.{CandidateRecord}
 use Rattle.divisor.specs.Rule.{DividesBoth, Kept, Sorted, done, bad, unlucky, keep, First, Equations, Unknowns, Solution, without-zeros}
-use Rattle.divisor.specs.Rule.{divisor, Verdict, unsolvable, several, rejected, accepted, RuleAnswer, all-bad, some-good}
+use Rattle.divisor.specs.Rule.{divisor, unsolvable, several, rejected, accepted, RuleAnswer, all-bad, some-good}
 use Rattle.divisor.specs.Demands.{DegreeX, IsPolynomial, GreatestInX}
 use Rattle.divisor.specs.monic.Value.{value-without-zeros, without-zeros-nonzero, made-monic-nonzero}
 
@@ -99,18 +99,12 @@ module _ (K : Field) where
       → (s : Unknowns K) → Solution K monomials (k ∷ kept) s → DividesBoth K A B (divisor K s) → GreatestInX K A B (divisor K s) d
   accepted-degree A B monomials points w small d b u k kept sorted s solution both = record {
     divides = both;
-    degree = top (finite-top S3 (SeriesD S2 (SeriesD S1 (SeriesD R (domain K)))) (polynomial R (divisor K s)) (polynomial-finite K (divisor K s)));
+    degree = top (finite-top S3 (SeriesD _ (SeriesD _ (SeriesD R (domain K)))) (polynomial R (divisor K s)) (polynomial-finite K (divisor K s)));
     greatest = common-divisor-degree A B w (k .point) d (k .image) image;
   }
     where
-      S1 : CommRing
-      S1 = SeriesR R
-
-      S2 : CommRing
-      S2 = SeriesR S1
-
       S3 : CommRing
-      S3 = SeriesR S2
+      S3 = SeriesR (SeriesR (SeriesR R))
 
       image : Image K A B (k .point) d (k .image)
       image = kept-images A B d points b u (k ∷ kept) sorted .0
@@ -135,10 +129,8 @@ module _ (K : Field) where
   pub accepted-greatest : (A B : Polynomial K) (monomials : List Exponents) (points : List (Point R)) → WithinX K (x-degree R A) A → WithinX K 7 A
       → (r : CandidateRecord) (G : Polynomial K) → RuleAnswer K A B monomials points r G → r .fault .number ≡ 0 → GreatestInX K A B G (r .degree)
   accepted-greatest A B monomials points w small r G (all-bad all) e = absurd (omega arith)
-  accepted-greatest A B monomials points w small r G (some-good d b u k kept sorted n H verdict) e = go n H verdict e
-    where
-      go : (n : ℕ) (H : Polynomial K) → Verdict K A B monomials (k ∷ kept) n H → n ≡ 0 → GreatestInX K A B H d
-      go n H (unsolvable z) e = absurd (omega arith)
-      go n H (several s) e = absurd (omega arith)
-      go n H (rejected s only not-both) e = absurd (omega arith)
-      go n H (accepted s only both) e = accepted-degree A B monomials points w small d b u k kept sorted s (only .0) both
+  accepted-greatest A B monomials points w small r G (some-good d b u k kept sorted n H (unsolvable z)) e = absurd (omega arith)
+  accepted-greatest A B monomials points w small r G (some-good d b u k kept sorted n H (several s)) e = absurd (omega arith)
+  accepted-greatest A B monomials points w small r G (some-good d b u k kept sorted n H (rejected s only x)) e = absurd (omega arith)
+  accepted-greatest A B monomials points w small r G (some-good d b u k kept sorted n H (accepted s only both)) e =
+      accepted-degree A B monomials points w small d b u k kept sorted s (only .0) both

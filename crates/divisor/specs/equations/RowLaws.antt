@@ -89,11 +89,8 @@ module _ (p : ℕ) (P : Prime p) (y z w : ℕ) where
     monomial-entries front [] e u h j l = refl
     monomial-entries front (k ∷ back) e u h j l =
         ap₂ _∷_ (ap (el p) (h .monomials j fits ∙ ap (monomial-number p (powers p y) (powers p z) (powers p w) i) there) ∙ number-el i k)
-        (monomial-entries (front ++ (k ∷ [])) back (e ∙ sym (append-assoc front (k ∷ []) back)) u h (suc j) (length-append front (k ∷ []) ∙ one-more))
+        (monomial-entries (front ++ (k ∷ [])) back (e ∙ sym (append-assoc front (k ∷ []) back)) u h (suc j) (omega (arith, length-append front (k ∷ []))))
       where
-        one-more : length front + 1 ≡ suc j
-        one-more = omega arith
-
         fits : j < length ks
         fits = let a : length ks ≡ length (front ++ (k ∷ back)) = ap length e in let b = length-append front (k ∷ back) in omega arith
 

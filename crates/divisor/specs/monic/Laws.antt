@@ -21,7 +21,7 @@ use Rattle.poly.specs.Terms.{Polynomial}
 use Rattle.poly.specs.Divides.{Divides}
 use Rattle.divisor.specs.Rule.{without-zeros, divided-by, made-monic}
 use Rattle.divisor.specs.Demands.{MadeMonic, constant}
-use Rattle.divisor.specs.monic.Value.{NonZero, without-zeros-nonzero}
+use Rattle.divisor.specs.monic.Value.{zero-dropped, nonzero-kept, NonZero, without-zeros-nonzero}
 
 module _ (K : Field) where
   open Field K using (ring as R)
@@ -51,15 +51,12 @@ module _ (K : Field) where
   polynomial-without-zeros : (f : Polynomial K) → polynomial R (without-zeros K f) ≡ polynomial R f
   unfolding polynomial without-zeros
   polynomial-without-zeros [] = refl
-  polynomial-without-zeros (t ∷ ts) = go (K .decide (t .coefficient)) (polynomial-without-zeros ts)
-    where
-      go : (z : Dec (t .coefficient ≡ 𝟘)) → polynomial R (without-zeros K ts) ≡ polynomial R ts
-          → polynomial R (elim z [ yes e ↦ without-zeros K ts | no q ↦ t ∷ without-zeros K ts ])
-          ≡ S4 R .add (monomial R (t .exponents) (t .coefficient)) (polynomial R ts)
-      go (yes e) h =
-          let z = ap (monomial R (t .exponents)) e ∙ monomial-zero R (t .exponents) in
-          h ∙ sym (ap (λ (u : S4 R .Car). S4 R .add u (polynomial R ts)) z ∙ zero-add (S4 R) _)
-      go (no q) h = ap (S4 R .add (monomial R (t .exponents) (t .coefficient))) h
+  polynomial-without-zeros (t ∷ ts) = elim (K .decide (t .coefficient)) [
+    | yes e ↦
+        let z = ap (monomial R (t .exponents)) e ∙ monomial-zero R (t .exponents) in
+        rw (zero-dropped K t ts e) (polynomial-without-zeros ts ∙ sym (ap (λ (u : S4 R .Car). S4 R .add u (polynomial R ts)) z ∙ zero-add (S4 R) _))
+    | no q ↦ rw (nonzero-kept K t ts q) (ap (S4 R .add (monomial R (t .exponents) (t .coefficient))) (polynomial-without-zeros ts))
+  ]
 
   -- a polynomial over a number that is not 0 divides what it divides
   divided-divides : (c : Car) → ¬ (c ≡ 𝟘) → (f : Polynomial K) (g : S4 R .Car) → Divides K (polynomial R f) g → Divides K (polynomial R (divided-by K c f)) g

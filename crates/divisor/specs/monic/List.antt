@@ -37,11 +37,10 @@ module _ (p : ℕ) (P : Prime p) (small : p < coefficient-limit) where
 
   -- a product of numbers that are not 0 is not 0
   product-positive : (c f : ℕ) → c < p → ¬ (c ≡ 0) → f < p → ¬ (f ≡ 0) → 0 < (c * f) % p
-  product-positive c f lc nc lf nf = go (ℕ-discrete ((c * f) % p) 0)
-    where
-      go : Dec ((c * f) % p ≡ 0) → 0 < (c * f) % p
-      go (yes e) = absurd (no-zero-divisors K (el p c) (el p f) (el-nonzero p c lc nc) (el-nonzero p f lf nf) (sym (product-el p c f) ∙ ap (el p) e))
-      go (no n) = omega arith
+  product-positive c f lc nc lf nf = elim (ℕ-discrete ((c * f) % p) 0) [
+    | yes e ↦ absurd (no-zero-divisors K (el p c) (el p f) (el-nonzero p c lc nc) (el-nonzero p f lf nf) (sym (product-el p c f) ∙ ap (el p) e))
+    | no n ↦ omega arith
+  ]
 
   -- the terms of keys that fall
   scaled-fall : (f : ℕ) → f < p → ¬ (f ≡ 0) → (b : ℕ) (ks cs : List ℕ) → FallFrom b ks → AllBelow p cs → Falling p b (scaled-terms p f ks cs)
@@ -74,11 +73,10 @@ module _ (p : ℕ) (P : Prime p) (small : p < coefficient-limit) where
   scaled-some f [] [] l n = absurd (n (unfold leading in refl))
   scaled-some f [] (c ∷ cs) l n = absurd (omega arith)
   scaled-some f (k ∷ ks) [] l n = absurd (omega arith)
-  scaled-some f (k ∷ ks) (c ∷ cs) l n = go (ℕ-discrete c 0) (scaled-some f ks cs (omega arith))
-    where
-      go : Dec (c ≡ 0) → (¬ (leading cs ≡ 0) → 0 < length (scaled-terms p f ks cs)) → 0 < length (scaled-terms p f (k ∷ ks) (c ∷ cs))
-      go (yes e) later = subst (λ (ts : List ℕ). 0 < length ts) (sym (scaled-zero p f k c ks cs e)) (later (λ z. n (leading-zero c cs e ∙ z)))
-      go (no q) later = subst (λ (ts : List ℕ). 0 < length ts) (sym (scaled-here p f k c ks cs q)) (omega arith)
+  scaled-some f (k ∷ ks) (c ∷ cs) l n = elim (ℕ-discrete c 0) [
+    | yes e ↦ rw (scaled-zero p f k c ks cs e) (scaled-some f ks cs (omega arith) (λ z. n (leading-zero c cs e ∙ z)))
+    | no q ↦ rw (scaled-here p f k c ks cs q) (omega arith)
+  ]
 
   inverse-below : (a : ℕ) → inv (el p a) .val < p
   inverse-below a = val-lt (prime-positive P) (inv (el p a))

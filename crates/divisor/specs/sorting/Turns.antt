@@ -19,9 +19,6 @@ module _ (list : List ℕ) (n i : ℕ) where
       ∙ ap (λ (x : ℕ). x ∷ drop (suc i) (take n list)) (getD-take n list i 0 h)
       ∙ ap (λ (k : ℕ). getD list i 0 ∷ drop k (take n list)) (sym (add-one i))
 
-  none-left : n ≤ length list → n ≤ i → drop i (take n list) ≡ []
-  none-left l h = drop-of-length-le (take n list) {i = i} (let e = length-take-le n list l in omega arith)
-
   pub alike-same : (m : ℕ) → n ≤ length list → i < n → getD list i 0 ≡ m → alike m (drop i (take n list)) ≡ suc (alike m (drop (i + 1) (take n list)))
   unfolding alike
   alike-same m l h e = ap (alike m) (next-left l h) ∙ rw (eq-eqb (getD list i 0) m e, alike)
@@ -32,7 +29,7 @@ module _ (list : List ℕ) (n i : ℕ) where
 
   pub alike-end : (m : ℕ) → n ≤ length list → n ≤ i → alike m (drop i (take n list)) ≡ 0
   unfolding alike
-  alike-end m l h = ap (alike m) (none-left l h)
+  alike-end m l h = ap (alike m) (drop-of-length-le (take n list) {i = i} (let e = length-take-le n list l in omega arith))
 
 -- a loop over keys and their coefficients: the terms of those left
 module _ (p f : ℕ) (ks values : List ℕ) (i : ℕ) (long : length ks ≤ length values) where

@@ -20,10 +20,11 @@ use Rattle.poly.specs.Room.{written}
 use Rattle.poly.specs.key.Laws.{Digits, digits-of, exponents-of-key}
 use Rattle.poly.specs.key.Terms.{key-of-term, coefficient-of-term}
 use Rattle.divisor.specs.declared.CandidateRecord.{CandidateRecord}
-use Rattle.divisor.specs.Rule.{Kept, Unknowns, Solution, without-zeros, divided-by, made-monic, divisor, Verdict, unsolvable, several, rejected}
+use Rattle.divisor.specs.Rule.{Kept, Unknowns, Solution, without-zeros, divided-by, made-monic, divisor, unsolvable, several, rejected}
 use Rattle.divisor.specs.Rule.{accepted, all-bad, some-good}
-use Rattle.divisor.specs.Candidate.{Call, prime, Numbers, A, B, monomials, handed-out}
+use Rattle.divisor.specs.Candidate.{Call, prime, Numbers, A, handed-out}
 use Rattle.divisor.specs.answer.CandidateDetermined.{answer-of, result-of}
+use Rattle.divisor.specs.monic.Value.{zero-dropped, nonzero-kept}
 
 module _ (K : Field) where
   open Field K using (ring as R)
@@ -41,12 +42,12 @@ module _ (K : Field) where
   without-zeros-within : (f : Polynomial K) → Keyed f → KeyedWithin (without-zeros K f) (length f)
   unfolding without-zeros
   without-zeros-within [] h = record { keyed = tt; count = omega arith }
-  without-zeros-within (t ∷ ts) h = go (K .decide (t .coefficient)) (without-zeros-within ts (h .1))
-    where
-      go : (z : Dec (t .coefficient ≡ R .𝟘)) → KeyedWithin (without-zeros K ts) (length ts)
-          → KeyedWithin (elim z [ yes e ↦ without-zeros K ts | no q ↦ t ∷ without-zeros K ts ]) (suc (length ts))
-      go (yes e) w = record { keyed = w .keyed; count = let l = w .count in omega arith }
-      go (no q) w = record { keyed = (h .0, w .keyed); count = let l = w .count in omega arith }
+  without-zeros-within (t ∷ ts) h =
+      let w = without-zeros-within ts (h .1) in
+      elim (K .decide (t .coefficient)) [
+        | yes e ↦ rw (zero-dropped K t ts e) (record { keyed = w .keyed; count = let l = w .count in omega arith })
+        | no q ↦ rw (nonzero-kept K t ts q) (record { keyed = (h .0, w .keyed); count = let l = w .count in omega arith })
+      ]
 
   divided-within : (c : R .Car) (f : Polynomial K) → Keyed f → KeyedWithin (divided-by K c f) (length f)
   unfolding divided-by
@@ -110,14 +111,11 @@ module _ (p : ℕ) (P : Prime p) (small : p < coefficient-limit) where
 answer-counts : (c : Call) (listed : Listed (c .modulus)) (r : CandidateRecord) (G : Polynomial (Numbers c listed))
     → answer-of c listed r G → Keyed (Numbers c listed) G × (r .terms ≡ length G)
 answer-counts c listed r G (all-bad all) = (tt, refl)
-answer-counts c listed r G (some-good d b u k kept sorted n H v) = (go n H v, refl)
-  where
-    go : (n : ℕ) (H : Polynomial (Numbers c listed)) → Verdict (Numbers c listed) (A c listed) (B c listed) (monomials c listed) (k ∷ kept) n H
-        → Keyed (Numbers c listed) H
-    go n H (unsolvable x) = tt
-    go n H (several x) = tt
-    go n H (rejected s x y) = tt
-    go n H (accepted s only x) = divisor-within (Numbers c listed) (c .skeleton) (k ∷ kept) s (only .0) .keyed
+answer-counts c listed r G (some-good d b u k kept sorted n H (unsolvable x)) = (tt, refl)
+answer-counts c listed r G (some-good d b u k kept sorted n H (several x)) = (tt, refl)
+answer-counts c listed r G (some-good d b u k kept sorted n H (rejected s x y)) = (tt, refl)
+answer-counts c listed r G (some-good d b u k kept sorted n H (accepted s only x)) =
+    (divisor-within (Numbers c listed) (c .skeleton) (k ∷ kept) s (only .0) .keyed, refl)
 
 -- in an answered call the output holds G
 pub answered-output : (c : Call) (listed : Listed (c .modulus)) (f : CandidateRecord) (G : Polynomial (Numbers c listed))

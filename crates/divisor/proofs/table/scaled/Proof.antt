@@ -40,10 +40,11 @@ loop-again c =
     let cell-made = c .before in
     let loop = cell-made .before .before .before in
     let inverse = loop .before in
+    let s = start inverse in
     let made = c .product .ensures ∙ ap (product-of (inverse .inverse .result)) (cell-made .of2 .ensures)
     ∙ ap (λ m. element m (inverse .inverse .result .value * cell (loop .loop .r) (loop .loop .i) % m)) (is-inverse inverse .same) in
-    part-next (loop .loop .inv) (cell-made .before .before .loop-test .taken) (start inverse .pre .most)
-    (ap (λ e. e .value) made ∙ ap (λ x. inverse .inverse .result .value * x % start inverse .args .p) (loop .loop .inv .filled .left (loop .loop .i) (omega arith)))
+    part-next (loop .loop .inv) (cell-made .before .before .loop-test .taken) (s .pre .most)
+    (ap (λ e. e .value) made ∙ ap (λ x. inverse .inverse .result .value * x % s .args .p) (loop .loop .inv .filled .left (loop .loop .i) (omega arith)))
 
 returns : tie.Need-returns Inv-loop μ-loop
 returns c =
