@@ -88,12 +88,9 @@ module _ (K : Field) (A B : Polynomial K) (within : WithinX K (x-degree (K .ring
         (made-monic K (without-zeros K C))
     unfolding solution-of
     common-divisor-found monomials e points b u k kept sorted s only =
+        let images = kept-images K A B d points b u (k ∷ kept) sorted in
+        let same : divisor K s ≡ made-monic K (without-zeros K C) =
+        ap (divisor K) (sym (only .1 (solution-of k kept) (solution-holds monomials e k kept images)))
+        ∙ monic-of-multiple K (value R C (k .point) d) (value-top (k .point) (k .image) (images .0) .nonzero) C in
         some-good d b u k kept sorted 0 _ (subst (Verdict K A B monomials (k ∷ kept) 0) same
         (accepted s only (subst (DividesBoth K A B) (sym same) (monic-divides K C _ (both .0), monic-divides K C _ (both .1)))))
-      where
-        images : Images K A B d (k ∷ kept)
-        images = kept-images K A B d points b u (k ∷ kept) sorted
-
-        same : divisor K s ≡ made-monic K (without-zeros K C)
-        same = ap (divisor K) (sym (only .1 (solution-of k kept) (solution-holds monomials e k kept images)))
-            ∙ monic-of-multiple K (value R C (k .point) d) (value-top (k .point) (k .image) (images .0) .nonzero) C

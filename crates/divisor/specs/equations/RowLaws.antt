@@ -88,14 +88,10 @@ module _ (p : ℕ) (P : Prime p) (y z w : ℕ) where
     unfolding entries
     monomial-entries front [] e u h j l = refl
     monomial-entries front (k ∷ back) e u h j l =
+        let fits : j < length ks = omega (arith, ap length e, length-append front (k ∷ back)) in
+        let there = ap (λ (q : List ℕ). getD q j 0) e ∙ getD-at front k back 0 j l in
         ap₂ _∷_ (ap (el p) (h .monomials j fits ∙ ap (monomial-number p (powers p y) (powers p z) (powers p w) i) there) ∙ number-el i k)
         (monomial-entries (front ++ (k ∷ [])) back (e ∙ sym (append-assoc front (k ∷ []) back)) u h (suc j) (omega (arith, length-append front (k ∷ []))))
-      where
-        fits : j < length ks
-        fits = let a : length ks ≡ length (front ++ (k ∷ back)) = ap length e in let b = length-append front (k ∷ back) in omega arith
-
-        there : getD ks j 0 ≡ k
-        there = ap (λ (q : List ℕ). getD q j 0) e ∙ getD-at front k back 0 j l
 
     -- the part of the multipliers: u in its column and 0 elsewhere
     zero-entries : (u n j : ℕ) → IsEquation p (powers p y) (powers p z) (powers p w) ks i column u r → length ks ≤ j → column < j

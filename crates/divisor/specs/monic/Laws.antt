@@ -82,12 +82,10 @@ module _ (K : Field) where
   -- a factor that is not 0 makes no difference to the monic form
   inv-of-quotient : (m c : Car) → ¬ (m ≡ 𝟘) → ¬ (c ≡ 𝟘) → K .inv c * K .inv (m * K .inv c) ≡ K .inv m
   inv-of-quotient m c nm nc =
+      let I = K .inv (m * K .inv c) in
       sym (one-mul R _) ∙ ap (_* (K .inv c * I)) (sym (K .mul-inv m nm))
       ∙ ring4 R (λ m n c i. m ⊗ n ⊗ (c ⊗ i) ≗ n ⊗ (m ⊗ c ⊗ i)) tt m (K .inv m) (K .inv c) I
       ∙ ap (K .inv m *_) (K .mul-inv (m * K .inv c) (domain K .nzd m (K .inv c) tt tt nm (inv-nonzero K c nc))) ∙ R .mul-one _
-    where
-      I : Car
-      I = K .inv (m * K .inv c)
 
   divided-twice : (m c : Car) → ¬ (m ≡ 𝟘) → ¬ (c ≡ 𝟘) → (f : Polynomial K) → divided-by K (m * K .inv c) (divided-by K c f) ≡ divided-by K m f
   unfolding divided-by
@@ -104,18 +102,15 @@ module _ (K : Field) where
   without-zeros-divided : (c : Car) → ¬ (c ≡ 𝟘) → (f : Polynomial K) → without-zeros K (divided-by K c f) ≡ divided-by K c (without-zeros K f)
   unfolding without-zeros divided-by
   without-zeros-divided c nc [] = refl
-  without-zeros-divided c nc (t ∷ ts) = go (K .decide (t .coefficient * K .inv c)) (K .decide (t .coefficient)) (without-zeros-divided c nc ts)
-    where
-      over-c : Term R
-      over-c = record { exponents = t .exponents; coefficient = t .coefficient * K .inv c }
-
-      go : (z : Dec (t .coefficient * K .inv c ≡ 𝟘)) (u : Dec (t .coefficient ≡ 𝟘)) → without-zeros K (divided-by K c ts) ≡ divided-by K c (without-zeros K ts)
-          → _≡_ {A = Polynomial K} (elim z [ yes e ↦ without-zeros K (divided-by K c ts) | no q ↦ over-c ∷ without-zeros K (divided-by K c ts) ])
-          (divided-by K c (elim u [ yes e ↦ without-zeros K ts | no q ↦ t ∷ without-zeros K ts ]))
-      go (yes e) (yes z) h = h
-      go (yes e) (no n) h = absurd (domain K .nzd _ _ tt tt n (inv-nonzero K c nc) e)
-      go (no q) (yes z) h = absurd (q (ap (_* K .inv c) z ∙ zero-mul R _))
-      go (no q) (no n) h = ap (over-c ∷_) h
+  without-zeros-divided c nc (t ∷ ts) =
+      let over-c : Term R = record { exponents = t .exponents; coefficient = t .coefficient * K .inv c } in
+      let later = without-zeros-divided c nc ts in
+      elim (K .decide (t .coefficient)) [
+        | yes z ↦ zero-dropped K over-c (divided-by K c ts) (ap (_* K .inv c) z ∙ zero-mul R _) ∙ later ∙ sym (ap (divided-by K c) (zero-dropped K t ts z))
+        | no n ↦
+            nonzero-kept K over-c (divided-by K c ts) (domain K .nzd _ _ tt tt n (inv-nonzero K c nc)) ∙ ap (over-c ∷_) later
+            ∙ sym (ap (divided-by K c) (nonzero-kept K t ts n))
+      ]
 
   -- the monic form of a polynomial and of a multiple are the same
   pub monic-of-multiple : (c : Car) → ¬ (c ≡ 𝟘) → (f : Polynomial K) → made-monic K (without-zeros K (divided-by K c f)) ≡ made-monic K (without-zeros K f)

@@ -15,7 +15,7 @@ use Rattle.field.specs.Moduli.{Listed}
 use Rattle.field.specs.modulus.Laws.{listed-below}
 use Rattle.field.specs.Modulo.{Modulo}
 use Rattle.poly.specs.Keys.{key, exponents}
-use Rattle.poly.specs.Terms.{Polynomial, key-of, coefficient-of, terms-of, number-of, numbers-of, coefficient-limit}
+use Rattle.poly.specs.Terms.{Polynomial, terms-of, numbers-of, coefficient-limit}
 use Rattle.poly.specs.Room.{written}
 use Rattle.poly.specs.key.Laws.{Digits, digits-of, exponents-of-key}
 use Rattle.poly.specs.key.Terms.{key-of-term, coefficient-of-term}
@@ -88,17 +88,12 @@ module _ (p : ℕ) (P : Prime p) (small : p < coefficient-limit) where
   -- the numbers of a polynomial, read again
   pub read-numbers : (f : Polynomial (Modulo p P)) → Keyed (Modulo p P) f → terms-of p P (numbers-of p P f) ≡ f
   read-numbers [] h = refl
-  read-numbers (t ∷ ts) h = ap₂ _∷_ (λ i. record { exponents = same-exponents i; coefficient = same-coefficient i }) (read-numbers ts (h .1))
-    where
-      below : t .coefficient .val < coefficient-limit
-      below = let l : t .coefficient .val < p = val-lt (prime-positive P) (t .coefficient) in omega arith
-
-      same-exponents : exponents (key-of (number-of p P t)) ≡ t .exponents
-      same-exponents =
-          ap exponents (key-of-term (key (t .exponents)) (t .coefficient .val) below) ∙ exponents-of-key (t .exponents) (h .0)
-
-      same-coefficient : el p (coefficient-of (number-of p P t)) ≡ t .coefficient
-      same-coefficient = ap (el p) (coefficient-of-term (key (t .exponents)) (t .coefficient .val) below) ∙ el-val (t .coefficient)
+  read-numbers (t ∷ ts) h =
+      let l : t .coefficient .val < p = val-lt (prime-positive P) (t .coefficient) in
+      let below : t .coefficient .val < coefficient-limit = omega arith in
+      let e = ap exponents (key-of-term (key (t .exponents)) (t .coefficient .val) below) ∙ exponents-of-key (t .exponents) (h .0) in
+      let c = ap (el p) (coefficient-of-term (key (t .exponents)) (t .coefficient .val) below) ∙ el-val (t .coefficient) in
+      ap₂ _∷_ (λ i. record { exponents = e i; coefficient = c i }) (read-numbers ts (h .1))
 
   -- what is written first can be read there
   output-read : (f : Polynomial (Modulo p P)) (out : List ℕ) → Keyed (Modulo p P) f

@@ -71,20 +71,23 @@ loop-again c =
     let i = c .before .loop-test .taken in
     ⊎-elim
     (λ w.
+    let more = w .6 in
     let made = w .2 .ensures ∙ ap (λ e. product-of e (inverse .inverse .result)) (w .1 .ensures) in
     record {
       within = omega arith;
-      few = omega (arith, w .6, l .inv .few);
+      few = omega (arith, more, l .inv .few);
       made =
-          rw (w .6, w .5, w .4 .ensures ∙ ap (λ e. keyed (getD (a .skeleton .now) (l .i) 0) (e .value)) made)
+          rw (more, w .5, w .4 .ensures ∙ ap (λ e. keyed (getD (a .skeleton .now) (l .i) 0) (e .value)) made)
           (collecting-next (l .inv .made) (omega (arith, s .pre .few, l .inv .few))
           (left-taken (a .p) f (a .skeleton .now) (a .t3) (l .i) (s .pre .long) i (w .0 .taken)));
     })
-    (λ w. record {
+    (λ w.
+    let same = w .2 in
+    record {
       within = omega arith;
-      few = omega (arith, w .2, l .inv .few);
+      few = omega (arith, same, l .inv .few);
       made =
-          rw (w .2, w .1)
+          rw (same, w .1)
           (subst (Made (a .p) f (a .skeleton .now) (a .t3) (l .terms) (l .count))
           (left-passed (a .p) f (a .skeleton .now) (a .t3) (l .i) (s .pre .long) i (w .0 .left)) (l .inv .made));
     })

@@ -97,11 +97,13 @@ loop-again c =
           ∙ l .inv .comes-to;
       same = l .inv .same;
     })
-    (λ w. record {
+    (λ w.
+    let is = w .1 in
+    record {
       within = omega arith;
-      ready = rw (w .1) (l .inv .ready);
+      ready = rw is (l .inv .ready);
       comes-to =
-          ap (λ x. insert left (l .j + 1) (a .p) (a .t) x) (w .1) ∙ sym (insert-skip (a .p) (a .t) (l .row) (l .j) test (w .0 .left)) ∙ l .inv .comes-to;
+          ap (λ x. insert left (l .j + 1) (a .p) (a .t) x) is ∙ sym (insert-skip (a .p) (a .t) (l .row) (l .j) test (w .0 .left)) ∙ l .inv .comes-to;
       same = l .inv .same;
     })
     (c .if1 .came)
