@@ -137,5 +137,5 @@ returns-2 c =
 pub answer-spec : {M : Type 1} → statement M
 answer-spec =
     tie.close (tie.spec look-requires least-size-requires no-good-point-requires (λ c. search needs) returns alike-requires alike-requires-2 add-columns
-    equations-requires solution-requires settle-requires (λ c κs. search needs) (λ c. search needs) (λ c. search needs) (λ c. omega (arith, fit (counted (settled c))))
-    (λ c. omega (arith, fit (counted (settled c)))) (λ c. search needs) same-length-3 returns-2)
+    equations-requires solution-requires settle-requires (λ c κs. search needs) (λ c. search needs) (λ c. search needs)
+    (λ c. omega (arith, fit (counted (settled c)))) (λ c. omega (arith, fit (counted (settled c)))) (λ c. search needs) same-length-3 returns-2)

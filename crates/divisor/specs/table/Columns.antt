@@ -102,10 +102,8 @@ unfolding kind
 kind-by-columns p t n size =
     let last : t .columns - 1 ≡ n = omega arith in
     ap {B = Kind} (λ m. elim (eqb (diagonal t m) 0) [ true ↦ kind-from m 0 t | false ↦ None ]) last
-    ∙ go (eqb (diagonal t n) 0) (free-columns p t n 0)
+    ∙ elim (eqb (diagonal t n) 0) as (λ b. elim b [ true ↦ kind-from n 0 t | false ↦ None ] ≡ kind-as (not b) (has-free (table-of p n t))) [
+      | true ↦ free-columns p t n 0
+      | false ↦ refl
+    ]
     ∙ ap (λ b. kind-as b (has-free (table-of p n t))) (sym (failed-columns p t n n 0 (omega arith)))
-  where
-    go : (b : Bool) → kind-from n 0 t ≡ some-kind (has-free (table-of p n t))
-        → elim b [ true ↦ kind-from n 0 t | false ↦ None ] ≡ kind-as (not b) (has-free (table-of p n t))
-    go true h = h
-    go false h = refl
