@@ -8,7 +8,7 @@ use Rattle.poly.specs.Keys.{keys}
 use Rattle.poly.specs.Lists.{WrongKey, above, not-below}
 use Rattle.poly.specs.Search.{Searched}
 use Rattle.poly.specs.list.Searching.{Searching}
-use Rattle.poly.specs.list.Search.{search-begins, search-goes-on, search-stops, search-ends}
+use Rattle.poly.specs.list.Search.{search-begins, search-goes-on, search-stops}
 
 -- the key before place i: above every key at the start
 pub data Before (ks : List ℕ) : ℕ → ℕ → Type 0 where
@@ -44,9 +44,6 @@ module _ (ks : List ℕ) where
     before-is = after i;
     in-range = let r = h .in-range in omega arith;
   }
-
-  pub keys-end : (before i : ℕ) → KeysSo ks before i → length ks ≤ i → Searched (WrongKey ks) (length ks) i
-  keys-end before i h l = search-ends (h .searching) l
 
   pub keys-beyond : (i : ℕ) → length ks ≤ i → ¬ WrongKey ks i
   keys-beyond i l (above b m) = omega arith

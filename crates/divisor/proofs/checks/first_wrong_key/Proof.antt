@@ -1,7 +1,8 @@
 -- `divisor::checks::first_wrong_key` meets its contract. The invariant: no key before i is wrong, and the key before is at hand.
 use Prim.Native.Nat.{_-_}
 use lib.ListN.{length}
-use Rattle.divisor.specs.checks.Laws.{KeysSo, keys-start, keys-stop, keys-next, keys-end}
+use Rattle.poly.specs.list.Search.{search-ends}
+use Rattle.divisor.specs.checks.Laws.{KeysSo, keys-start, keys-stop, keys-next}
 use borrow.Author.Needs.{needs}
 use Rattle.divisor.proofs.checks.first_wrong_key.Statement.{statement}
 use Rattle.divisor.proofs.checks.first_wrong_key.Tie as tie
@@ -26,7 +27,7 @@ loop-again c =
     keys-next _ _ _ (turn .before .loop .inv) (turn .loop-test .taken) (c .before .if1 .left)
 
 returns-2 : tie.Need-returns-2 Inv-loop μ-loop
-returns-2 c = keys-end _ _ _ (c .before .loop .inv) (c .loop-test .left)
+returns-2 c = search-ends (c .before .loop .inv .searching) (c .loop-test .left)
 
 pub first-wrong-key-spec : {M : Type 1} → statement M
 first-wrong-key-spec =
