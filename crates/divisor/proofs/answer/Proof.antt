@@ -119,6 +119,12 @@ settle-requires c κs =
     let t = s .before in
     ready-verdict (good (t .before .before)) (t .equations .result) (t .equations .ensures) (s .solution .result) (s .solution .ensures)
 
+sub-t31 : tie.Need-sub-t31
+sub-t31 c = omega (arith, fit (counted (settled c)))
+
+sub-t32 : tie.Need-sub-t32
+sub-t32 c = omega (arith, fit (counted (settled c)))
+
 same-length-3 : tie.Need-same-length-3
 same-length-3 c =
     let v = settled c in
@@ -137,5 +143,5 @@ returns-2 c =
 pub answer-spec : {M : Type 1} → statement M
 answer-spec =
     tie.close (tie.spec look-requires least-size-requires no-good-point-requires (λ c. search needs) returns alike-requires alike-requires-2 add-columns
-    equations-requires solution-requires settle-requires (λ c κs. search needs) (λ c. search needs) (λ c. search needs)
-    (λ c. omega (arith, fit (counted (settled c)))) (λ c. omega (arith, fit (counted (settled c)))) (λ c. search needs) same-length-3 returns-2)
+    equations-requires solution-requires settle-requires (λ c κs. search needs) (λ c. search needs) (λ c. search needs) sub-t31 sub-t32
+    (λ c. search needs) same-length-3 returns-2)

@@ -106,13 +106,11 @@ module _ (c : Call) (i j : ℕ) (k : i < j) (h : 3 * j ≤ length (c .points)) w
   passes pass =
       let right = right-points (again c i j) pass in
       let longer = once-more-length i j (c .points) k h in
-      let few = right .few in
-      let threes = right .threes in
       let below = numbers-small i j (c .points) k h (c .modulus) (right .below) in
       let skeleton = pass .1 .1 .1 .1 .1 in
       let rooms = skeleton .1 .1 .1 .1 in
       let counted : ¬ (Count most-point-numbers (c .points) ⊎ (¬ (length (c .points) % 3 ≡ 0))) =
-      λ w. elim w [ inl x ↦ elim x [ inl y ↦ omega arith | inr y ↦ omega arith ] | inr n ↦ n (omega arith) ] in
+      λ w. elim w [ inl x ↦ elim x [ inl y ↦ omega arith | inr y ↦ omega (arith, right .few) ] | inr n ↦ n (omega (arith, right .threes)) ] in
       let small : (place : ℕ) → ¬ first (WrongNumber (c .modulus) (c .points)) place =
       λ place w. let b = below place (w .0 .there) in let g = w .0 .large in omega arith in
       let rest : Passes (of-skeleton (c .skeleton) ++ (of-points (c .modulus) (c .points)

@@ -1,8 +1,9 @@
 -- `divisor::checks::first_wrong_key` meets its contract. The invariant: no key before i is wrong, and the key before is at hand.
 use Prim.Native.Nat.{_-_}
+use native.Mathlib.Omega.{arith}
 use lib.ListN.{length}
-use Rattle.poly.specs.list.Search.{search-ends}
-use Rattle.divisor.specs.checks.Laws.{KeysSo, keys-start, keys-stop, keys-next}
+use Rattle.poly.specs.list.Search.{search-begins, search-ends}
+use Rattle.divisor.specs.checks.Laws.{KeysSo, start, keys-stop, keys-next}
 use borrow.Author.Needs.{needs}
 use Rattle.divisor.proofs.checks.first_wrong_key.Statement.{statement}
 use Rattle.divisor.proofs.checks.first_wrong_key.Tie as tie
@@ -14,7 +15,7 @@ abbrev μ-loop : tie.MeasureT-loop
 μ-loop skeleton before₀ i₀ before i = length skeleton - i
 
 loop-holds : tie.Need-loop-holds Inv-loop μ-loop
-loop-holds c = keys-start _
+loop-holds c = record { searching = search-begins; before-is = start; in-range = omega arith }
 
 returns : tie.Need-returns Inv-loop μ-loop
 returns c =
