@@ -99,30 +99,30 @@ loop-again c =
     ⊎-elim
     (λ w.
     let same = w .0 .taken in let column = w .1 in let point = w .4 in
-    let left = alike-same (a .t4) n (l .i) (a .least) within i (same) in
+    let left = alike-same (a .t4) n (l .i) (a .least) within i same in
     let k : c .if1 .kept ≡ l .kept + 1 = w .6 in
     record {
       within = omega arith;
       left = omega (arith, k, l .inv .left, left);
       added =
           rw (w .5)
-          (equations-same (l .inv .added) (same)
+          (equations-same (l .inv .added) same
           (column .result) (l .kept) (a .columns - length (a .skeleton .now) - 1) (point .result) (l .inv .met)
           (omega (arith, s .pre .columns-are, s .pre .some)) (omega (arith, s .pre .columns-are, s .pre .some)) (column .ensures)
           (next-fits (a .columns - length (a .skeleton .now) - 1) (l .kept) (omega (arith, s .pre .columns-are, l .inv .left, left)))
           (subst₂ (λ at image. Equations-to 8 (a .p) (l .t) (a .skeleton .now) at image (column .result) (point .result))
           (part-is 3 (l .i) (a .points .now)) (part-is 8 (l .i) (a .work .now)) (point .ensures)));
-      met = λ P. length-same P (a .least) (a .points .now) (a .t4) (a .work .now) (l .i) (l .kept) (l .inv .met P) (same) ∙ sym k;
+      met = λ P. length-same P (a .least) (a .points .now) (a .t4) (a .work .now) (l .i) (l .kept) (l .inv .met P) same ∙ sym k;
     })
     (λ w.
     let other = w .0 .left in
-    let left = alike-other (a .t4) n (l .i) (a .least) within i (other) in
+    let left = alike-other (a .t4) n (l .i) (a .least) within i other in
     let k : c .if1 .kept ≡ l .kept = w .2 in
     record {
       within = omega arith;
       left = omega (arith, k, l .inv .left, left);
-      added = rw (w .1) (equations-other (l .inv .added) (other));
-      met = λ P. length-other P (a .least) (a .points .now) (a .t4) (a .work .now) (l .i) (l .kept) (l .inv .met P) (other) ∙ sym k;
+      added = rw (w .1) (equations-other (l .inv .added) other);
+      met = λ P. length-other P (a .least) (a .points .now) (a .t4) (a .work .now) (l .i) (l .kept) (l .inv .met P) other ∙ sym k;
     })
     (c .if1 .came)
 
