@@ -77,19 +77,18 @@ module _ (p : ℕ) (P : Prime p) where
       -- the last column
       last-step : columns-of p (insert 1 i p t e) i zero ≡ step K (columns-of p t i zero) (el p (cell e i) ∷ [])
       unfolding insert columns-of
-      last-step = elim (ℕ-discrete (cell e i) 0) [
-        | yes z ↦ ap (λ u. columns-of p u i zero) (insert-at-zero p t e i zero z) ∙ sym (last-step-zero (cell e i) z (eqb (diagonal t i) 0) [])
-        | no z ↦
-            elim (ℕ-discrete (diagonal t i) 0) [
-              | yes y ↦
-                  ap (λ u. columns-of p u i zero) (insert-at-free p t e i zero z y)
-                  ∙ last-failed p (kept p t i e) i (kept-diagonal z)
-                  ∙ sym (ap (λ T. step K T (el p (cell e i) ∷ [])) (last-solvable p t i y) ∙ solvable-step (cell e i) (ok .below i) z [])
-              | no y ↦
-                  ap (λ u. columns-of p u i zero) (insert-at-kept p t e i zero z y) ∙ last-failed p t i y
-                  ∙ sym (ap (λ T. step K T (el p (cell e i) ∷ [])) (last-failed p t i y))
-            ]
-      ]
+      last-step = go (ℕ-discrete (cell e i) 0) (ℕ-discrete (diagonal t i) 0)
+        where
+          go : Dec (cell e i ≡ 0) → Dec (diagonal t i ≡ 0) → columns-of p (insert 1 i p t e) i zero ≡ step K (columns-of p t i zero) (el p (cell e i) ∷ [])
+          go (yes z) d =
+              ap (λ u. columns-of p u i zero) (insert-at-zero p t e i zero z) ∙ sym (last-step-zero (cell e i) z (eqb (diagonal t i) 0) [])
+          go (no z) (yes y) =
+              ap (λ u. columns-of p u i zero) (insert-at-free p t e i zero z y)
+              ∙ last-failed p (kept p t i e) i (kept-diagonal z)
+              ∙ sym (ap (λ T. step K T (el p (cell e i) ∷ [])) (last-solvable p t i y) ∙ solvable-step (cell e i) (ok .below i) z [])
+          go (no z) (no y) =
+              ap (λ u. columns-of p u i zero) (insert-at-kept p t e i zero z y) ∙ last-failed p t i y
+              ∙ sym (ap (λ T. step K T (el p (cell e i) ∷ [])) (last-failed p t i y))
 
       -- another column, with a step at the columns behind it
       module _ (n : ℕ) (size : i + suc (suc n) ≡ t .columns)
@@ -133,13 +132,12 @@ module _ (p : ℕ) (P : Prime p) where
             ∙ sym (ap (λ U. step K U (el p (cell e i) ∷ r)) (column-pivot p t i n y))
 
         column-step : Goal (insert (suc (suc n)) i p t e)
-        column-step = elim (ℕ-discrete (cell e i) 0) [
-          | yes z ↦ rw (insert-at-zero p t e i (suc n) z) (at-zero z)
-          | no z ↦ elim (ℕ-discrete (diagonal t i) 0) [
-            | yes y ↦ rw (insert-at-free p t e i (suc n) z y) (at-free z y)
-            | no y ↦ rw (insert-at-kept p t e i (suc n) z y) (at-kept y)
-          ]
-        ]
+        column-step = go (ℕ-discrete (cell e i) 0) (ℕ-discrete (diagonal t i) 0)
+          where
+            go : Dec (cell e i ≡ 0) → Dec (diagonal t i ≡ 0) → Goal (insert (suc (suc n)) i p t e)
+            go (yes z) d = ap (λ u. columns-of p u i (suc n)) (insert-at-zero p t e i (suc n) z) ∙ at-zero z
+            go (no z) (yes y) = ap (λ u. columns-of p u i (suc n)) (insert-at-free p t e i (suc n) z y) ∙ at-free z y
+            go (no z) (no y) = ap (λ u. columns-of p u i (suc n)) (insert-at-kept p t e i (suc n) z y) ∙ at-kept y
 
     columns-step : (n i : ℕ) (e : Row) → RowReady p e → i + suc n ≡ t .columns
         → columns-of p (insert (suc n) i p t e) i n ≡ step K (columns-of p t i n) (entries p (e .cells) i (suc n))
