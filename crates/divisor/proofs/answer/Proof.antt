@@ -1,8 +1,9 @@
 -- `divisor::answer` meets its contract: the look at the points, their counts, the equations, the solution and the verdict, each as its call promises, make
 -- up what the rule answers.
 use mathlib.Core.Path.{sym, ap, _∙_}
+use mathlib.Core.List.{List}
 use native.Mathlib.Omega.{arith}
-use Prim.Native.Nat.{_+_, _/_, _≤_}
+use Prim.Native.Nat.{ℕ, _+_, _/_, _≤_}
 use lib.ListN.{length}
 use Rattle.poly.specs.Room.{work-room}
 use Rattle.poly.specs.rooms.Laws.{zeroed-length}
@@ -28,31 +29,37 @@ opened c = c .before .before .before .before .before .before .before
 abbrev start : tie.After-look → tie.Start
 start c = opened (c .before)
 
--- what the look says, and the room that it leaves
+-- what the look says, and the work room that it leaves
 module _ (l : tie.After-look) where
   abbrev asked : Call
   asked = question (start l)
 
+  abbrev left : List ℕ
+  left = l .look .last .1 .1 .1 .1 .0
+
   points-within : Within most-points (length (start l .args .points .now) / 3) (l .look .result)
   points-within = within asked (start l .pre) _ (l .look .result) (l .look .ensures)
 
-  room : work-room ≤ length (l .look .last .1 .1 .1 .1 .0)
+  room : work-room ≤ length left
   room = room-after asked (start l .pre) _ (l .look .result) (l .look .ensures)
 
 -- after the least size: the look
 abbrev looked : tie.After-least-size → tie.After-look
 looked c = c .before .before .before
 
--- after the counts of points: the look, and what is found
+-- after the counts of points: the least size, the look, and what is found
+abbrev sized : tie.After-alike2 → tie.After-least-size
+sized c = c .before .before .before
+
 abbrev seen : tie.After-alike2 → tie.After-look
-seen c = looked (c .before .before .before)
+seen c = looked (sized c)
 
 good : (c : tie.After-alike2) → let l = seen c in
-    SomeGood (asked l) (l .look .last .1 .1 .1 .1 .0) (l .look .result) (c .before .before .before .least-size .result) (c .alike2 .result)
+    SomeGood (asked l) (left l) (l .look .result) (sized c .least-size .result) (c .alike2 .result)
 good c = record {
   pass = start (seen c) .pre;
   look = seen c .look .ensures;
-  is-least = c .before .before .before .least-size .ensures;
+  is-least = sized c .least-size .ensures;
   some = c .before .before .if1 .left;
   is-count = c .alike2 .ensures;
 }
@@ -61,9 +68,12 @@ good c = record {
 fit : (c : tie.After-alike2) → c .before .alike .result + c .alike2 .result ≤ length (start (seen c) .args .points .now) / 3
 fit c = counts-fit (good c) (c .before .alike .result) (c .before .alike .ensures)
 
--- after the verdict: the counts of points, and at the end: the verdict
+-- after the verdict: the solution and the counts of points, and at the end: the verdict
+abbrev solved : tie.After-settle → tie.After-solution
+solved c = c .before .before .before
+
 abbrev counted : tie.After-settle → tie.After-alike2
-counted c = c .before .before .before .before .before .before
+counted c = solved c .before .before .before
 
 abbrev settled : tie.After-at → tie.After-settle
 settled c = c .before .before .before .before .before
@@ -78,9 +88,6 @@ least-size-requires c κs = points-within (c .before .before)
 
 no-good-point-requires : tie.Need-no-good-point-requires
 no-good-point-requires c κs = room (looked (c .before .before))
-
-same-length : tie.Need-same-length
-same-length c = search needs
 
 returns : tie.Need-returns
 returns c =
@@ -127,7 +134,7 @@ same-length-3 c =
 returns-2 : tie.Need-returns-2
 returns-2 c =
     let v = settled c in
-    let s = v .before .before .before in
+    let s = solved v in
     let t = s .before in
     let e = counted v in
     answered-so (good e) (t .equations .result) (t .equations .ensures) (s .solution .result) (s .solution .ensures)
@@ -135,6 +142,6 @@ returns-2 c =
 
 pub answer-spec : {M : Type 1} → statement M
 answer-spec =
-    tie.close (tie.spec look-requires least-size-requires no-good-point-requires same-length returns alike-requires alike-requires-2 add-columns
+    tie.close (tie.spec look-requires least-size-requires no-good-point-requires (λ c. search needs) returns alike-requires alike-requires-2 add-columns
     equations-requires solution-requires settle-requires (λ c κs. search needs) (λ c. search needs) (λ c. search needs) sub-t31 sub-t32
     (λ c. search needs) same-length-3 returns-2)

@@ -29,7 +29,9 @@ answer-requires c κs =
     tested-passes (table (question (start f))) tt _ (f .candidate-fault .ensures) (test .if1 .left) .0
 
 returns-2 : tie.Need-returns-2
-returns-2 c = c .before .before .before .before .answer .ensures
+returns-2 c =
+    let answered = c .before .before .before .before in
+    answered .answer .ensures
 
 pub candidate-spec : {M : Type 1} → statement M
 candidate-spec =

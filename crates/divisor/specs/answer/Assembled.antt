@@ -162,9 +162,6 @@ module _ (c : Call) (pass : Passes (table c)) (listed : Listed (c .modulus)) whe
           ∙ coefficients-first p P (monomials c listed) values 0 (length ks) (let e = length-monomials in omega arith)
           ∙ ap (λ (n : ℕ). with-coefficients (Numbers c listed) (monomials c listed) (map (el p) (take n values))) length-monomials
 
-      found-is : found ≡ record { skeleton = skeleton-of p P (c .skeleton) cs; multipliers = found .multipliers }
-      found-is = λ i. record { skeleton = same-skeleton i; multipliers = found .multipliers }
-
       sized : length cs ≡ length (c .skeleton)
       sized = length-take-le (length (c .skeleton)) values long
 
@@ -173,7 +170,8 @@ module _ (c : Call) (pass : Passes (table c)) (listed : Listed (c .modulus)) whe
 
       pub list : GoodList p P small (c .skeleton) cs
       list = good-list p P small (c .skeleton) cs sized below (skeleton-falls c pass) ks k (found .multipliers)
-          (subst (Solution (Numbers c listed) (monomials c listed) (k ∷ ks)) found-is (only .0)) d degree-small (image .monic .leads)
+          (subst (Solution (Numbers c listed) (monomials c listed) (k ∷ ks))
+          (λ i. record { skeleton = same-skeleton i; multipliers = found .multipliers }) (only .0)) d degree-small (image .monic .leads)
 
       -- the divisor is that of the skeleton polynomial, its polynomial that of the list, and its numbers are the list
       divisor-is : divisor (Numbers c listed) found ≡ made-monic (Numbers c listed) (without-zeros (Numbers c listed) (skeleton-of p P (c .skeleton) cs))

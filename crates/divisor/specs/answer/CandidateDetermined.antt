@@ -34,12 +34,11 @@ answered-determined : (c : Call) (listed listed′ : Listed (c .modulus)) (f g :
     → answer-of c listed f G → answer-of c listed′ g H → result-of c listed f G ≡ result-of c listed′ g H
 answered-determined c listed listed′ f g G H x y =
     (subst (λ (l : Listed (c .modulus)). (H : Polynomial (Numbers c l)) → answer-of c l g H → result-of c listed f G ≡ result-of c l g H)
-    (listed-unique _ listed listed′) same) H y
-  where
-    same : (H : Polynomial (Numbers c listed)) → answer-of c listed g H → result-of c listed f G ≡ result-of c listed g H
-    same H y =
-        let e = answer-determined (Numbers c listed) (A c listed) (B c listed) (monomials c listed) (lent-points c listed) f g G H x y in
-        λ i. result-of c listed (e .0 i) (e .1 i)
+    (listed-unique _ listed listed′)
+    (λ H y.
+    let e = answer-determined (Numbers c listed) (A c listed) (B c listed) (monomials c listed) (lent-points c listed) f g G H x y in
+    λ i. result-of c listed (e .0 i) (e .1 i)))
+    H y
 
 pub candidate-determined : (c : Call) (r q : Result) → Candidate c r → Candidate c q → r ≡ q
 candidate-determined c r q (refused f h) (refused g k) =

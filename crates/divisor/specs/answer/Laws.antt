@@ -17,7 +17,7 @@ use Rattle.divisor.specs.declared.table.Table.{Table}
 use Rattle.divisor.specs.declared.verdict.Ruling.{Ruling}
 use Rattle.divisor.specs.Rule.{Kept}
 use Rattle.divisor.specs.Candidate.{Call, table, prime, Numbers, monomials, Candidate}
-use Rattle.divisor.specs.table.Model.{Columns, TableReady, empty-table, solved}
+use Rattle.divisor.specs.table.Model.{TableReady, empty-table, solved}
 use Rattle.divisor.specs.table.Meaning.{added, rows-of, Says}
 use Rattle.divisor.specs.table.Kept.{empty-ready}
 use Rattle.divisor.specs.table.Added.{adds-ready}
@@ -62,9 +62,6 @@ module _ {c : Call} {after sizes : List ℕ} {m count : ℕ} (good : SomeGood c 
   abbrev kept : KeptPoints c listed after sizes m count
   kept = kept-points good
 
-  abbrev columns : Columns (length (c .skeleton) + count)
-  columns = columns-fit good
-
   abbrev k : Kept (Numbers c listed)
   k = kept .first
 
@@ -73,7 +70,7 @@ module _ {c : Call} {after sizes : List ℕ} {m count : ℕ} (good : SomeGood c 
 
   module _ (t : Table) (made : Equations-before (point-count c) (c .modulus) (c .skeleton) (c .points) sizes after m (length (c .skeleton) + count) t) where
     pub ready-table : TableReady (c .modulus) t
-    ready-table = adds-ready p (made .adds) (empty-ready p _ listed columns)
+    ready-table = adds-ready p (made .adds) (empty-ready p _ listed (columns-fit good))
 
     abbrev unknowns : ℕ
     unknowns = length (c .skeleton) + length ks
@@ -94,7 +91,7 @@ module _ {c : Call} {after sizes : List ℕ} {m count : ℕ} (good : SomeGood c 
     says : Says p P unknowns equations (solved p t .kind) (solved p t .values)
     says =
         let e = kept .count-is in
-        let l = columns .most in
+        let l = columns-fit good .most in
         let a : length (c .skeleton) + count ≡ suc unknowns = omega arith in
         subst (λ (rs : List (List (Fp p))). Says p P unknowns rs (solved p t .kind) (solved p t .values)) means
         (subst (λ (u : Table). Says p P unknowns (rows-of p unknowns (made .rows)) (solved p u .kind) (solved p u .values))

@@ -8,7 +8,7 @@ use Rattle.poly.specs.Keys.{keys}
 use Rattle.poly.specs.Lists.{WrongKey, above, not-below}
 use Rattle.poly.specs.Search.{Searched}
 use Rattle.poly.specs.list.Searching.{Searching}
-use Rattle.poly.specs.list.Search.{search-begins, search-goes-on, search-stops, search-ends}
+use Rattle.poly.specs.list.Search.{search-goes-on, search-stops}
 
 -- the key before place i: above every key at the start
 pub data Before (ks : List ℕ) : ℕ → ℕ → Type 0 where
@@ -22,9 +22,6 @@ pub record KeysSo (ks : List ℕ) (before i : ℕ) : Type 0 where
   pub in-range : before ≤ keys
 
 module _ (ks : List ℕ) where
-  pub keys-start : KeysSo ks keys 0
-  keys-start = record { searching = search-begins; before-is = start; in-range = omega arith }
-
   wrong-at : (i before : ℕ) → Before ks i before → i < length ks → before ≤ getD ks i 0 → WrongKey ks i
   wrong-at i before start l h = above l h
   wrong-at i before (after j) l h = not-below j (omega arith) l h
@@ -44,9 +41,6 @@ module _ (ks : List ℕ) where
     before-is = after i;
     in-range = let r = h .in-range in omega arith;
   }
-
-  pub keys-end : (before i : ℕ) → KeysSo ks before i → length ks ≤ i → Searched (WrongKey ks) (length ks) i
-  keys-end before i h l = search-ends (h .searching) l
 
   pub keys-beyond : (i : ℕ) → length ks ≤ i → ¬ WrongKey ks i
   keys-beyond i l (above b m) = omega arith

@@ -50,12 +50,11 @@ module _ (K : Field) (A B : Polynomial K) (within : WithinX K (x-degree (K .ring
         ∙ ring3 R (λ c e v. c ⊗ e ⊗ v ≗ e ⊗ (c ⊗ v)) tt (m .0) (value R C at d) (value R C at n) ∙ ap (value R C at d *_) (m .1 n)
 
     -- the kept points, with C over a number and its leading coefficients over the same number, meet the equations
-    multipliers-of : Car → List (Kept K) → List Car
+    abbrev multipliers-of : Car → List (Kept K) → List Car
     multipliers-of c [] = []
     multipliers-of c (k ∷ ks) = value R C (k .point) d * K .inv c ∷ multipliers-of c ks
 
     equations-hold : (c : Car) (ks : List (Kept K)) → Images K A B d ks → Equations K (divided-by K c C) ks (multipliers-of c ks)
-    unfolding multipliers-of
     equations-hold c [] h = tt
     equations-hold c (k ∷ ks) h = (
       λ n l. value-divided K c C (k .point) n ∙ ap (_* K .inv c) (value-is-multiple (k .point) (k .image) (h .0) n)
@@ -63,7 +62,7 @@ module _ (K : Field) (A B : Polynomial K) (within : WithinX K (x-degree (K .ring
       equations-hold c ks (h .1),
     )
 
-    solution-of : (k : Kept K) (ks : List (Kept K)) → Unknowns K
+    abbrev solution-of : (k : Kept K) (ks : List (Kept K)) → Unknowns K
     solution-of k ks = record {
       skeleton = divided-by K (value R C (k .point) d) C;
       multipliers = multipliers-of (value R C (k .point) d) (k ∷ ks);
@@ -72,7 +71,6 @@ module _ (K : Field) (A B : Polynomial K) (within : WithinX K (x-degree (K .ring
     solution-holds : (monomials : List Exponents) → map (λ (t : Term R). t .exponents) C ≡ monomials → (k : Kept K) (ks : List (Kept K))
         → Images K A B d (k ∷ ks)
         → Solution K monomials (k ∷ ks) (solution-of k ks)
-    unfolding solution-of multipliers-of
     solution-holds monomials e k ks h = record {
       proposed = divided-monomials K _ C ∙ e;
       one-first = K .mul-inv _ (value-top (k .point) (k .image) (h .0) .nonzero);
@@ -86,14 +84,10 @@ module _ (K : Field) (A B : Polynomial K) (within : WithinX K (x-degree (K .ring
         → RuleAnswer K A B monomials points
         (report 0 (record { d = d; bad = b; unlucky = u; kept = length (k ∷ kept) }) (length (made-monic K (without-zeros K C))))
         (made-monic K (without-zeros K C))
-    unfolding solution-of
     common-divisor-found monomials e points b u k kept sorted s only =
+        let images = kept-images K A B d points b u (k ∷ kept) sorted in
+        let same : divisor K s ≡ made-monic K (without-zeros K C) =
+        ap (divisor K) (sym (only .1 (solution-of k kept) (solution-holds monomials e k kept images)))
+        ∙ monic-of-multiple K (value R C (k .point) d) (value-top (k .point) (k .image) (images .0) .nonzero) C in
         some-good d b u k kept sorted 0 _ (subst (Verdict K A B monomials (k ∷ kept) 0) same
         (accepted s only (subst (DividesBoth K A B) (sym same) (monic-divides K C _ (both .0), monic-divides K C _ (both .1)))))
-      where
-        images : Images K A B d (k ∷ kept)
-        images = kept-images K A B d points b u (k ∷ kept) sorted
-
-        same : divisor K s ≡ made-monic K (without-zeros K C)
-        same = ap (divisor K) (sym (only .1 (solution-of k kept) (solution-holds monomials e k kept images)))
-            ∙ monic-of-multiple K (value R C (k .point) d) (value-top (k .point) (k .image) (images .0) .nonzero) C

@@ -1,6 +1,6 @@
 -- Demand 3, first half, of the rule: an accepted G divides A and B, has the degree d in x, and no common divisor has a higher one.
 use mathlib.Core.Path.{_≡_, sym, _∙_, ap, subst}
-use mathlib.Core.Logic.{_⊎_, inl, inr}
+use mathlib.Core.Logic.{inl, inr}
 use mathlib.Core.List.{List, [], _∷_}
 use Prim.Native.Nat.{ℕ, suc, _≤_, _<_}
 use native.Mathlib.Omega.{arith}
@@ -26,7 +26,7 @@ use Rattle.poly.specs.image.Laws.{image-within}
 use Rattle.poly.specs.value.Laws.{polynomial-finite, valued, value-of-polynomial, WithinX, polynomial-ends}
 use Rattle.divisor.specs.declared.CandidateRecord.{CandidateRecord}
 use Rattle.divisor.specs.Rule.{DividesBoth, Kept, Sorted, done, bad, unlucky, keep, First, Equations, Unknowns, Solution, without-zeros}
-use Rattle.divisor.specs.Rule.{divisor, Verdict, unsolvable, several, rejected, accepted, RuleAnswer, all-bad, some-good}
+use Rattle.divisor.specs.Rule.{divisor, unsolvable, several, rejected, accepted, RuleAnswer, all-bad, some-good}
 use Rattle.divisor.specs.Demands.{DegreeX, IsPolynomial, GreatestInX}
 use Rattle.divisor.specs.monic.Value.{value-without-zeros, without-zeros-nonzero, made-monic-nonzero}
 
@@ -97,48 +97,36 @@ module _ (K : Field) where
   accepted-degree : (A B : Polynomial K) (monomials : List Exponents) (points : List (Point R)) → WithinX K (x-degree R A) A → WithinX K 7 A
       → (d b u : ℕ) (k : Kept K) (kept : List (Kept K)) → Sorted K A B d points b u (k ∷ kept)
       → (s : Unknowns K) → Solution K monomials (k ∷ kept) s → DividesBoth K A B (divisor K s) → GreatestInX K A B (divisor K s) d
-  accepted-degree A B monomials points w small d b u k kept sorted s solution both = record {
-    divides = both;
-    degree = top (finite-top S3 (SeriesD S2 (SeriesD S1 (SeriesD R (domain K)))) (polynomial R (divisor K s)) (polynomial-finite K (divisor K s)));
-    greatest = common-divisor-degree A B w (k .point) d (k .image) image;
-  }
-    where
-      S1 : CommRing
-      S1 = SeriesR R
-
-      S2 : CommRing
-      S2 = SeriesR S1
-
-      S3 : CommRing
-      S3 = SeriesR S2
-
-      image : Image K A B (k .point) d (k .image)
-      image = kept-images A B d points b u (k ∷ kept) sorted .0
-
+  accepted-degree A B monomials points w small d b u k kept sorted s solution both =
+      let S3 = SeriesR (SeriesR (SeriesR R)) in
+      let G = polynomial R (divisor K s) in
+      let fin = polynomial-finite K (divisor K s) in
+      let image = kept-images A B d points b u (k ∷ kept) sorted .0 in
+      let greatest = common-divisor-degree A B w (k .point) d (k .image) image in
       -- the coefficient beside x^d is not 0, since its value is not
-      beside : ¬ (polynomial R (divisor K s) d ≡ S3 .𝟘)
-      beside e = divisor-at-first monomials k kept s solution d (omega (arith, image-within K A B (k .point) d (k .image) 7 small image)) (image .monic .leads)
-          (sym (ap (λ (v : Seq R). v d) (value-of-polynomial K (divisor K s) (k .point) (polynomial-finite K (divisor K s))))
-          ∙ value-null (at-yzw R (domain K) (k .point .y) (k .point .z) (k .point .w) tt tt tt) (polynomial-finite K (divisor K s) .coef d) e)
-
-      top : ((n : ℕ) → polynomial R (divisor K s) n ≡ S3 .𝟘) ⊎ ((n : ℕ) × Top S3 n (polynomial R (divisor K s))) → DegreeX K d (polynomial R (divisor K s))
-      top (inl z) = absurd (beside (z d))
-      top (inr t) =
-          let l : t .0 ≤ d =
-          common-divisor-degree A B w (k .point) d (k .image) image (polynomial R (divisor K s)) (polynomial-finite K (divisor K s)) (both .0) (both .1) (t .0)
-          (t .1) in
-          let m : ¬ (suc (t .0) ≤ d) = λ h. beside (t .1 .ends d h) in
-          let e : t .0 ≡ d = omega arith in
-          subst (λ (n : ℕ). DegreeX K n (polynomial R (divisor K s))) e (t .1)
+      let beside : ¬ (G d ≡ S3 .𝟘) = λ e.
+      divisor-at-first monomials k kept s solution d (omega (arith, image-within K A B (k .point) d (k .image) 7 small image)) (image .monic .leads)
+      (sym (ap (λ (v : Seq R). v d) (value-of-polynomial K (divisor K s) (k .point) fin))
+      ∙ value-null (at-yzw R (domain K) (k .point .y) (k .point .z) (k .point .w) tt tt tt) (fin .coef d) e) in
+      record {
+        divides = both;
+        degree = elim (finite-top S3 (SeriesD _ (SeriesD _ (SeriesD R (domain K)))) G fin) [
+          | inl z ↦ absurd (beside (z d))
+          | inr t ↦
+              let l : t .0 ≤ d = greatest G fin (both .0) (both .1) (t .0) (t .1) in
+              let m : ¬ (suc (t .0) ≤ d) = λ h. beside (t .1 .ends d h) in
+              let e : t .0 ≡ d = omega arith in
+              subst (λ (n : ℕ). DegreeX K n G) e (t .1)
+        ];
+        greatest = greatest;
+      }
 
   -- DEMAND 3, first half
   pub accepted-greatest : (A B : Polynomial K) (monomials : List Exponents) (points : List (Point R)) → WithinX K (x-degree R A) A → WithinX K 7 A
       → (r : CandidateRecord) (G : Polynomial K) → RuleAnswer K A B monomials points r G → r .fault .number ≡ 0 → GreatestInX K A B G (r .degree)
   accepted-greatest A B monomials points w small r G (all-bad all) e = absurd (omega arith)
-  accepted-greatest A B monomials points w small r G (some-good d b u k kept sorted n H verdict) e = go n H verdict e
-    where
-      go : (n : ℕ) (H : Polynomial K) → Verdict K A B monomials (k ∷ kept) n H → n ≡ 0 → GreatestInX K A B H d
-      go n H (unsolvable z) e = absurd (omega arith)
-      go n H (several s) e = absurd (omega arith)
-      go n H (rejected s only not-both) e = absurd (omega arith)
-      go n H (accepted s only both) e = accepted-degree A B monomials points w small d b u k kept sorted s (only .0) both
+  accepted-greatest A B monomials points w small r G (some-good d b u k kept sorted n H (unsolvable z)) e = absurd (omega arith)
+  accepted-greatest A B monomials points w small r G (some-good d b u k kept sorted n H (several s)) e = absurd (omega arith)
+  accepted-greatest A B monomials points w small r G (some-good d b u k kept sorted n H (rejected s only x)) e = absurd (omega arith)
+  accepted-greatest A B monomials points w small r G (some-good d b u k kept sorted n H (accepted s only both)) e =
+      accepted-degree A B monomials points w small d b u k kept sorted s (only .0) both

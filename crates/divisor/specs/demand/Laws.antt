@@ -3,7 +3,6 @@ use mathlib.Core.Path.{_≡_, refl, sym, _∙_, ap, subst}
 use mathlib.Core.List.{List, [], _∷_, map}
 use Prim.Native.Nat.{ℕ, _≤_, _<_}
 use native.Mathlib.Omega.{arith}
-use Rattle.algebra.specs.Field.{Field}
 use Rattle.algebra.specs.SeriesRing.{S4}
 use Rattle.algebra.specs.Monomial.{polynomial}
 use Rattle.field.specs.Moduli.{Listed}
@@ -58,6 +57,11 @@ keys-falling b (k ∷ ks) h = (keys-under k k ks (omega arith) (h .1), keys-fall
 -- DEMAND 3, second half
 pub common-divisor-comes-out : (c : Call) (r : Result) → Candidate c r → CommonDivisorComesOut c r
 common-divisor-comes-out c r meets pass listed d b u k kept sorted s only C fin dA dB degree proposed =
+    let F = Numbers c listed in
+    let L = terms-at F (monomials c listed) C in
+    let of-L = polynomial-of-terms-at F (monomials c listed) (keys-falling keys (c .skeleton) (skeleton-falls c pass)) C proposed in
+    let divides-both =
+    subst (λ (f : S4 (F .ring) .Car). Divides F f (polynomial (F .ring) (A c listed)) × Divides F f (polynomial (F .ring) (B c listed))) (sym of-L) (dA, dB) in
     let answer = common-divisor-found F (A c listed) (B c listed) (first-within c pass listed)
     L divides-both d (subst (DegreeX F d) (sym of-L) degree) (monomials c listed) (terms-at-monomials F (monomials c listed) C)
     (lent-points c listed) b u k kept sorted s only in
@@ -65,23 +69,6 @@ common-divisor-comes-out c r meets pass listed d b u k kept sorted s only C fin 
     subst (λ (q : Result). (q .found .fault .number ≡ 0) × MadeMonic F C (handed-out c listed q)) same (
       refl,
       subst (λ (H : Polynomial F). MadeMonic F C H) (sym (answered-output c listed _ _ answer))
-          (subst (λ (f : S4 (F .ring) .Car). MadeMonic F f (made-monic F (without-zeros F L))) of-L (monic-is-made-monic F L not-zero)),
+          (subst (λ (f : S4 (F .ring) .Car). MadeMonic F f (made-monic F (without-zeros F L))) of-L
+          (monic-is-made-monic F L (λ e. degree .nonzero (ap (λ (f : S4 (F .ring) .Car). f d) (sym of-L ∙ e))))),
     )
-  where
-    F : Field
-    F = Numbers c listed
-
-    L : Polynomial F
-    L = terms-at F (monomials c listed) C
-
-    of-L : polynomial (F .ring) L ≡ C
-    of-L = polynomial-of-terms-at F (monomials c listed)
-        (keys-falling keys (c .skeleton) (skeleton-falls c pass)) C proposed
-
-    not-zero : ¬ (polynomial (F .ring) L ≡ S4 (F .ring) .𝟘)
-    not-zero e = degree .nonzero (ap (λ (f : S4 (F .ring) .Car). f d) (sym of-L ∙ e))
-
-    divides-both : Divides F (polynomial (F .ring) L) (polynomial (F .ring) (A c listed))
-        × Divides F (polynomial (F .ring) L) (polynomial (F .ring) (B c listed))
-    divides-both =
-        subst (λ (f : S4 (F .ring) .Car). Divides F f (polynomial (F .ring) (A c listed)) × Divides F f (polynomial (F .ring) (B c listed))) (sym of-L) (dA, dB)

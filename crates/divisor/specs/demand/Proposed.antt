@@ -65,9 +65,7 @@ module _ (K : Field) where
 
   -- such a polynomial is its list
   pub polynomial-of-terms-at : (ms : List Exponents) → FallingMonomials ms → (f : S4 R .Car) → OnlyProposed K ms f → polynomial R (terms-at ms f) ≡ f
-  polynomial-of-terms-at ms falling f only = coef-ext R _ f λ e. go e (proposed? ms e) (K .decide (coef R f e))
-    where
-      go : (e : Exponents) → Dec (Proposed K ms e) → Dec (coef R f e ≡ 𝟘) → coef R (polynomial R (terms-at ms f)) e ≡ coef R f e
-      go e (yes p) z = at-proposed ms falling f e p
-      go e (no n) (yes z) = at-other ms f e n ∙ sym z
-      go e (no n) (no q) = absurd (n (only e q))
+  polynomial-of-terms-at ms falling f only = coef-ext R _ f λ e. elim (proposed? ms e) [
+    | yes p ↦ at-proposed ms falling f e p
+    | no n ↦ elim (K .decide (coef R f e)) [ yes z ↦ at-other ms f e n ∙ sym z | no q ↦ absurd (n (only e q)) ]
+  ]

@@ -1,6 +1,6 @@
 -- The turns of the loop that adds the equations of a point: one more power of x at the end.
-use mathlib.Core.Path.{_≡_, refl, sym, _∙_, ap, ap₂, subst}
-use mathlib.Core.List.{List, [], _∷_, _++_, map}
+use mathlib.Core.Path.{_≡_, refl, sym, _∙_, ap, ap₂}
+use mathlib.Core.List.{List, [], _∷_, _++_, map, map-append}
 use Prim.Native.Nat.{ℕ, zero, suc, _+_, _-_, _%_, _<_}
 use native.Mathlib.Numerals.{add-one}
 use native.Mathlib.Nat.{mod-lt}
@@ -19,7 +19,8 @@ use Rattle.divisor.specs.declared.table.Row.{Row}
 use Rattle.divisor.specs.declared.table.Table.{Table}
 use Rattle.divisor.specs.Rule.{Kept}
 use Rattle.divisor.specs.table.Model.{with-row}
-use Rattle.divisor.specs.table.Added.{adds-none, adds-one, adds-more, rows-append}
+use Rattle.divisor.specs.table.Meaning.{row-of}
+use Rattle.divisor.specs.table.Added.{adds-none, adds-one, adds-more}
 use Rattle.divisor.specs.equations.Rows.{row, rows-at}
 use Rattle.divisor.specs.equations.Model.{IsEquation, Equations-to, kept-numbers}
 use Rattle.divisor.specs.equations.RowLaws.{equation-ready, equation-row}
@@ -29,18 +30,6 @@ rows-at-more : (K : Field) (es : List Exponents) (n m : ℕ) (k : Kept K) (i j a
     → rows-at K es n m k i (suc j) ≡ rows-at K es n m k i j ++ (row K es n m k a ∷ [])
 rows-at-more K es n m k i zero a e = let q : i ≡ a = omega arith in ap (λ (b : ℕ). row K es n m k b ∷ []) q
 rows-at-more K es n m k i (suc j) a e = ap (row K es n m k i ∷_) (rows-at-more K es n m k (suc i) j a (omega arith))
-
--- three tables of powers
-record Tables : Type 0 where
-  ys : List ℕ
-  zs : List ℕ
-  ws : List ℕ
-
--- an equation where the tables of powers are known
-pub equation-with : {p : ℕ} {ys zs ws ys′ zs′ ws′ ks : List ℕ} {i column u : ℕ} {r : Row} → ys ≡ ys′ → zs ≡ zs′ → ws ≡ ws′
-    → IsEquation p ys zs ws ks i column u r → IsEquation p ys′ zs′ ws′ ks i column u r
-equation-with {p} {ks = ks} {i} {column} {u} {r} a b c h =
-    subst (λ (t : Tables). IsEquation p (t .ys) (t .zs) (t .ws) ks i column u r) (λ j. record { ys = a j; zs = b j; ws = c j }) h
 
 module _ (p : ℕ) (t : Table) (ks point image : List ℕ) (column : ℕ) where
   pub point-start : Equations-to 0 p t ks point image column t
@@ -54,7 +43,7 @@ module _ (p : ℕ) (t : Table) (ks point image : List ℕ) (column : ℕ) where
     rows = h .rows ++ (e ∷ []);
     adds = adds-more p (h .adds) (rw q (adds-one p r e (equation-ready p pos _ _ _ ks j column u e (rw eu (mod-lt _ pos)) is)));
     means = λ P c n m l b d.
-        rows-append p c (h .rows) (e ∷ [])
+        map-append (row-of p c) (h .rows) (e ∷ [])
         ∙ ap₂ (λ xs x. xs ++ (x ∷ [])) (h .means P c n m l b d)
         (equation-row p P (getD point 0 0) (getD point 1 0) (getD point 2 0) ks j column e u c n m is b d l (series p image)
         (ap (el p) eu ∙ el-mod p (p - getD image j 0) ∙ opposite-el p (getD image j 0) pos (omega arith)))

@@ -44,11 +44,10 @@ unfolding monomial-number
 number-there p ys zs ws i k n = rw (ne-eqb _ i n, monomial-number)
 
 number-below : (p : ℕ) → 0 < p → (ys zs ws : List ℕ) (i k : ℕ) → monomial-number p ys zs ws i k < p
-number-below p pos ys zs ws i k = go (ℕ-discrete (exponents k .x) i)
-  where
-    go : Dec (exponents k .x ≡ i) → monomial-number p ys zs ws i k < p
-    go (yes e) = subst (λ (n : ℕ). n < p) (sym (number-here p ys zs ws i k e)) (mod-lt _ pos)
-    go (no n) = subst (λ (n : ℕ). n < p) (sym (number-there p ys zs ws i k n)) pos
+number-below p pos ys zs ws i k = elim (ℕ-discrete (exponents k .x) i) [
+  | yes e ↦ rw (number-here p ys zs ws i k e) (mod-lt _ pos)
+  | no n ↦ rw (number-there p ys zs ws i k n) pos
+]
 
 -- the cells of an equation are below p
 pub equation-ready : (p : ℕ) → 0 < p → (ys zs ws ks : List ℕ) (i column u : ℕ) (r : Row) → u < p → IsEquation p ys zs ws ks i column u r → RowReady p r
@@ -68,19 +67,18 @@ module _ (p : ℕ) (P : Prime p) (y z w : ℕ) where
 
   -- the number of a monomial is its coefficient at the point
   number-el : (i k : ℕ) → el p (monomial-number p (powers p y) (powers p z) (powers p w) i k) ≡ monomial-at K (at-numbers p P y z w) i (exponents k)
-  number-el i k = go (ℕ-discrete (exponents k .x) i)
-    where
-      go : Dec (exponents k .x ≡ i) → el p (monomial-number p (powers p y) (powers p z) (powers p w) i k) ≡ monomial-at K (at-numbers p P y z w) i (exponents k)
-      go (yes q) =
-          ap (el p) (number-here p (powers p y) (powers p z) (powers p w) i k q)
-          ∙ product-el p _ (getD (powers p w) (exponents k .w) 0)
-          ∙ ap₂ mul (product-el p (getD (powers p y) (exponents k .y) 0) (getD (powers p z) (exponents k .z) 0)
-          ∙ ap₂ mul (powers-el p (prime-positive P) y (exponents k .y) (omega arith)) (powers-el p (prime-positive P) z (exponents k .z) (omega arith)))
-          (powers-el p (prime-positive P) w (exponents k .w) (omega arith))
-          ∙ ring3 R (λ a b c. a ⊗ b ⊗ c ≗ k1 ⊗ a ⊗ b ⊗ c) tt (pow R (el p y) (exponents k .y)) (pow R (el p z) (exponents k .z))
-          (pow R (el p w) (exponents k .w))
-          ∙ sym (mono-at R (exponents k .x) _) ∙ ap (λ (n : ℕ). monomial-at K (at-numbers p P y z w) n (exponents k)) q
-      go (no q) = ap (el p) (number-there p (powers p y) (powers p z) (powers p w) i k q) ∙ sym (mono-off R (exponents k .x) _ i q)
+  number-el i k = elim (ℕ-discrete (exponents k .x) i) [
+    | yes q ↦
+        ap (el p) (number-here p (powers p y) (powers p z) (powers p w) i k q)
+        ∙ product-el p _ (getD (powers p w) (exponents k .w) 0)
+        ∙ ap₂ mul (product-el p (getD (powers p y) (exponents k .y) 0) (getD (powers p z) (exponents k .z) 0)
+        ∙ ap₂ mul (powers-el p (prime-positive P) y (exponents k .y) (omega arith)) (powers-el p (prime-positive P) z (exponents k .z) (omega arith)))
+        (powers-el p (prime-positive P) w (exponents k .w) (omega arith))
+        ∙ ring3 R (λ a b c. a ⊗ b ⊗ c ≗ k1 ⊗ a ⊗ b ⊗ c) tt (pow R (el p y) (exponents k .y)) (pow R (el p z) (exponents k .z))
+        (pow R (el p w) (exponents k .w))
+        ∙ sym (mono-at R (exponents k .x) _) ∙ ap (λ (n : ℕ). monomial-at K (at-numbers p P y z w) n (exponents k)) q
+    | no q ↦ ap (el p) (number-there p (powers p y) (powers p z) (powers p w) i k q) ∙ sym (mono-off R (exponents k .x) _ i q)
+  ]
 
   module _ (ks : List ℕ) (i column : ℕ) (r : Row) where
     -- the part of the keys, from the key at j on
@@ -90,17 +88,10 @@ module _ (p : ℕ) (P : Prime p) (y z w : ℕ) where
     unfolding entries
     monomial-entries front [] e u h j l = refl
     monomial-entries front (k ∷ back) e u h j l =
+        let fits : j < length ks = omega (arith, ap length e, length-append front (k ∷ back)) in
+        let there = ap (λ (q : List ℕ). getD q j 0) e ∙ getD-at front k back 0 j l in
         ap₂ _∷_ (ap (el p) (h .monomials j fits ∙ ap (monomial-number p (powers p y) (powers p z) (powers p w) i) there) ∙ number-el i k)
-        (monomial-entries (front ++ (k ∷ [])) back (e ∙ sym (append-assoc front (k ∷ []) back)) u h (suc j) (length-append front (k ∷ []) ∙ one-more))
-      where
-        one-more : length front + 1 ≡ suc j
-        one-more = omega arith
-
-        fits : j < length ks
-        fits = let a : length ks ≡ length (front ++ (k ∷ back)) = ap length e in let b = length-append front (k ∷ back) in omega arith
-
-        there : getD ks j 0 ≡ k
-        there = ap (λ (q : List ℕ). getD q j 0) e ∙ getD-at front k back 0 j l
+        (monomial-entries (front ++ (k ∷ [])) back (e ∙ sym (append-assoc front (k ∷ []) back)) u h (suc j) (omega (arith, length-append front (k ∷ []))))
 
     -- the part of the multipliers: u in its column and 0 elsewhere
     zero-entries : (u n j : ℕ) → IsEquation p (powers p y) (powers p z) (powers p w) ks i column u r → length ks ≤ j → column < j

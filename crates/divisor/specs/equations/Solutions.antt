@@ -103,39 +103,26 @@ module _ (K : Field) where
         }
 
     rows-of-solution : (s : Unknowns K) → Solution K es (k ∷ ks) s → SolvesRows (vector-of K s)
-    rows-of-solution s h = record {
-      unknowns = length-append (coefficients (s .skeleton)) (after-first K (s .multipliers)) ∙ ap₂ _+ₙ_ sized left;
-      solves = say-rows K es (coefficients (s .skeleton)) sized (after-first K (s .multipliers)) k ks left
-          (subst (λ (f : Polynomial K). Equations K f (k ∷ ks) (𝟙 ∷ after-first K (s .multipliers)))
-          (sym own) holds);
-    }
-      where
-        own : with-coefficients K es (coefficients (s .skeleton)) ≡ s .skeleton
-        own =
-            subst (λ (ms : List Exponents). with-coefficients K ms (coefficients (s .skeleton)) ≡ s .skeleton) (h .proposed)
-            (with-coefficients-own (s .skeleton))
-
-        holds : Equations K (s .skeleton) (k ∷ ks) (𝟙 ∷ after-first K (s .multipliers))
-        holds = subst (Equations K (s .skeleton) (k ∷ ks)) (first-and-after (s .multipliers) (h .one-first)) (h .holds)
-
-        left : length (after-first K (s .multipliers)) ≡ length ks
-        left = let e = equations-length (s .skeleton) (k ∷ ks) (𝟙 ∷ after-first K (s .multipliers)) holds in omega arith
-
-        sized : length (coefficients (s .skeleton)) ≡ length es
-        sized = length-own (s .skeleton) ∙ ap length (h .proposed)
+    rows-of-solution s h =
+        let cs = coefficients (s .skeleton) in
+        let ms = after-first K (s .multipliers) in
+        let own : with-coefficients K es cs ≡ s .skeleton =
+        subst (λ (es : List Exponents). with-coefficients K es cs ≡ s .skeleton) (h .proposed) (with-coefficients-own (s .skeleton)) in
+        let holds = subst (Equations K (s .skeleton) (k ∷ ks)) (first-and-after (s .multipliers) (h .one-first)) (h .holds) in
+        let left : length ms ≡ length ks = omega (arith, equations-length (s .skeleton) (k ∷ ks) (𝟙 ∷ ms) holds) in
+        let sized = length-own (s .skeleton) ∙ ap length (h .proposed) in
+        record {
+          unknowns = length-append cs ms ∙ ap₂ _+ₙ_ sized left;
+          solves = say-rows K es cs sized ms k ks left (subst (λ (f : Polynomial K). Equations K f (k ∷ ks) (𝟙 ∷ ms)) (sym own) holds);
+        }
 
     unknowns-of-vector : (s : Unknowns K) → Solution K es (k ∷ ks) s → unknowns-of K es (vector-of K s) ≡ s
-    unknowns-of-vector s h = λ i. record { skeleton = same i; multipliers = (ap (𝟙 ∷_) later ∙ sym (first-and-after (s .multipliers) (h .one-first))) i }
-      where
-        same : with-coefficients K es (vector-of K s) ≡ s .skeleton
-        same =
-            subst (λ (ms : List Exponents). with-coefficients K ms (vector-of K s) ≡ s .skeleton) (h .proposed)
-            (with-own (s .skeleton) (after-first K (s .multipliers)))
-
-        later : behind K es (vector-of K s) ≡ after-first K (s .multipliers)
-        later =
-            subst (λ (ms : List Exponents). behind K ms (vector-of K s) ≡ after-first K (s .multipliers)) (h .proposed)
-            (behind-own (s .skeleton) (after-first K (s .multipliers)))
+    unknowns-of-vector s h =
+        let ms = after-first K (s .multipliers) in
+        let own : unknowns-of K es (vector-of K s) ≡ record { skeleton = s .skeleton; multipliers = 𝟙 ∷ ms } =
+        subst (λ (es : List Exponents). unknowns-of K es (vector-of K s) ≡ record { skeleton = s .skeleton; multipliers = 𝟙 ∷ ms }) (h .proposed)
+        (λ i. record { skeleton = with-own (s .skeleton) ms i; multipliers = 𝟙 ∷ behind-own (s .skeleton) ms i }) in
+        own ∙ (λ i. record { skeleton = s .skeleton; multipliers = sym (first-and-after (s .multipliers) (h .one-first)) i })
 
     vector-of-unknowns : (v : List Car) → SolvesRows v → vector-of K (unknowns-of K es v) ≡ v
     vector-of-unknowns v h =

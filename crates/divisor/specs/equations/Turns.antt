@@ -1,19 +1,18 @@
 -- The turns of the loop that makes an equation's row: numbers for the keys passed, 0 for the rest, and last the multiplier's column.
-use mathlib.Core.Path.{_≡_, refl, sym, _∙_, ap}
+use mathlib.Core.Path.{_≡_, refl, sym, _∙_}
 use mathlib.Core.List.{List}
-use Prim.Native.Nat.{ℕ, _+_, _*_, _%_, _≤_, _<_}
-use native.Mathlib.Decide.{ℕ-discrete}
+use Prim.Native.Nat.{ℕ, _+_, _≤_, _<_}
 use native.Mathlib.Omega.{arith}
-use lib.ListN.{length, getD, set, length-set, length-replicate}
+use lib.ListN.{length, getD, set, length-set}
 use lib.Seq.{getD-set-same, getD-set-other}
 use Rattle.poly.specs.Keys.{exponents}
 use Rattle.field.specs.loops.Places.{replicate-all}
 use Rattle.field.specs.loops.Filled.{Filled}
-use Rattle.field.specs.loops.Cells.{filled-start, filled-next, filled-passed}
+use Rattle.field.specs.loops.Cells.{filled-passed}
 use Rattle.divisor.specs.declared.table.Row.{Row}
-use Rattle.divisor.specs.table.Model.{most-columns, cell, zeros}
+use Rattle.divisor.specs.table.Model.{most-columns, zeros}
 use Rattle.divisor.specs.equations.Model.{monomial-number, IsEquation}
-use Rattle.divisor.specs.equations.RowLaws.{number-here, number-there}
+use Rattle.divisor.specs.equations.RowLaws.{number-there}
 
 abbrev pub with-cell : Row → ℕ → ℕ → Row
 with-cell r j v = record { cells = set (r .cells) j v }
@@ -22,21 +21,12 @@ module _ (p : ℕ) (ys zs ws ks : List ℕ) (i : ℕ) where
   abbrev pub number-at : ℕ → ℕ
   number-at k = monomial-number p ys zs ws i (getD ks k 0)
 
-  pub equation-start : Filled number-at most-columns zeros 0 zeros
-  equation-start = filled-start (omega arith) (length-replicate {A = ℕ} most-columns 0) (λ k l. absurd (omega arith))
-
   module _ (j : ℕ) (r : Row) (h : Filled number-at most-columns zeros j (r .cells)) where
     zero-at : (k : ℕ) → getD zeros k 0 ≡ 0
     zero-at k = replicate-all (λ a. a ≡ 0) most-columns k 0 0 refl refl
 
     pub equation-passed : j < most-columns → ¬ (exponents (getD ks j 0) .x ≡ i) → Filled number-at most-columns zeros (j + 1) (r .cells)
     equation-passed b n = filled-passed h b (zero-at j ∙ sym (number-there p ys zs ws i (getD ks j 0) n))
-
-    pub equation-taken : (v : ℕ) → exponents (getD ks j 0) .x ≡ i → j < most-columns
-        → v ≡ (getD ys (exponents (getD ks j 0) .y) 0 * getD zs (exponents (getD ks j 0) .z) 0) % p * getD ws (exponents (getD ks j 0) .w) 0 % p
-        → Filled number-at most-columns zeros (j + 1) (with-cell r j v .cells)
-    equation-taken v e b q =
-        filled-next h b (q ∙ sym (number-here p ys zs ws i (getD ks j 0) e))
 
     pub equation-end : (column u : ℕ) → length ks ≤ j → j ≤ length ks → length ks ≤ column → column < most-columns
         → IsEquation p ys zs ws ks i column u (with-cell r column u)

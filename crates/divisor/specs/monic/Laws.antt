@@ -21,7 +21,7 @@ use Rattle.poly.specs.Terms.{Polynomial}
 use Rattle.poly.specs.Divides.{Divides}
 use Rattle.divisor.specs.Rule.{without-zeros, divided-by, made-monic}
 use Rattle.divisor.specs.Demands.{MadeMonic, constant}
-use Rattle.divisor.specs.monic.Value.{NonZero, without-zeros-nonzero}
+use Rattle.divisor.specs.monic.Value.{zero-dropped, nonzero-kept, NonZero, without-zeros-nonzero}
 
 module _ (K : Field) where
   open Field K using (ring as R)
@@ -51,15 +51,12 @@ module _ (K : Field) where
   polynomial-without-zeros : (f : Polynomial K) → polynomial R (without-zeros K f) ≡ polynomial R f
   unfolding polynomial without-zeros
   polynomial-without-zeros [] = refl
-  polynomial-without-zeros (t ∷ ts) = go (K .decide (t .coefficient)) (polynomial-without-zeros ts)
-    where
-      go : (z : Dec (t .coefficient ≡ 𝟘)) → polynomial R (without-zeros K ts) ≡ polynomial R ts
-          → polynomial R (elim z [ yes e ↦ without-zeros K ts | no q ↦ t ∷ without-zeros K ts ])
-          ≡ S4 R .add (monomial R (t .exponents) (t .coefficient)) (polynomial R ts)
-      go (yes e) h =
-          let z = ap (monomial R (t .exponents)) e ∙ monomial-zero R (t .exponents) in
-          h ∙ sym (ap (λ (u : S4 R .Car). S4 R .add u (polynomial R ts)) z ∙ zero-add (S4 R) _)
-      go (no q) h = ap (S4 R .add (monomial R (t .exponents) (t .coefficient))) h
+  polynomial-without-zeros (t ∷ ts) = elim (K .decide (t .coefficient)) [
+    | yes e ↦
+        let z = ap (monomial R (t .exponents)) e ∙ monomial-zero R (t .exponents) in
+        rw (zero-dropped K t ts e) (polynomial-without-zeros ts ∙ sym (ap (λ (u : S4 R .Car). S4 R .add u (polynomial R ts)) z ∙ zero-add (S4 R) _))
+    | no q ↦ rw (nonzero-kept K t ts q) (ap (S4 R .add (monomial R (t .exponents) (t .coefficient))) (polynomial-without-zeros ts))
+  ]
 
   -- a polynomial over a number that is not 0 divides what it divides
   divided-divides : (c : Car) → ¬ (c ≡ 𝟘) → (f : Polynomial K) (g : S4 R .Car) → Divides K (polynomial R f) g → Divides K (polynomial R (divided-by K c f)) g
@@ -85,12 +82,10 @@ module _ (K : Field) where
   -- a factor that is not 0 makes no difference to the monic form
   inv-of-quotient : (m c : Car) → ¬ (m ≡ 𝟘) → ¬ (c ≡ 𝟘) → K .inv c * K .inv (m * K .inv c) ≡ K .inv m
   inv-of-quotient m c nm nc =
+      let I = K .inv (m * K .inv c) in
       sym (one-mul R _) ∙ ap (_* (K .inv c * I)) (sym (K .mul-inv m nm))
       ∙ ring4 R (λ m n c i. m ⊗ n ⊗ (c ⊗ i) ≗ n ⊗ (m ⊗ c ⊗ i)) tt m (K .inv m) (K .inv c) I
       ∙ ap (K .inv m *_) (K .mul-inv (m * K .inv c) (domain K .nzd m (K .inv c) tt tt nm (inv-nonzero K c nc))) ∙ R .mul-one _
-    where
-      I : Car
-      I = K .inv (m * K .inv c)
 
   divided-twice : (m c : Car) → ¬ (m ≡ 𝟘) → ¬ (c ≡ 𝟘) → (f : Polynomial K) → divided-by K (m * K .inv c) (divided-by K c f) ≡ divided-by K m f
   unfolding divided-by
@@ -107,18 +102,15 @@ module _ (K : Field) where
   without-zeros-divided : (c : Car) → ¬ (c ≡ 𝟘) → (f : Polynomial K) → without-zeros K (divided-by K c f) ≡ divided-by K c (without-zeros K f)
   unfolding without-zeros divided-by
   without-zeros-divided c nc [] = refl
-  without-zeros-divided c nc (t ∷ ts) = go (K .decide (t .coefficient * K .inv c)) (K .decide (t .coefficient)) (without-zeros-divided c nc ts)
-    where
-      over-c : Term R
-      over-c = record { exponents = t .exponents; coefficient = t .coefficient * K .inv c }
-
-      go : (z : Dec (t .coefficient * K .inv c ≡ 𝟘)) (u : Dec (t .coefficient ≡ 𝟘)) → without-zeros K (divided-by K c ts) ≡ divided-by K c (without-zeros K ts)
-          → _≡_ {A = Polynomial K} (elim z [ yes e ↦ without-zeros K (divided-by K c ts) | no q ↦ over-c ∷ without-zeros K (divided-by K c ts) ])
-          (divided-by K c (elim u [ yes e ↦ without-zeros K ts | no q ↦ t ∷ without-zeros K ts ]))
-      go (yes e) (yes z) h = h
-      go (yes e) (no n) h = absurd (domain K .nzd _ _ tt tt n (inv-nonzero K c nc) e)
-      go (no q) (yes z) h = absurd (q (ap (_* K .inv c) z ∙ zero-mul R _))
-      go (no q) (no n) h = ap (over-c ∷_) h
+  without-zeros-divided c nc (t ∷ ts) =
+      let over-c : Term R = record { exponents = t .exponents; coefficient = t .coefficient * K .inv c } in
+      let later = without-zeros-divided c nc ts in
+      elim (K .decide (t .coefficient)) [
+        | yes z ↦ zero-dropped K over-c (divided-by K c ts) (ap (_* K .inv c) z ∙ zero-mul R _) ∙ later ∙ sym (ap (divided-by K c) (zero-dropped K t ts z))
+        | no n ↦
+            nonzero-kept K over-c (divided-by K c ts) (domain K .nzd _ _ tt tt n (inv-nonzero K c nc)) ∙ ap (over-c ∷_) later
+            ∙ sym (ap (divided-by K c) (nonzero-kept K t ts n))
+      ]
 
   -- the monic form of a polynomial and of a multiple are the same
   pub monic-of-multiple : (c : Car) → ¬ (c ≡ 𝟘) → (f : Polynomial K) → made-monic K (without-zeros K (divided-by K c f)) ≡ made-monic K (without-zeros K f)

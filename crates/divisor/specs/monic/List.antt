@@ -25,7 +25,7 @@ use Rattle.divisor.specs.Rule.{Kept, Solution, without-zeros, made-monic
 use Rattle.divisor.specs.monic.Model.{leading, scaled-terms, monic-terms}
 use Rattle.divisor.specs.monic.Value.{value-without-zeros}
 use Rattle.divisor.specs.demand.Degree.{solution-at-first}
-use Rattle.divisor.specs.monic.Terms.{AllBelow, leading-zero, scaled-zero, scaled-here, skeleton-of, Led, no-term, first-left, led, divisor-numbers}
+use Rattle.divisor.specs.monic.Terms.{AllBelow, leading-zero, scaled-zero, scaled-here, skeleton-of, no-term, first-left, led, divisor-numbers}
 use Rattle.divisor.specs.verdict.Output.{divisor-within, read-numbers}
 
 module _ (p : ℕ) (P : Prime p) (small : p < coefficient-limit) where
@@ -37,11 +37,10 @@ module _ (p : ℕ) (P : Prime p) (small : p < coefficient-limit) where
 
   -- a product of numbers that are not 0 is not 0
   product-positive : (c f : ℕ) → c < p → ¬ (c ≡ 0) → f < p → ¬ (f ≡ 0) → 0 < (c * f) % p
-  product-positive c f lc nc lf nf = go (ℕ-discrete ((c * f) % p) 0)
-    where
-      go : Dec ((c * f) % p ≡ 0) → 0 < (c * f) % p
-      go (yes e) = absurd (no-zero-divisors K (el p c) (el p f) (el-nonzero p c lc nc) (el-nonzero p f lf nf) (sym (product-el p c f) ∙ ap (el p) e))
-      go (no n) = omega arith
+  product-positive c f lc nc lf nf = elim (ℕ-discrete ((c * f) % p) 0) [
+    | yes e ↦ absurd (no-zero-divisors K (el p c) (el p f) (el-nonzero p c lc nc) (el-nonzero p f lf nf) (sym (product-el p c f) ∙ ap (el p) e))
+    | no n ↦ omega arith
+  ]
 
   -- the terms of keys that fall
   scaled-fall : (f : ℕ) → f < p → ¬ (f ≡ 0) → (b : ℕ) (ks cs : List ℕ) → FallFrom b ks → AllBelow p cs → Falling p b (scaled-terms p f ks cs)
@@ -74,14 +73,10 @@ module _ (p : ℕ) (P : Prime p) (small : p < coefficient-limit) where
   scaled-some f [] [] l n = absurd (n (unfold leading in refl))
   scaled-some f [] (c ∷ cs) l n = absurd (omega arith)
   scaled-some f (k ∷ ks) [] l n = absurd (omega arith)
-  scaled-some f (k ∷ ks) (c ∷ cs) l n = go (ℕ-discrete c 0) (scaled-some f ks cs (omega arith))
-    where
-      go : Dec (c ≡ 0) → (¬ (leading cs ≡ 0) → 0 < length (scaled-terms p f ks cs)) → 0 < length (scaled-terms p f (k ∷ ks) (c ∷ cs))
-      go (yes e) later = subst (λ (ts : List ℕ). 0 < length ts) (sym (scaled-zero p f k c ks cs e)) (later (λ z. n (leading-zero c cs e ∙ z)))
-      go (no q) later = subst (λ (ts : List ℕ). 0 < length ts) (sym (scaled-here p f k c ks cs q)) (omega arith)
-
-  inverse-below : (a : ℕ) → inv (el p a) .val < p
-  inverse-below a = val-lt (prime-positive P) (inv (el p a))
+  scaled-some f (k ∷ ks) (c ∷ cs) l n = elim (ℕ-discrete c 0) [
+    | yes e ↦ rw (scaled-zero p f k c ks cs e) (scaled-some f ks cs (omega arith) (λ z. n (leading-zero c cs e ∙ z)))
+    | no q ↦ rw (scaled-here p f k c ks cs q) (omega arith)
+  ]
 
   inverse-nonzero : (a : ℕ) → a < p → ¬ (a ≡ 0) → ¬ (inv (el p a) .val ≡ 0)
   inverse-nonzero a l n e = inv-nonzero K (el p a) (el-nonzero p a l n) (sym (el-val (inv (el p a))) ∙ ap (el p) e)
@@ -105,14 +100,15 @@ module _ (p : ℕ) (P : Prime p) (small : p < coefficient-limit) where
         ∙ ap (λ (f : Polynomial K). value R f (k .point) d) e ∙ (unfold value in refl))
 
     pub good-list : GoodList ks cs
-    good-list = go (led p P ks cs sized below)
-      where
-        go : Led p P ks cs → GoodList ks cs
-        go (no-term w z) = absurd (not-empty w)
-        go (first-left t ts w q n b) = record {
-          led = n;
-          some = scaled-some (inv (el p (leading cs)) .val) ks cs sized n;
-          falls = scaled-fall (inv (el p (leading cs)) .val) (inverse-below (leading cs)) (inverse-nonzero (leading cs) b n) keys ks cs fall below;
-          reads = ap (terms-of p P) (sym (divisor-numbers p P ks cs sized below))
-              ∙ read-numbers p P small (made-monic K (without-zeros K (skeleton-of p P ks cs))) (divisor-within K ks (k ∷ kept) _ solution .keyed);
-        }
+    good-list = elim (led p P ks cs sized below) [
+      | no-term w z ↦ absurd (not-empty w)
+      | first-left t ts w q n b ↦
+          let u = inv (el p (leading cs)) in
+          record {
+            led = n;
+            some = scaled-some (u .val) ks cs sized n;
+            falls = scaled-fall (u .val) (val-lt (prime-positive P) u) (inverse-nonzero (leading cs) b n) keys ks cs fall below;
+            reads = ap (terms-of p P) (sym (divisor-numbers p P ks cs sized below))
+                ∙ read-numbers p P small (made-monic K (without-zeros K (skeleton-of p P ks cs))) (divisor-within K ks (k ∷ kept) _ solution .keyed);
+          }
+    ]

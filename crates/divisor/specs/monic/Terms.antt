@@ -16,6 +16,7 @@ use Rattle.field.specs.elements.Fp.{el-nonzero, el-val, val-of-el}
 use Rattle.field.specs.elements.Link.{product-el}
 use Rattle.field.specs.Modulo.{Modulo}
 use Rattle.poly.specs.Keys.{key, exponents}
+use Rattle.poly.specs.Search.{Searched}
 use Rattle.poly.specs.Terms.{Polynomial, numbers-of, keyed}
 use Rattle.poly.specs.key.Laws.{key-of-exponents}
 use Rattle.divisor.specs.Rule.{without-zeros, divided-by, made-monic}
@@ -41,17 +42,24 @@ pub leading-here : (c : ℕ) (cs : List ℕ) → ¬ (c ≡ 0) → leading (c ∷
 unfolding leading
 leading-here c cs n = rw (ne-eqb c 0 n, leading)
 
--- the leading coefficient is one of them, or 0
-leading-within : (p : ℕ) → 0 < p → (cs : List ℕ) → AllBelow p cs → leading cs < p
-leading-within p pos [] h = (unfold leading in pos)
-leading-within p pos (c ∷ cs) h = go (ℕ-discrete c 0) (leading-within p pos cs (h .1))
-  where
-    go : Dec (c ≡ 0) → leading cs < p → leading (c ∷ cs) < p
-    go (yes e) l = subst (λ (n : ℕ). n < p) (sym (leading-zero c cs e)) l
-    go (no n) l = subst (λ (n : ℕ). n < p) (sym (leading-here c cs n)) (h .0)
+-- it is what a search for the first coefficient but 0 finds
+pub leading-searched : (n : ℕ) (cs : List ℕ) (i : ℕ) → Searched (λ k. ¬ (getD cs k 0 ≡ 0)) n i → leading (take n cs) ≡ getD (take n cs) i 0
+leading-searched zero cs i s = (unfold leading in refl)
+leading-searched (suc n) [] i s = (unfold leading in refl)
+leading-searched (suc n) (c ∷ cs) zero s = leading-here c (take n cs) (s .here (omega arith))
+leading-searched (suc n) (c ∷ cs) (suc i) s =
+    leading-zero c (take n cs) (elim (ℕ-discrete c 0) [ yes e ↦ e | no q ↦ absurd (s .before 0 (omega arith) q) ])
+    ∙ leading-searched n cs i
+    (record { within = omega (arith, s .within); before = λ k l. s .before (suc k) (omega arith); here = λ l. s .here (omega arith) })
 
-pub leading-below : (p : ℕ) → 0 < p → (n : ℕ) (values : List ℕ) → ((i : ℕ) → getD values i 0 < p) → leading (take n values) < p
-leading-below p pos n values h = leading-within p pos (take n values) (all-below p n values h)
+-- the leading coefficient is one of them, or 0
+pub leading-below : (p : ℕ) → 0 < p → (n : ℕ) (cs : List ℕ) → ((i : ℕ) → getD cs i 0 < p) → leading (take n cs) < p
+leading-below p pos zero cs h = (unfold leading in pos)
+leading-below p pos (suc n) [] h = (unfold leading in pos)
+leading-below p pos (suc n) (c ∷ cs) h = elim (ℕ-discrete c 0) [
+  | yes e ↦ rw (leading-zero c (take n cs) e) (leading-below p pos n cs (λ i. h (suc i)))
+  | no q ↦ rw (leading-here c (take n cs) q) (h 0)
+]
 
 pub scaled-zero : (p f k c : ℕ) (ks cs : List ℕ) → c ≡ 0 → scaled-terms p f (k ∷ ks) (c ∷ cs) ≡ scaled-terms p f ks cs
 unfolding scaled-terms
@@ -94,13 +102,12 @@ module _ (p : ℕ) (P : Prime p) where
   divided-numbers a [] [] l h = (unfold without-zeros scaled-terms in refl)
   divided-numbers a [] (c ∷ cs) l h = absurd (omega arith)
   divided-numbers a (k ∷ ks) [] l h = absurd (omega arith)
-  divided-numbers a (k ∷ ks) (c ∷ cs) l h = go (ℕ-discrete c 0) (divided-numbers a ks cs (omega arith) (h .1))
-    where
-      go : Dec (c ≡ 0) → numbers-of p P (divided-by K a (without-zeros K (skeleton-of ks cs))) ≡ scaled-terms p (inv a .val) ks cs
-          → numbers-of p P (divided-by K a (without-zeros K (skeleton-of (k ∷ ks) (c ∷ cs)))) ≡ scaled-terms p (inv a .val) (k ∷ ks) (c ∷ cs)
-      go (yes e) r = ap (λ (f : Polynomial K). numbers-of p P (divided-by K a f)) (without-zero k ks c cs e) ∙ r ∙ sym (scaled-zero p (inv a .val) k c ks cs e)
-      go (no n) r = ap (λ (f : Polynomial K). numbers-of p P (divided-by K a f)) (with-first k ks c cs (h .0) n)
-          ∙ ap₂ _∷_ (number-divided k c (inv a)) r ∙ sym (scaled-here p (inv a .val) k c ks cs n)
+  divided-numbers a (k ∷ ks) (c ∷ cs) l h =
+      let r = divided-numbers a ks cs (omega arith) (h .1) in
+      elim (ℕ-discrete c 0) [
+        | yes e ↦ rw (without-zero k ks c cs e) (r ∙ sym (scaled-zero p (inv a .val) k c ks cs e))
+        | no n ↦ rw (with-first k ks c cs (h .0) n) (ap₂ _∷_ (number-divided k c (inv a)) r ∙ sym (scaled-here p (inv a .val) k c ks cs n))
+      ]
 
   -- the first term that is left has the leading coefficient
   pub data Led (ks cs : List ℕ) : Type 0 where
@@ -122,27 +129,13 @@ module _ (p : ℕ) (P : Prime p) where
       go (no n) r = first-left (first-term k ks c cs) (without-zeros K (skeleton-of ks cs)) (with-first k ks c cs (h .0) n)
           (ap (el p) (sym (leading-here c cs n))) (λ z. n (sym (leading-here c cs n) ∙ z)) (subst (λ (m : ℕ). m < p) (sym (leading-here c cs n)) (h .0))
 
-  monic-none : made-monic K [] ≡ []
-  unfolding made-monic
-  monic-none = refl
-
-  divided-none : (a : Fp p) → divided-by K a [] ≡ []
-  unfolding divided-by
-  divided-none a = refl
-
-  monic-first : (t : Term R) (ts : Polynomial K) → made-monic K (t ∷ ts) ≡ divided-by K (t .coefficient) (t ∷ ts)
-  unfolding made-monic
-  monic-first t ts = refl
-
   -- the numbers of the divisor
   pub divisor-numbers : (ks cs : List ℕ) → length cs ≡ length ks → AllBelow p cs
       → numbers-of p P (made-monic K (without-zeros K (skeleton-of ks cs))) ≡ monic-terms p ks cs
-  divisor-numbers ks cs l h = go (led ks cs l h) (divided-numbers (el p (leading cs)) ks cs l h)
-    where
-      go : Led ks cs → numbers-of p P (divided-by K (el p (leading cs)) (without-zeros K (skeleton-of ks cs))) ≡ monic-terms p ks cs
-          → numbers-of p P (made-monic K (without-zeros K (skeleton-of ks cs))) ≡ monic-terms p ks cs
-      go (no-term w z) r =
-          ap (numbers-of p P) (ap (made-monic K) w ∙ monic-none ∙ sym (ap (divided-by K (el p (leading cs))) w ∙ divided-none (el p (leading cs)))) ∙ r
-      go (first-left t ts w q n b) r =
-          ap (numbers-of p P)
-          (ap (made-monic K) w ∙ monic-first t ts ∙ ap (λ (a : Fp p). divided-by K a (t ∷ ts)) q ∙ ap (divided-by K (el p (leading cs))) (sym w)) ∙ r
+  unfolding made-monic divided-by
+  divisor-numbers ks cs l h = elim (led ks cs l h) [
+    | no-term w z ↦ ap (numbers-of p P) (ap (made-monic K) w ∙ sym (ap (divided-by K (el p (leading cs))) w)) ∙ divided-numbers (el p (leading cs)) ks cs l h
+    | first-left t ts w q n b ↦
+        ap (numbers-of p P) (ap (made-monic K) w ∙ ap (λ (a : Fp p). divided-by K a (t ∷ ts)) q ∙ ap (divided-by K (el p (leading cs))) (sym w))
+        ∙ divided-numbers (el p (leading cs)) ks cs l h
+  ]

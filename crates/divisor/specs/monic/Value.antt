@@ -37,11 +37,10 @@ module _ (K : Field) where
   pub without-zeros-nonzero : (f : Polynomial K) → NonZero (without-zeros K f)
   unfolding without-zeros
   without-zeros-nonzero [] = tt
-  without-zeros-nonzero (t ∷ ts) = go (K .decide (t .coefficient)) (without-zeros-nonzero ts)
-    where
-      go : (z : Dec (t .coefficient ≡ 𝟘)) → NonZero (without-zeros K ts) → NonZero (elim z [ yes e ↦ without-zeros K ts | no q ↦ t ∷ without-zeros K ts ])
-      go (yes e) h = h
-      go (no q) h = (q, h)
+  without-zeros-nonzero (t ∷ ts) = elim (K .decide (t .coefficient)) [
+    | yes e ↦ rw (zero-dropped t ts e) (without-zeros-nonzero ts)
+    | no q ↦ rw (nonzero-kept t ts q) (q, without-zeros-nonzero ts)
+  ]
 
   -- every value is divided with the coefficients
   pub value-divided : (c : Car) (f : Polynomial K) (at : Point R) (n : ℕ) → value R (divided-by K c f) at n ≡ value R f at n * K .inv c
@@ -67,15 +66,12 @@ module _ (K : Field) where
   pub value-without-zeros : (f : Polynomial K) (at : Point R) (n : ℕ) → value R (without-zeros K f) at n ≡ value R f at n
   unfolding value without-zeros
   value-without-zeros [] at n = refl
-  value-without-zeros (t ∷ ts) at n = go (K .decide (t .coefficient)) (value-without-zeros ts at n)
-    where
-      go : (z : Dec (t .coefficient ≡ 𝟘)) → value R (without-zeros K ts) at n ≡ value R ts at n
-          → value R (elim z [ yes e ↦ without-zeros K ts | no q ↦ t ∷ without-zeros K ts ]) at n
-          ≡ mono R (t .exponents .x) (number-at R at t) n + value R ts at n
-      go (yes e) h =
-          let z = ap (λ (u : Car). mono R (t .exponents .x) u n) (number-null at t e) ∙ mono-null R (t .exponents .x) n in
-          h ∙ sym (ap (_+ value R ts at n) z ∙ zero-add R _)
-      go (no q) h = ap (mono R (t .exponents .x) (number-at R at t) n +_) h
+  value-without-zeros (t ∷ ts) at n = elim (K .decide (t .coefficient)) [
+    | yes e ↦
+        let z = ap (λ (u : Car). mono R (t .exponents .x) u n) (number-null at t e) ∙ mono-null R (t .exponents .x) n in
+        rw (zero-dropped t ts e) (value-without-zeros ts at n ∙ sym (ap (_+ value R ts at n) z ∙ zero-add R _))
+    | no q ↦ rw (nonzero-kept t ts q) (ap (mono R (t .exponents .x) (number-at R at t) n +_) (value-without-zeros ts at n))
+  ]
 
   -- made monic, a value that was not 0 is not 0
   pub made-monic-nonzero : (f : Polynomial K) (at : Point R) (n : ℕ) → NonZero f → ¬ (value R f at n ≡ 𝟘) → ¬ (value R (made-monic K f) at n ≡ 𝟘)

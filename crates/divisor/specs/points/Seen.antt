@@ -114,23 +114,16 @@ module _ {p N : ℕ} {A B points before after sizes : List ℕ} (few : N ≤ mos
         go true = sym (append-assoc (so-far i) (kept-numbers p P (point-at points i) (image-at after i) ∷ []) (rest (suc i) n))
         go false = sym (append-assoc (so-far i) [] (rest (suc i) n))
 
-    none-kept : kept-of P m [] [] ≡ []
-    unfolding kept-of
-    none-kept = refl
-
-    none-before : so-far 0 ≡ []
-    unfolding kept-before
-    none-before = refl
-
     kept-from : (i n : ℕ) → i + n ≡ N → so-far i ++ rest i n ≡ so-far N
+    unfolding kept-of
     kept-from i zero e =
         let q : i ≡ N = omega arith in
         ap (λ (l : List (Point (Modulo p P .ring))). so-far i ++ kept-of P m l [])
         (no-point p P (left points i) (let r = left-length points i 0 (omega arith) in omega arith))
-        ∙ ap (so-far i ++_) none-kept
         ∙ append-nil (so-far i)
         ∙ ap so-far q
     kept-from i (suc n) e = one-more i n e ∙ kept-from (suc i) n (omega arith)
 
     pub kept-seen : kept-before P m points sizes after N ≡ kept-of P m (points-of p P points) (looks-from p A B points 0 N)
-    kept-seen = sym (kept-from 0 N (omega arith)) ∙ ap (_++ rest 0 N) none-before
+    unfolding kept-before
+    kept-seen = sym (kept-from 0 N (omega arith))

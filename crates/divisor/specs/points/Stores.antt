@@ -51,34 +51,22 @@ module _ {p : ℕ} {A B points before : List ℕ} where
   pub looks-next : {n : ℕ} {work sizes : List ℕ} {seen : PointImage} → n < most-points → work-room ≤ length before
       → Looks n p A B points before work sizes → seen ≡ look-at p A B points n → length (seen .coefficients) ≡ 8
       → Looks (n + 1) p A B points before (placed (seen .coefficients) (8 * n) work) (set sizes n (seen .size))
-  looks-next {n} {work} {sizes} {seen} small room h e eight = record {
-    sized = filled-next (h .sized) small (ap (λ (r : PointImage). r .size) e);
-    same-length = same-length ∙ h .same-length;
-    images = λ i l. image i l (ℕ-discrete i n);
-    beyond = ext-getD 0 (drop work-room after) (drop work-room work) far each ∙ h .beyond;
-  }
-    where
-      after : List ℕ
-      after = placed (seen .coefficients) (8 * n) work
-
-      same-length : length after ≡ length work
-      same-length = cells-length _ (length work)
-
-      long : 8 * most-points ≤ length work
-      long = let c = h .same-length in omega arith
-
-      others : (k : ℕ) → (k < 8 * n) ⊎ (8 * n + 8 ≤ k) → getD after k 0 ≡ getD work k 0
-      others = placed-else (seen .coefficients) (8 * n) work (let d = long in omega arith)
-
-      each : (j : ℕ) → j < length (drop work-room after) → getD (drop work-room after) j 0 ≡ getD (drop work-room work) j 0
-      each j l = getD-drop work-room after j 0 ∙ others (work-room + j) (inr (omega arith)) ∙ sym (getD-drop work-room work j 0)
-
-      far : length (drop work-room after) ≡ length (drop work-room work)
-      far = length-drop work-room after ∙ ap (λ (m : ℕ). m - work-room) same-length ∙ sym (length-drop work-room work)
-
-      image : (i : ℕ) → i < n + 1 → Dec (i ≡ n) → image-at after i ≡ look-at p A B points i .coefficients
-      image i l (yes q) =
-          ap (image-at after) q ∙ image-is (seen .coefficients) after n eight (let c = same-length in let d = long in omega arith)
-          (placed-here (seen .coefficients) (8 * n) work (let d = long in omega arith))
-          ∙ ap (λ (r : PointImage). r .coefficients) e ∙ ap (λ (k : ℕ). look-at p A B points k .coefficients) (sym q)
-      image i l (no q) = image-same work after i n same-length (let d = long in omega arith) (omega arith) others ∙ h .images i (omega arith)
+  looks-next {n} {work} {sizes} {seen} small room h e eight =
+      let after = placed (seen .coefficients) (8 * n) work in
+      let same-length : length after ≡ length work = cells-length _ (length work) in
+      let long : 8 * most-points ≤ length work = omega (arith, h .same-length) in
+      let others = placed-else (seen .coefficients) (8 * n) work (omega arith) in
+      record {
+        sized = filled-next (h .sized) small (ap (λ (r : PointImage). r .size) e);
+        same-length = same-length ∙ h .same-length;
+        images = λ i l. elim (ℕ-discrete i n) [
+          | yes q ↦
+              ap (image-at after) q ∙ image-is (seen .coefficients) after n eight (omega arith) (placed-here (seen .coefficients) (8 * n) work (omega arith))
+              ∙ ap (λ (r : PointImage). r .coefficients) e ∙ ap (λ (k : ℕ). look-at p A B points k .coefficients) (sym q)
+          | no q ↦ image-same work after i n same-length (omega arith) (omega arith) others ∙ h .images i (omega arith)
+        ];
+        beyond =
+            ext-getD 0 (drop work-room after) (drop work-room work) (omega (arith, length-drop work-room after, length-drop work-room work))
+            (λ j l. getD-drop work-room after j 0 ∙ others (work-room + j) (inr (omega arith)) ∙ sym (getD-drop work-room work j 0))
+            ∙ h .beyond;
+      }

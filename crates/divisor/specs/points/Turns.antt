@@ -1,7 +1,7 @@
 -- The turns of the loop over the points that adds the equations of the kept ones.
-use mathlib.Core.Path.{_≡_, refl, sym, _∙_, ap, ap₂, subst}
-use mathlib.Core.List.{List, [], _∷_, _++_, map, append-assoc, append-nil}
-use Prim.Native.Nat.{ℕ, zero, suc, _+_, _-_, _/_, _≤_, _<_}
+use mathlib.Core.Path.{_≡_, refl, sym, _∙_, ap, ap₂}
+use mathlib.Core.List.{List, [], _∷_, _++_, map, append-assoc, append-nil, map-append}
+use Prim.Native.Nat.{ℕ, zero, suc, _+_, _-_, _/_, _<_}
 use native.Mathlib.Numerals.{add-one}
 use native.Mathlib.Omega.{arith}
 use lib.ListN.{length, getD, take, length-append}
@@ -13,9 +13,10 @@ use Rattle.field.specs.Modulo.{Modulo}
 use Rattle.poly.specs.Keys.{exponents}
 use Rattle.divisor.specs.declared.table.Table.{Table}
 use Rattle.divisor.specs.Rule.{Kept}
-use Rattle.divisor.specs.Candidate.{most-points, most-point-numbers, point-at}
+use Rattle.divisor.specs.Candidate.{point-at}
 use Rattle.divisor.specs.table.Model.{empty-table}
-use Rattle.divisor.specs.table.Added.{adds-none, adds-more, rows-append}
+use Rattle.divisor.specs.table.Meaning.{row-of}
+use Rattle.divisor.specs.table.Added.{adds-none, adds-more}
 use Rattle.divisor.specs.equations.Rows.{rows-at, rows-from, kept-rows}
 use Rattle.divisor.specs.sorting.Model.{alike}
 use Rattle.divisor.specs.equations.Model.{kept-numbers, Equations-to}
@@ -32,15 +33,6 @@ module _ (K : Field) (es : List Exponents) (n : ℕ) where
 pub next-fits : (n kept : ℕ) → kept < suc n → next-column n kept < suc n
 next-fits n zero l = omega arith
 next-fits n (suc kept) l = omega arith
-
--- every point has its size
-pub points-sized : (points : ℕ) (sizes : List ℕ) → points ≤ most-point-numbers → length sizes ≡ most-points → points / 3 ≤ length sizes
-points-sized points sizes l e = omega arith
-
-pub equations-to-at : {j p : ℕ} {t : Table} {ks point point′ image image′ : List ℕ} {column : ℕ} {r : Table} → point ≡ point′ → image ≡ image′
-    → Equations-to j p t ks point image column r → Equations-to j p t ks point′ image′ column r
-equations-to-at {j} {p} {t} {ks} {column = column} {r} a b h =
-    subst (λ (x : List ℕ × List ℕ). Equations-to j p t ks (x .0) (x .1) column r) (λ i. (a i, b i)) h
 
 kept-rows-more : (K : Field) (es : List Exponents) (n : ℕ) (ks : List (Kept K)) (k : Kept K)
     → kept-rows K es n (ks ++ (k ∷ [])) ≡ kept-rows K es n ks ++ rows-at K es (suc n) (next-column n (length ks)) k 0 8
@@ -69,10 +61,6 @@ module _ {p : ℕ} (P : Prime p) (m : ℕ) (points sizes work : List ℕ) (i : �
       → length (kept-before P m points sizes work (i + 1)) ≡ n
   length-other n l e = ap length (kept-other e) ∙ l
 
-pub length-none : {p : ℕ} (P : Prime p) (m : ℕ) (points sizes work : List ℕ) → length (kept-before P m points sizes work 0) ≡ 0
-unfolding kept-before
-length-none P m points sizes work = refl
-
 module _ {p : ℕ} {ks points sizes work : List ℕ} {m columns : ℕ} where
   pub equations-start : Equations-before 0 p ks points sizes work m columns (empty-table columns)
   equations-start = record { rows = []; adds = adds-none p (empty-table columns); means = λ P. (unfold kept-before in refl) }
@@ -96,7 +84,7 @@ module _ {p : ℕ} {ks points sizes work : List ℕ} {m columns : ℕ} where
           let k = kept-numbers p P (point-at points i) (image-at work i) in
           let K = Modulo p P in
           let N : alike m (take (length points / 3) sizes) - 1 ≡ n = omega arith in
-          rows-append p (columns - 1) (h .rows) (g .rows)
+          map-append (row-of p (columns - 1)) (h .rows) (g .rows)
           ∙ ap₂ _++_ (h .means P ∙ ap (λ (a : ℕ). kept-rows K (map exponents ks) a (kept-before P m points sizes work i)) N)
           (g .means P (columns - 1) (suc n) (next-column n kept) (omega arith) col fits
           ∙ ap (λ (a : ℕ). rows-at K (map exponents ks) (suc n) (next-column n a) k 0 8) (sym (counted P)))

@@ -61,9 +61,6 @@ module _ (c : Call) (pass : Passes (table c)) (after sizes : List ℕ)
   sizes-are = sizes-seen (few-points c pass) look
 
 module _ {c : Call} {after sizes : List ℕ} {m count : ℕ} (good : SomeGood c after sizes m count) where
-  abbrev p : ℕ
-  p = c .modulus
-
   abbrev n : ℕ
   n = point-count c
 
@@ -103,7 +100,7 @@ module _ {c : Call} {after sizes : List ℕ} {m count : ℕ} (good : SomeGood c 
     few = right-points c pass .few;
     count = good .look .sized .long;
     room = room-after c pass after sizes (good .look);
-    images = λ i l. subst (Eight p) (sym (good .look .images i l)) (look-eight (look-ready c pass) i);
+    images = λ i l. subst (Eight (c .modulus)) (sym (good .look .images i l)) (look-eight (look-ready c pass) i);
     some = some-kept;
     columns-are = ap (length (c .skeleton) +_) (good .is-count);
     most = columns-fit .most;

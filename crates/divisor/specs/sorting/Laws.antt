@@ -59,21 +59,15 @@ alike-here s sizes = rw (eq-eqb s s refl, alike) (omega arith)
 
 alike-later : (m s : ℕ) (sizes : List ℕ) → 0 < alike m sizes → 0 < alike m (s ∷ sizes)
 unfolding alike
-alike-later m s sizes l = go (eqb s m)
-  where
-    go : (b : Bool) → 0 < elim b as (λ _. ℕ) [ true ↦ suc (alike m sizes) | false ↦ alike m sizes ]
-    go true = omega arith
-    go false = l
+alike-later m s sizes l = elim (ℕ-discrete s m) [ yes e ↦ rw (eq-eqb s m e, alike) (omega arith) | no n ↦ rw (ne-eqb s m n, alike) l ]
 
 -- a size counts at most as often as there are sizes, and so do two different ones together
 pub alike-most : (a : ℕ) (l : List ℕ) → alike a l ≤ length l
 unfolding alike
 alike-most a [] = omega arith
-alike-most a (s ∷ l) = go (eqb s a) (alike-most a l)
-  where
-    go : (b : Bool) → alike a l ≤ length l → elim b as (λ _. ℕ) [ true ↦ suc (alike a l) | false ↦ alike a l ] ≤ suc (length l)
-    go true h = omega arith
-    go false h = omega arith
+alike-most a (s ∷ l) =
+    let h = alike-most a l in
+    elim (ℕ-discrete s a) [ yes e ↦ rw (eq-eqb s a e, alike) (omega arith) | no n ↦ rw (ne-eqb s a n, alike) (omega arith) ]
 
 pub alike-two : (a b : ℕ) → ¬ (a ≡ b) → (l : List ℕ) → alike a l + alike b l ≤ length l
 unfolding alike
@@ -167,10 +161,7 @@ module _ {p : ℕ} (P : Prime p) (A B : Polynomial (Modulo p P)) where
       → length (kept-of P m points looks) ≡ alike m (sizes-of looks)
   unfolding alike kept-of
   kept-count m points looks nowhere = refl
-  kept-count m (at ∷ points) (r ∷ looks) (one a rest) = go (eqb (r .size) m) (kept-count m points looks rest)
-    where
-      go : (b : Bool) → length (kept-of P m points looks) ≡ alike m (sizes-of looks)
-          → length {A = Kept (Modulo p P)} (elim b as (λ _. Kepts) [ true ↦ kept-here at r ∷ kept-of P m points looks | false ↦ kept-of P m points looks ])
-          ≡ elim b as (λ _. ℕ) [ true ↦ suc (alike m (sizes-of looks)) | false ↦ alike m (sizes-of looks) ]
-      go true h = ap suc h
-      go false h = h
+  kept-count m (at ∷ points) (r ∷ looks) (one a rest) = elim (ℕ-discrete (r .size) m) [
+    | yes e ↦ rw (eq-eqb (r .size) m e, alike, kept-of) (ap suc (kept-count m points looks rest))
+    | no n ↦ rw (ne-eqb (r .size) m n, alike, kept-of) (kept-count m points looks rest)
+  ]

@@ -9,8 +9,8 @@ use lib.Seq.{drop-cons, getD-take, length-take-le}
 use borrow.Author.Tests.{eq-eqb, ne-eqb}
 use Rattle.poly.specs.Terms.{keyed}
 use Rattle.divisor.specs.sorting.Model.{alike}
-use Rattle.divisor.specs.monic.Model.{leading, scaled-terms}
-use Rattle.divisor.specs.monic.Terms.{leading-zero, leading-here, scaled-zero, scaled-here}
+use Rattle.divisor.specs.monic.Model.{scaled-terms}
+use Rattle.divisor.specs.monic.Terms.{scaled-zero, scaled-here}
 
 module _ (list : List ℕ) (n i : ℕ) where
   next-left : n ≤ length list → i < n → drop i (take n list) ≡ getD list i 0 ∷ drop (i + 1) (take n list)
@@ -18,9 +18,6 @@ module _ (list : List ℕ) (n i : ℕ) where
       drop-cons (take n list) i 0 (let e = length-take-le n list l in omega arith)
       ∙ ap (λ (x : ℕ). x ∷ drop (suc i) (take n list)) (getD-take n list i 0 h)
       ∙ ap (λ (k : ℕ). getD list i 0 ∷ drop k (take n list)) (sym (add-one i))
-
-  none-left : n ≤ length list → n ≤ i → drop i (take n list) ≡ []
-  none-left l h = drop-of-length-le (take n list) {i = i} (let e = length-take-le n list l in omega arith)
 
   pub alike-same : (m : ℕ) → n ≤ length list → i < n → getD list i 0 ≡ m → alike m (drop i (take n list)) ≡ suc (alike m (drop (i + 1) (take n list)))
   unfolding alike
@@ -32,17 +29,7 @@ module _ (list : List ℕ) (n i : ℕ) where
 
   pub alike-end : (m : ℕ) → n ≤ length list → n ≤ i → alike m (drop i (take n list)) ≡ 0
   unfolding alike
-  alike-end m l h = ap (alike m) (none-left l h)
-
-  pub leading-next : n ≤ length list → i < n → getD list i 0 ≡ 0 → leading (drop i (take n list)) ≡ leading (drop (i + 1) (take n list))
-  leading-next l h e = ap leading (next-left l h) ∙ leading-zero (getD list i 0) _ e
-
-  pub leading-found : n ≤ length list → i < n → ¬ (getD list i 0 ≡ 0) → leading (drop i (take n list)) ≡ getD list i 0
-  leading-found l h e = ap leading (next-left l h) ∙ leading-here (getD list i 0) _ e
-
-  pub leading-end : n ≤ length list → n ≤ i → leading (drop i (take n list)) ≡ 0
-  unfolding leading
-  leading-end l h = ap leading (none-left l h)
+  alike-end m l h = ap (alike m) (drop-of-length-le (take n list) {i = i} (let e = length-take-le n list l in omega arith))
 
 -- a loop over keys and their coefficients: the terms of those left
 module _ (p f : ℕ) (ks values : List ℕ) (i : ℕ) (long : length ks ≤ length values) where

@@ -5,7 +5,7 @@ use Prim.Native.Nat.{ℕ}
 use Rattle.divisor.specs.declared.table.Row.{Row}
 use Rattle.divisor.specs.declared.table.Table.{Table}
 use Rattle.divisor.specs.table.Model.{with-row, RowReady, TableReady}
-use Rattle.divisor.specs.table.Meaning.{row-of, rows-of, added, AllReady, Adds}
+use Rattle.divisor.specs.table.Meaning.{added, AllReady, Adds}
 use Rattle.divisor.specs.table.Kept.{with-row-ready, with-row-columns}
 
 module _ (p : ℕ) where
@@ -28,10 +28,6 @@ module _ (p : ℕ) where
   ready-append : (es fs : List Row) → AllReady p es → AllReady p fs → AllReady p (es ++ fs)
   ready-append [] fs h k = k
   ready-append (e ∷ es) fs h k = (h .0, ready-append es fs (h .1) k)
-
-  pub rows-append : (n : ℕ) (es fs : List Row) → rows-of p n (es ++ fs) ≡ rows-of p n es ++ rows-of p n fs
-  rows-append n [] fs = refl
-  rows-append n (e ∷ es) fs = ap (row-of p n e ∷_) (rows-append n es fs)
 
   pub adds-none : (t : Table) → Adds p t [] t
   unfolding added

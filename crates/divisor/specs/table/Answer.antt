@@ -19,7 +19,6 @@ use Rattle.field.specs.loops.Places.{replicate-all}
 use Rattle.field.specs.loops.Fold.{fold, down}
 use Rattle.divisor.specs.declared.table.Row.{Row}
 use Rattle.divisor.specs.declared.table.Table.{Table}
-use Rattle.divisor.specs.declared.table.Kind.{Kind}
 use Rattle.divisor.specs.declared.table.Kind.the-variants.{None, One, Several}
 use Rattle.divisor.specs.table.Model.{most-columns, empty-table, with-row, kind, back, zeros, solved-as, solved, TableReady}
 use Rattle.divisor.specs.table.Meaning.{table-of, added, rows-of, AllReady, Says}
@@ -75,15 +74,10 @@ module _ (p : ℕ) (P : Prime p) where
 
 -- the values are numbers below p, whatever the kind
 pub solved-below : (p : ℕ) (t : Table) → TableReady p t → (k : ℕ) → getD (solved p t .values) k 0 < p
-solved-below p t ready k = go (kind t)
-  where
-    zero-below : getD zeros k 0 < p
-    zero-below = let h : 0 < p = listed-positive (ready .listed) in replicate-all (λ a. a < p) most-columns k 0 0 h h
-
-    go : (x : Kind) → getD (solved-as x p t .values) k 0 < p
-    go None = zero-below
-    go One = values-below p t ready k
-    go Several = zero-below
+solved-below p t ready k =
+    let h = listed-positive (ready .listed) in
+    let zero-below : getD zeros k 0 < p = replicate-all (λ a. a < p) most-columns k 0 0 h h in
+    elim (kind t) as (λ x. getD (solved-as x p t .values) k 0 < p) [ None ↦ zero-below | One ↦ values-below p t ready k | Several ↦ zero-below ]
 
 -- and as many as a row has cells
 back-length : (p : ℕ) (t : Table) (j : ℕ) (v : List ℕ) → length (back j p t v) ≡ length v
@@ -92,9 +86,8 @@ back-length p t zero v = refl
 back-length p t (suc j) v = back-length p t j _ ∙ length-set v j _
 
 pub solved-length : (p : ℕ) (t : Table) → length (solved p t .values) ≡ most-columns
-solved-length p t = go (kind t)
-  where
-    go : (x : Kind) → length (solved-as x p t .values) ≡ most-columns
-    go None = refl
-    go One = back-length p t (t .columns - 1) zeros
-    go Several = refl
+solved-length p t = elim (kind t) as (λ x. length (solved-as x p t .values) ≡ most-columns) [
+  | None ↦ refl
+  | One ↦ back-length p t (t .columns - 1) zeros
+  | Several ↦ refl
+]

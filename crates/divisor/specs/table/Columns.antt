@@ -1,5 +1,5 @@
 -- The columns of a table, told by its diagonal: which are free, whether the last has failed, and so the kind.
-use mathlib.Core.Path.{_≡_, refl, sym, ap, ap₂, _∙_, subst}
+use mathlib.Core.Path.{_≡_, refl, sym, ap, ap₂, _∙_}
 use mathlib.Core.Bool.{Bool, true, false, not, true≢false}
 use mathlib.Core.List.{List}
 use Prim.Native.Nat.{ℕ, zero, suc, _+_, _-_, _<_, _≤_}
@@ -15,6 +15,7 @@ use Rattle.divisor.specs.declared.table.Kind.the-variants.{None, One, Se
 use Rattle.divisor.specs.table.Model.{row-at, cell, diagonal, empty-table, kind-from, kind}
 use Rattle.divisor.specs.table.Meaning.{entries, column, last-column, columns-of, table-of}
 use Rattle.divisor.specs.table.Kept.{empty-cell}
+use Rattle.divisor.specs.table.Turns.{several-from}
 
 -- the columns of a table, by the diagonal
 module _ (p : ℕ) (t : Table) (i : ℕ) where
@@ -70,44 +71,30 @@ kind-as false b = some-kind b
 
 free-columns : (p : ℕ) (t : Table) (n i : ℕ) → kind-from n i t ≡ some-kind (has-free (columns-of p t i n))
 unfolding kind-from columns-of
-free-columns p t zero i = go (eqb (diagonal t i) 0)
-  where
-    go : (b : Bool) → One ≡ some-kind (has-free (last-column {A = Fp p} b))
-    go true = refl
-    go false = refl
-free-columns p t (suc n) i = go (eqb (diagonal t i) 0) (free-columns p t n (suc i))
-  where
-    go : (b : Bool) → kind-from n (suc i) t ≡ some-kind (has-free (columns-of p t (suc i) n))
-        → elim b [ true ↦ Several | false ↦ kind-from n (suc i) t ]
-        ≡ some-kind (has-free (column b (entries p (row-at t i .cells) (suc i) (suc n)) (columns-of p t (suc i) n)))
-    go true later = refl
-    go false later = later
+free-columns p t zero i = elim (eqb (diagonal t i) 0) as (λ b. One ≡ some-kind (has-free (last-column {A = Fp p} b))) [ true ↦ refl | false ↦ refl ]
+free-columns p t (suc n) i = elim (ℕ-discrete (diagonal t i) 0) [
+  | yes z ↦ rw (eq-eqb (diagonal t i) 0 z, kind-from, columns-of)
+  | no z ↦ rw (ne-eqb (diagonal t i) 0 z, kind-from, columns-of) (free-columns p t n (suc i))
+]
 
 failed-columns : (p : ℕ) (t : Table) (last n i : ℕ) → i + n ≡ last → has-failed (columns-of p t i n) ≡ not (eqb (diagonal t last) 0)
 unfolding columns-of
 failed-columns p t last zero i h =
     let same : i ≡ last = omega arith in
-    go (eqb (diagonal t i) 0) ∙ ap (λ m. not (eqb (diagonal t m) 0)) same
-  where
-    go : (b : Bool) → has-failed (last-column {A = Fp p} b) ≡ not b
-    go true = refl
-    go false = refl
-failed-columns p t last (suc n) i h = go (eqb (diagonal t i) 0) ∙ failed-columns p t last n (suc i) (omega arith)
-  where
-    go : (b : Bool) → has-failed (column b (entries p (row-at t i .cells) (suc i) (suc n)) (columns-of p t (suc i) n)) ≡ has-failed (columns-of p t (suc i) n)
-    go true = refl
-    go false = refl
+    elim (eqb (diagonal t i) 0) as (λ b. has-failed (last-column {A = Fp p} b) ≡ not b) [ true ↦ refl | false ↦ refl ]
+    ∙ ap (λ m. not (eqb (diagonal t m) 0)) same
+failed-columns p t last (suc n) i h =
+    elim (eqb (diagonal t i) 0)
+    as (λ b. has-failed (column b (entries p (row-at t i .cells) (suc i) (suc n)) (columns-of p t (suc i) n)) ≡ has-failed (columns-of p t (suc i) n))
+    [ true ↦ refl | false ↦ refl ]
+    ∙ failed-columns p t last n (suc i) (omega arith)
 
 -- a row is kept in every column before the last
 pub full-columns : (p : ℕ) (t : Table) (n i : ℕ) → has-free (columns-of p t i n) ≡ false → (k : ℕ) → i ≤ k → k < i + n → ¬ (diagonal t k ≡ 0)
-full-columns p t zero i f k h m z = omega arith
-full-columns p t (suc n) i f k h m z =
-    go (ℕ-discrete k i) (ℕ-discrete (diagonal t i) 0) (λ g l. full-columns p t n (suc i) g k l (omega arith) z)
-  where
-    go : Dec (k ≡ i) → Dec (diagonal t i ≡ 0) → (has-free (columns-of p t (suc i) n) ≡ false → suc i ≤ k → ⊥) → ⊥
-    go c (yes y) later = true≢false (sym (ap has-free (column-free p t i n y)) ∙ f)
-    go (yes e) (no y) later = y (subst (λ j. diagonal t j ≡ 0) e z)
-    go (no e) (no y) later = later (sym (ap has-free (column-pivot p t i n y)) ∙ f) (omega arith)
+full-columns p t n i f k h m z =
+    true≢false
+    (ap (λ (x : Kind). elim x [ None ↦ true | One ↦ true | Several ↦ false ])
+    (ap some-kind (sym f) ∙ sym (free-columns p t n i) ∙ several-from t n i k h m z))
 
 -- the code's kind is that of the field's table
 pub kind-by-columns : (p : ℕ) (t : Table) (n : ℕ) → suc n ≡ t .columns → kind t ≡ kind-as (has-failed (table-of p n t)) (has-free (table-of p n t))
@@ -115,10 +102,8 @@ unfolding kind
 kind-by-columns p t n size =
     let last : t .columns - 1 ≡ n = omega arith in
     ap {B = Kind} (λ m. elim (eqb (diagonal t m) 0) [ true ↦ kind-from m 0 t | false ↦ None ]) last
-    ∙ go (eqb (diagonal t n) 0) (free-columns p t n 0)
+    ∙ elim (eqb (diagonal t n) 0) as (λ b. elim b [ true ↦ kind-from n 0 t | false ↦ None ] ≡ kind-as (not b) (has-free (table-of p n t))) [
+      | true ↦ free-columns p t n 0
+      | false ↦ refl
+    ]
     ∙ ap (λ b. kind-as b (has-free (table-of p n t))) (sym (failed-columns p t n n 0 (omega arith)))
-  where
-    go : (b : Bool) → kind-from n 0 t ≡ some-kind (has-free (table-of p n t))
-        → elim b [ true ↦ kind-from n 0 t | false ↦ None ] ≡ kind-as (not b) (has-free (table-of p n t))
-    go true h = h
-    go false h = refl

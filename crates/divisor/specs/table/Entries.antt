@@ -62,12 +62,10 @@ module _ (p : ℕ) (P : Prime p) where
     -- the cell on the diagonal, which becomes 1, is not 0
     pub scaled-diagonal : j < columns → cell e j < p → ¬ (cell e j ≡ 0) → ¬ (cell (scaled-row p e j columns) j ≡ 0)
     scaled-diagonal h b z q =
+        let x = el p (cell e j) in
         K .one≢0
         (sym (K .mul-inv x (el-nonzero p (cell e j) b z)) ∙ K .ring .mul-comm x (inv x) ∙ sym (el-times (inv x) (cell e j))
         ∙ ap (el p) (sym (altered-at j columns _ e j (omega arith) h (omega arith)) ∙ q))
-      where
-        x : Fp p
-        x = el p (cell e j)
 
   -- a row and 0 times another
   pub zero-times : (l m : List ℕ) (i n : ℕ) → plus-times K (entries p l i n) (neg (el p 0)) (entries p m i n) ≡ entries p l i n

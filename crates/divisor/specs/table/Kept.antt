@@ -1,9 +1,8 @@
 -- The empty table is ready, and a step keeps the table ready for the next equation, with as many columns as it had.
 use mathlib.Core.Path.{_≡_, refl, _∙_}
-use mathlib.Core.Bool.{Bool, true, false}
 use Prim.Native.Nat.{ℕ, zero, suc, _<_, _≤_}
+use native.Mathlib.Decide.{ℕ-discrete}
 use native.Mathlib.Omega.{arith}
-use lib.Dec.{eqb}
 use lib.ListN.{length-set}
 use Rattle.field.specs.Moduli.{Listed}
 use Rattle.field.specs.modulus.Laws.{listed-positive}
@@ -13,6 +12,7 @@ use Rattle.divisor.specs.declared.table.Table.{Table}
 use Rattle.divisor.specs.table.Model.{most-columns, no-row, row-at, cell, diagonal, zeros, empty-table, minus, scaled-row, kept, insert}
 use Rattle.divisor.specs.table.Model.{with-row, Columns, RowReady, TableReady}
 use Rattle.divisor.specs.table.Rows.{minus-ready, scaled-ready}
+use Rattle.divisor.specs.table.Turns.{insert-at-zero, insert-at-free, insert-at-kept}
 
 -- every cell of the empty table is 0
 pub empty-cell : (columns i k : ℕ) → cell (row-at (empty-table columns) i) k ≡ 0
@@ -20,24 +20,22 @@ empty-cell columns i k =
     replicate-all (λ r. cell r k ≡ 0) most-columns i (record { cells = zeros }) no-row (replicate-all (λ a. a ≡ 0) most-columns k 0 0 refl refl) refl
 
 pub empty-ready : (p columns : ℕ) → Listed p → Columns columns → TableReady p (empty-table columns)
-empty-ready p columns listed fit =
-    record {
-      listed = listed;
-      columns = fit;
-      size = refl;
-      below = λ i k. omega (arith, empty-cell columns i k, listed-positive listed);
-    }
+empty-ready p columns listed fit = record {
+  listed = listed;
+  columns = fit;
+  size = refl;
+  below = λ i k. omega (arith, empty-cell columns i k, listed-positive listed);
+}
 
 kept-ready : (p : ℕ) (t : Table) (j : ℕ) (e : Row) → TableReady p t → RowReady p e → TableReady p (kept p t j e)
-kept-ready p t j e ready ok =
-    record {
-      listed = ready .listed;
-      columns = ready .columns;
-      size = length-set (t .rows) j (scaled-row p e j (t .columns)) ∙ ready .size;
-      below = λ i k.
-          set-all (λ r. cell r k < p) (t .rows) j i (scaled-row p e j (t .columns)) no-row (scaled-ready p e j (t .columns) ok .below k)
-          (ready .below i k);
-    }
+kept-ready p t j e ready ok = record {
+  listed = ready .listed;
+  columns = ready .columns;
+  size = length-set (t .rows) j (scaled-row p e j (t .columns)) ∙ ready .size;
+  below = λ i k.
+      set-all (λ r. cell r k < p) (t .rows) j i (scaled-row p e j (t .columns)) no-row (scaled-ready p e j (t .columns) ok .below k)
+      (ready .below i k);
+}
 
 -- What the table has, and has with each row kept that the step can reach, it has after the step. R is what is known of the rows on the way.
 pub insert-all : (p : ℕ) (t : Table) (Q : Table → Type 0) (R : Row → Type 0)
@@ -46,17 +44,14 @@ pub insert-all : (p : ℕ) (t : Table) (Q : Table → Type 0) (R : Row → Type 
 unfolding insert
 insert-all p t Q R next here zero j there e ok = here
 insert-all p t Q R next here (suc n) j there e ok =
-    go (eqb (cell e j) 0) (eqb (diagonal t j) 0) (insert-all p t Q R next here n (suc j) (λ i l. there i (omega arith)))
-  where
-    go : (b d : Bool) → ((f : Row) → R f → Q (insert n (suc j) p t f))
-        → Q
-        (elim b [
-          | true ↦ insert n (suc j) p t e
-          | false ↦ elim d [ true ↦ kept p t j e | false ↦ insert n (suc j) p t (minus p e (row-at t j) j (t .columns)) ]
-        ])
-    go true d later = later e ok
-    go false true later = there j (omega arith) e ok
-    go false false later = later (minus p e (row-at t j) j (t .columns)) (next j e ok)
+    let later = insert-all p t Q R next here n (suc j) (λ i l. there i (omega arith)) in
+    elim (ℕ-discrete (cell e j) 0) [
+      | yes z ↦ rw (insert-at-zero p t e j n z) (later e ok)
+      | no z ↦ elim (ℕ-discrete (diagonal t j) 0) [
+        | yes y ↦ rw (insert-at-free p t e j n z y) (there j (omega arith) e ok)
+        | no y ↦ rw (insert-at-kept p t e j n z y) (later (minus p e (row-at t j) j (t .columns)) (next j e ok))
+      ]
+    ]
 
 module _ (p : ℕ) (t : Table) (e : Row) (ok : RowReady p e) where
   pub with-row-ready : TableReady p t → TableReady p (with-row p t e)

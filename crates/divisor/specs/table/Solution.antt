@@ -1,6 +1,6 @@
 -- Where a row is kept in each column before the last, the values of back substitution are the solution over the field.
 use mathlib.Core.Path.{_≡_, refl, sym, ap, ap₂, _∙_, subst}
-use mathlib.Core.Bool.{Bool, true, false}
+use mathlib.Core.Bool.{true, false}
 use mathlib.Core.List.{List, [], _∷_}
 use Prim.Native.Nat.{ℕ, zero, suc, _+_, _-_, _*_, _%_, _<_}
 use native.Mathlib.Numerals.{add-one}
@@ -91,16 +91,13 @@ module _ (p : ℕ) (P : Prime p) where
         back-solves full j (suc k) (set v j x) (omega arith) (length-set v j x ∙ s)
         (unknown-solves v j k h s (full j (omega arith)) known)
 
-    last-known : (b : Bool) → [] ≡ solution K (el p 0) (last-column b)
-    last-known true = refl
-    last-known false = refl
-
     -- the values are the solution
     pub values-solve : ((i : ℕ) → i < n → ¬ (diagonal t i ≡ 0)) → entries p (values p t) 0 n ≡ solution K (el p 0) (table-of p n t)
     unfolding columns-of entries
     values-solve full =
         let last : t .columns - 1 ≡ n = omega arith in
-        ap (λ m. entries p (back m p t zeros) 0 n) last ∙ back-solves full n 0 zeros (add-zero n) refl (last-known (eqb (diagonal t n) 0))
+        ap (λ m. entries p (back m p t zeros) 0 n) last ∙ back-solves full n 0 zeros (add-zero n) refl
+        (elim (eqb (diagonal t n) 0) as (λ b. [] ≡ solution K (el p 0) (last-column b)) [ true ↦ refl | false ↦ refl ])
 
 -- all values are below p
 back-below : (p : ℕ) → 0 < p → (t : Table) (j : ℕ) (v : List ℕ) → ((k : ℕ) → getD v k 0 < p) → (k : ℕ) → getD (back j p t v) k 0 < p

@@ -1,11 +1,9 @@
 -- The table's models one turn at a time, as the loops of the code move.
-use mathlib.Core.Path.{_≡_, refl, sym, ap, _∙_}
-use mathlib.Core.Bool.{Bool, true, false}
+use mathlib.Core.Path.{_≡_, refl, sym, ap, _∙_, subst}
 use Prim.Native.Nat.{ℕ, zero, suc, _+_, _-_, _<_, _≤_}
 use native.Mathlib.Numerals.{add-one}
 use native.Mathlib.Decide.{ℕ-discrete}
 use native.Mathlib.Omega.{arith}
-use lib.Dec.{eqb}
 use borrow.Author.Tests.{eq-eqb, ne-eqb}
 use Rattle.poly.specs.Search.{Searched}
 use Rattle.divisor.specs.declared.table.Row.{Row}
@@ -13,42 +11,29 @@ use Rattle.divisor.specs.declared.table.Table.{Table}
 use Rattle.divisor.specs.declared.table.Kind.the-variants.{None, One, Several}
 use Rattle.divisor.specs.table.Model.{most-columns, row-at, cell, Entry, diagonal, minus, kept, insert, with-row, kind-from, kind}
 
--- what is left of n turns at turn i
-turns-left : (i n : ℕ) → i < n → n - i ≡ suc (n - (i + 1))
-turns-left i n h = omega arith
-
-no-turns-left : (i n : ℕ) → n ≤ i → n - i ≡ 0
-no-turns-left i n h = omega arith
-
 -- a step at one column
 module _ (p : ℕ) (t : Table) (e : Row) (j n : ℕ) where
   abbrev taken-off : Table
   taken-off = insert n (suc j) p t (minus p e (row-at t j) j (t .columns))
 
-  abbrev by-diagonal : Bool → Table
-  by-diagonal b = elim b [ true ↦ kept p t j e | false ↦ taken-off ]
-
-  abbrev by-cell : Bool → Table
-  by-cell b = elim b [ true ↦ insert n (suc j) p t e | false ↦ by-diagonal (eqb (diagonal t j) 0) ]
-
   pub insert-at-zero : cell e j ≡ 0 → insert (suc n) j p t e ≡ insert n (suc j) p t e
   unfolding insert
-  insert-at-zero z = ap by-cell (eq-eqb (cell e j) 0 z)
+  insert-at-zero z = rw (eq-eqb (cell e j) 0 z, insert)
 
   pub insert-at-free : ¬ (cell e j ≡ 0) → diagonal t j ≡ 0 → insert (suc n) j p t e ≡ kept p t j e
   unfolding insert
-  insert-at-free z y = ap by-cell (ne-eqb (cell e j) 0 z) ∙ ap by-diagonal (eq-eqb (diagonal t j) 0 y)
+  insert-at-free z y = rw (ne-eqb (cell e j) 0 z, eq-eqb (diagonal t j) 0 y, insert)
 
   pub insert-at-kept : ¬ (cell e j ≡ 0) → ¬ (diagonal t j ≡ 0) → insert (suc n) j p t e ≡ taken-off
   unfolding insert
-  insert-at-kept z y = ap by-cell (ne-eqb (cell e j) 0 z) ∙ ap by-diagonal (ne-eqb (diagonal t j) 0 y)
+  insert-at-kept z y = rw (ne-eqb (cell e j) 0 z, ne-eqb (diagonal t j) 0 y, insert)
 
 module _ (p : ℕ) (t : Table) (e : Row) (j : ℕ) where
   abbrev left : ℕ
   left = t .columns - (j + 1)
 
   insert-more : j < t .columns → insert (t .columns - j) j p t e ≡ insert (suc left) j p t e
-  insert-more h = ap (λ n. insert n j p t e) (turns-left j (t .columns) h)
+  insert-more h = let q : t .columns - j ≡ suc left = omega arith in ap (λ n. insert n j p t e) q
 
   pub insert-skip : j < t .columns → cell e j ≡ 0 → insert (t .columns - j) j p t e ≡ insert left (j + 1) p t e
   insert-skip h z =
@@ -65,7 +50,7 @@ module _ (p : ℕ) (t : Table) (e : Row) (j : ℕ) where
 
   pub insert-end : t .columns ≤ j → insert (t .columns - j) j p t e ≡ t
   unfolding insert
-  insert-end h = ap (λ n. insert n j p t e) (no-turns-left j (t .columns) h)
+  insert-end h = let q : t .columns - j ≡ 0 = omega arith in ap (λ n. insert n j p t e) q
 
 -- an equation without entries adds nothing
 insert-blank : (p : ℕ) (t : Table) (e : Row) (n j : ℕ) → ((k : ℕ) → k < j + n → cell e k ≡ 0) → insert n j p t e ≡ t
@@ -80,29 +65,29 @@ blank-adds-nothing p t e most place past searched =
 module _ (t : Table) where
   pub kind-none : ¬ (diagonal t (t .columns - 1) ≡ 0) → kind t ≡ None
   unfolding kind
-  kind-none z =
-      ap (λ b. elim b [ true ↦ kind-from (t .columns - 1) 0 t | false ↦ None ]) (ne-eqb (diagonal t (t .columns - 1)) 0 z)
+  kind-none z = rw (ne-eqb (diagonal t (t .columns - 1)) 0 z, kind)
 
-  pub kind-some : diagonal t (t .columns - 1) ≡ 0 → kind t ≡ kind-from (t .columns - 1) 0 t
-  unfolding kind
-  kind-some z =
-      ap (λ b. elim b [ true ↦ kind-from (t .columns - 1) 0 t | false ↦ None ]) (eq-eqb (diagonal t (t .columns - 1)) 0 z)
+  -- a column without a row makes several solutions
+  pub several-from : (n i k : ℕ) → i ≤ k → k < i + n → diagonal t k ≡ 0 → kind-from n i t ≡ Several
+  unfolding kind-from
+  several-from zero i k h l z = absurd (omega arith)
+  several-from (suc n) i k h l z = elim (ℕ-discrete (diagonal t i) 0) [
+    | yes y ↦ rw (eq-eqb (diagonal t i) 0 y, kind-from)
+    | no y ↦
+        let other : ¬ (k ≡ i) = λ e. y (subst (λ j. diagonal t j ≡ 0) e z) in
+        rw (ne-eqb (diagonal t i) 0 y, kind-from) (several-from n (suc i) k (omega arith) (omega arith) z)
+  ]
 
-  module _ (j last : ℕ) where
-    kind-meets : j < last → (b : Bool) → eqb (diagonal t j) 0 ≡ b
-        → kind-from (last - j) j t ≡ elim b [ true ↦ Several | false ↦ kind-from (last - (j + 1)) (suc j) t ]
-    unfolding kind-from
-    kind-meets h b q =
-        ap (λ n. kind-from n j t) (turns-left j last h)
-        ∙ ap (λ b. elim b [ true ↦ Several | false ↦ kind-from (last - (j + 1)) (suc j) t ]) q
+  one-from : (n i : ℕ) → ((k : ℕ) → k < i + n → ¬ (diagonal t k ≡ 0)) → kind-from n i t ≡ One
+  unfolding kind-from
+  one-from zero i h = refl
+  one-from (suc n) i h = rw (ne-eqb (diagonal t i) 0 (h i (omega arith)), kind-from) (one-from n (suc i) (λ k l. h k (omega arith)))
 
-    pub kind-several : j < last → diagonal t j ≡ 0 → kind-from (last - j) j t ≡ Several
-    kind-several h z = kind-meets h true (eq-eqb (diagonal t j) 0 z)
+  module _ (z : diagonal t (t .columns - 1) ≡ 0) where
+    pub kind-several : (k : ℕ) → k < t .columns - 1 → diagonal t k ≡ 0 → kind t ≡ Several
+    unfolding kind
+    kind-several k l y = rw (eq-eqb (diagonal t (t .columns - 1)) 0 z, kind) (several-from (t .columns - 1) 0 k (omega arith) (omega arith) y)
 
-    pub kind-turn : j < last → ¬ (diagonal t j ≡ 0) → kind-from (last - j) j t ≡ kind-from (last - (j + 1)) (j + 1) t
-    kind-turn h z =
-        kind-meets h false (ne-eqb (diagonal t j) 0 z) ∙ ap (λ i. kind-from (last - (j + 1)) i t) (sym (add-one j))
-
-    pub kind-one : last ≤ j → kind-from (last - j) j t ≡ One
-    unfolding kind-from
-    kind-one h = ap (λ n. kind-from n j t) (no-turns-left j last h)
+    pub kind-one : ((k : ℕ) → k < t .columns - 1 → ¬ (diagonal t k ≡ 0)) → kind t ≡ One
+    unfolding kind
+    kind-one h = rw (eq-eqb (diagonal t (t .columns - 1)) 0 z, kind) (one-from (t .columns - 1) 0 (λ k l. h k (omega arith)))

@@ -91,14 +91,14 @@ module _ (i j : ℕ) (l : List ℕ) (k : i < j) (h : 3 * j ≤ length l) where
       ∙ getD-drop (3 * j) l n 0
 
   numbers-small : (p : ℕ) → ((n : ℕ) → n < length (once-more i j l) → getD (once-more i j l) n 0 < p) → (n : ℕ) → n < length l → getD l n 0 < p
-  numbers-small p small n b = go (decLt n (3 * j))
-    where
-      go : Dec (n < 3 * j) → getD l n 0 < p
-      go (yes m) = subst (λ (a : ℕ). a < p) (number-before n m) (small n (let e = once-more-length in omega arith))
-      go (no m) =
-          let q : 3 * j + (n - 3 * j) ≡ n = omega arith in
-          let s = small (3 * j + (3 + (n - 3 * j))) (let e = once-more-length in omega arith) in
-          subst (λ (a : ℕ). getD l a 0 < p) q (subst (λ (a : ℕ). a < p) (number-behind (n - 3 * j)) s)
+  numbers-small p small n b =
+      let e = once-more-length in
+      elim (decLt n (3 * j)) [
+        | yes m ↦ subst (λ (a : ℕ). a < p) (number-before n m) (small n (omega arith))
+        | no m ↦
+            let q : 3 * j + (n - 3 * j) ≡ n = omega arith in
+            subst (λ (a : ℕ). getD l a 0 < p) q (subst (λ (a : ℕ). a < p) (number-behind (n - 3 * j)) (small (3 * j + (3 + (n - 3 * j))) (omega arith)))
+      ]
 
 module _ (c : Call) (i j : ℕ) (k : i < j) (h : 3 * j ≤ length (c .points)) where
   -- where the second call passes, so does the first
@@ -106,13 +106,11 @@ module _ (c : Call) (i j : ℕ) (k : i < j) (h : 3 * j ≤ length (c .points)) w
   passes pass =
       let right = right-points (again c i j) pass in
       let longer = once-more-length i j (c .points) k h in
-      let few = right .few in
-      let threes = right .threes in
       let below = numbers-small i j (c .points) k h (c .modulus) (right .below) in
       let skeleton = pass .1 .1 .1 .1 .1 in
       let rooms = skeleton .1 .1 .1 .1 in
       let counted : ¬ (Count most-point-numbers (c .points) ⊎ (¬ (length (c .points) % 3 ≡ 0))) =
-      λ w. elim w [ inl x ↦ elim x [ inl y ↦ omega arith | inr y ↦ omega arith ] | inr n ↦ n (omega arith) ] in
+      λ w. elim w [ inl x ↦ elim x [ inl y ↦ omega arith | inr y ↦ omega (arith, right .few) ] | inr n ↦ n (omega (arith, right .threes)) ] in
       let small : (place : ℕ) → ¬ first (WrongNumber (c .modulus) (c .points)) place =
       λ place w. let b = below place (w .0 .there) in let g = w .0 .large in omega arith in
       let rest : Passes (of-skeleton (c .skeleton) ++ (of-points (c .modulus) (c .points)

@@ -146,14 +146,13 @@ module _ (K : Field) where
   -- the verdict on the kept points is the same with a point that is kept once more
   module _ (A B : Polynomial K) (es : List Exponents) {k : Kept K} {ks ls : List (Kept K)} (b : Again k ks ls) (d : ℕ) (small : d < 8)
       (one : k .image d ≡ 𝟙) where
-    with-more : Unknowns K → Unknowns K
+    abbrev with-more : Unknowns K → Unknowns K
     with-more s = record { skeleton = s .skeleton; multipliers = more b (s .multipliers) }
 
-    with-less : Unknowns K → Unknowns K
+    abbrev with-less : Unknowns K → Unknowns K
     with-less s = record { skeleton = s .skeleton; multipliers = less b (s .multipliers) }
 
     solves-more : (s : Unknowns K) → Solution K es ks s → Solution K es ls (with-more s)
-    unfolding with-more
     solves-more s h = record {
       proposed = h .proposed;
       one-first = first-more b (s .multipliers) (h .one-first);
@@ -161,7 +160,6 @@ module _ (K : Field) where
     }
 
     solves-less : (s : Unknowns K) → Solution K es ls s → Solution K es ks (with-less s)
-    unfolding with-less
     solves-less s h = record {
       proposed = h .proposed;
       one-first = first-less b (s .multipliers) (h .one-first);
@@ -169,15 +167,12 @@ module _ (K : Field) where
     }
 
     back-less : (s : Unknowns K) → Solution K es ks s → with-less (with-more s) ≡ s
-    unfolding with-more with-less
     back-less s h = λ i. record { skeleton = s .skeleton; multipliers = less-more (s .skeleton) b (s .multipliers) (h .holds) i }
 
     back-more : (s : Unknowns K) → Solution K es ls s → with-more (with-less s) ≡ s
-    unfolding with-more with-less
     back-more s h = λ i. record { skeleton = s .skeleton; multipliers = repeated-adds-nothing (s .skeleton) d small one b (s .multipliers) (h .holds) .1 i }
 
     pub repeated-verdict : (n : ℕ) (G : Polynomial K) → Verdict K A B es ks n G ↔ Verdict K A B es ls n G
-    unfolding with-more with-less
     repeated-verdict n G = (
       same-verdict A B es ks ls with-more with-less solves-more solves-less back-less back-more (λ s. refl) n G,
       same-verdict A B es ls ks with-less with-more solves-less solves-more back-more back-less (λ s. refl) n G,

@@ -21,13 +21,6 @@ use Rattle.divisor.specs.declared.verdict.Ruling.{Ruling}
 use Rattle.divisor.specs.monic.Model.{monic-terms, IsDivisor}
 use Rattle.divisor.specs.verdict.Model.{Both, CanDivideBoth, BothDivided, VerdictReady, Settles, Settled, Refused, only, rejected, accepted}
 
--- a room that is cleared is not shorter, and clearing it again changes nothing
-cleared-long : (work : List ℕ) → work-room ≤ length work → work-room ≤ length (cleared work)
-cleared-long work l = let e = zeroed-length work-room work l in omega arith
-
-cleared-again : (work : List ℕ) → cleared (cleared work) ≡ cleared work
-cleared-again work = zeroed-same work-room (cleared work) work (zeroed-beyond work-room 0 work)
-
 -- the second division can follow the first
 pub divide-again : {p : ℕ} {B G work after : List ℕ} → after ≡ cleared work → CanDivide p B G work → CanDivide p B G after
 divide-again {work = work} e h = record {
@@ -36,7 +29,7 @@ divide-again {work = work} e h = record {
   dividend-falls = h .dividend-falls;
   some-divisor = h .some-divisor;
   divisor-falls = h .divisor-falls;
-  room = subst (λ (w : List ℕ). work-room ≤ length w) (sym e) (cleared-long work (h .room));
+  room = omega (arith, ap length e, zeroed-length work-room work (h .room), h .room);
 }
 
 -- no answer is both no and yes
@@ -51,7 +44,7 @@ module _ {p : ℕ} {A B G work after : List ℕ} {first : Bool} (divided : Trial
   pub then-second : {end : List ℕ} {second : Bool} → not first ≡ false → TrialDivision p B G after end second → BothDivided p A B G work end second
   then-second n later = record {
     says = λ P. (λ e. (trial-says P divided .0 (not-false first n), trial-says P later .0 e), λ both. trial-says P later .1 (both .1));
-    room = later .room ∙ ap cleared (divided .room) ∙ cleared-again work;
+    room = later .room ∙ ap cleared (divided .room) ∙ zeroed-same work-room (cleared work) work (zeroed-beyond work-room 0 work);
   }
 
 -- the only solution makes a divisor, which is divided into both lists

@@ -19,8 +19,11 @@ start c = c .before .before .before .before .before
 abbrev at-lists : tie.Else1 → tie.Start
 at-lists c = start (c .before .before)
 
+abbrev past-first : tie.After-struct-known2 → tie.Else1
+past-first k = k .before .before
+
 abbrev at-keys : tie.Else2 → tie.Start
-at-keys c = at-lists (c .before .before .before)
+at-keys c = at-lists (past-first (c .before))
 
 -- the lines of the table in parts
 abbrev of-both : tie.Start → List Line
@@ -49,7 +52,7 @@ past-keys : {f : Fault} (c : tie.Else2) → let s = at-keys c in
 past-keys c t =
     let s = at-keys c in
     let r = c .before .before .skeleton-fault in
-    past-lists (c .before .before .before) (tested-goes-on (of-keys s) (of-numbers s ++ of-last s) (r .result) (r .ensures) tt (c .if2 .left) t)
+    past-lists (past-first (c .before)) (tested-goes-on (of-keys s) (of-numbers s ++ of-last s) (r .result) (r .ensures) tt (c .if2 .left) t)
 
 returns : tie.Need-returns
 returns c =
@@ -59,24 +62,24 @@ returns c =
 
 returns-2 : tie.Need-returns-2
 returns-2 c =
-    let passed = c .before .before .before in
+    let passed = past-first (c .before) in
     let s = at-lists passed in
     let r = c .before .before .skeleton-fault in
     past-lists passed (tested-stops (of-keys s) (of-numbers s ++ of-last s) (r .result) (r .ensures) (c .if2 .taken))
 
 returns-3 : tie.Need-returns-3
 returns-3 c =
-    let passed = c .before .before .before in
-    let s = at-keys passed in
-    let r = c .before .before .points-fault in
-    past-keys passed (tested-stops (of-numbers s) (of-last s) (r .result) (r .ensures) (c .if3 .taken))
+    let tested = c .before .before in
+    let s = at-keys (tested .before) in
+    let r = tested .points-fault in
+    past-keys (tested .before) (tested-stops (of-numbers s) (of-last s) (r .result) (r .ensures) (c .if3 .taken))
 
 returns-4 : tie.Need-returns-4
 returns-4 c =
-    let passed = c .before .before .before .before in
-    let s = at-keys passed in
-    let r = c .before .before .before .points-fault in
-    past-keys passed
+    let tested = c .before .before .before in
+    let s = at-keys (tested .before) in
+    let r = tested .points-fault in
+    past-keys (tested .before)
     (tested-goes-on (of-numbers s) (of-last s) (r .result) (r .ensures) tt (c .before .if3 .left) (c .rooms-fault .ensures))
 
 pub candidate-fault-spec : {M : Type 1} → statement M

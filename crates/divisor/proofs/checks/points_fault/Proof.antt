@@ -11,12 +11,13 @@ use borrow.Author.Needs.{needs}
 use Rattle.divisor.proofs.checks.points_fault.Statement.{statement}
 use Rattle.divisor.proofs.checks.points_fault.Tie as tie
 
--- past the three tests the count is right
-counted : (c : tie.Else3) → let points = c .before .before .before .before .args .points .now in
-    ¬ (Count most-point-numbers points ⊎ (¬ (length points % 3 ≡ 0)))
+-- past the three tests: where the function began, and that the count is right
+abbrev start : tie.Else3 → tie.Start
+start c = c .before .before .before .before
+
+counted : (c : tie.Else3) → let points = start c .args .points .now in ¬ (Count most-point-numbers points ⊎ (¬ (length points % 3 ≡ 0)))
 counted c =
-    ⊎-elim (well-counted most-point-numbers (c .before .before .before .before .args .points .now) (c .before .before .if1 .left) (c .before .if2 .left))
-    (λ n. n (c .if3 .left))
+    ⊎-elim (well-counted most-point-numbers (start c .args .points .now) (c .before .before .if1 .left) (c .before .if2 .left)) (λ n. n (c .if3 .left))
 
 returns : tie.Need-returns
 returns c = count-wrong (inl (inl (c .before .if1 .taken))) (c .at .ensures)

@@ -8,9 +8,12 @@ use borrow.Author.Needs.{needs}
 use Rattle.divisor.proofs.checks.skeleton_fault.Statement.{statement}
 use Rattle.divisor.proofs.checks.skeleton_fault.Tie as tie
 
--- past both tests the count is right
-counted : (c : tie.Else2) → ¬ Count most-keys (c .before .before .before .args .skeleton .now)
-counted c = well-counted most-keys (c .before .before .before .args .skeleton .now) (c .before .if1 .left) (c .if2 .left)
+-- past both tests: where the function began, and that the count is right
+abbrev start : tie.Else2 → tie.Start
+start c = c .before .before .before
+
+counted : (c : tie.Else2) → ¬ Count most-keys (start c .args .skeleton .now)
+counted c = well-counted most-keys (start c .args .skeleton .now) (c .before .if1 .left) (c .if2 .left)
 
 returns : tie.Need-returns
 returns c = count-wrong (inl (c .before .if1 .taken)) (c .at .ensures)

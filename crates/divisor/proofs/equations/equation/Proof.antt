@@ -5,13 +5,15 @@ use mathlib.Core.Logic.{⊎-elim}
 use Prim.Native.Nat.{ℕ, _*_, _%_, _-_, _≤_, _<_}
 use native.Mathlib.Omega.{arith}
 use mathlib.Core.List.{List}
-use lib.ListN.{length, getD}
+use lib.ListN.{length, getD, length-replicate}
 use Rattle.field.specs.Contract.{product-of}
 use Rattle.field.specs.modulus.Laws.{listed-positive}
 use Rattle.field.specs.loops.Filled.{Filled}
+use Rattle.field.specs.loops.Cells.{filled-start, filled-next}
 use Rattle.divisor.specs.declared.table.Row.{Row}
 use Rattle.divisor.specs.table.Model.{most-columns, zeros}
-use Rattle.divisor.specs.equations.Turns.{number-at, equation-start, equation-passed, equation-taken, equation-end}
+use Rattle.divisor.specs.equations.Turns.{number-at, equation-passed, equation-end}
+use Rattle.divisor.specs.equations.RowLaws.{number-here}
 use Rattle.divisor.proofs.equations.equation.Statement.{statement}
 use Rattle.divisor.proofs.equations.equation.Tie as tie
 
@@ -27,17 +29,20 @@ abbrev μ-loop : tie.MeasureT-loop
 μ-loop skeleton i column u ys zs ws p row₀ j₀ row j = length skeleton - j
 
 loop-holds : tie.Need-loop-holds Inv-loop μ-loop
-loop-holds c =
-    let a = c .before .args in
-    record { within = omega arith; filled = equation-start (a .u .modulus) (a .t1) (a .t2) (a .t3) (a .skeleton .now) (a .i) }
+loop-holds c = record { within = omega arith; filled = filled-start (omega arith) (length-replicate {A = ℕ} most-columns 0) (λ k l. absurd (omega arith)) }
 
--- with the power of x known: where the function began
-abbrev start : tie.After-x Inv-loop μ-loop → tie.Start Inv-loop μ-loop
-start c = c .before .before .before .before .before
+-- with the power of x known: the loop, and where the function began
+abbrev loop : tie.After-x Inv-loop μ-loop → tie.At-loop Inv-loop μ-loop
+loop c = c .before .before .before
+
+abbrev start : tie.At-loop Inv-loop μ-loop → tie.Start Inv-loop μ-loop
+start l = l .before .before
 
 -- the coefficient begun has the modulus
 positive : (c : tie.After-of Inv-loop μ-loop) → 0 < c .of .result .modulus
-positive c = rw (c .of .ensures) (listed-positive (start (c .before .before .before) .pre .listed))
+positive c =
+    let power = c .before .before .before in
+    rw (c .of .ensures) (listed-positive (start (loop power) .pre .listed))
 
 product-requires : tie.Need-product-requires Inv-loop μ-loop
 product-requires c κs = positive (c .before .before)
@@ -45,12 +50,13 @@ product-requires c κs = positive (c .before .before)
 product-requires-2 : tie.Need-product-requires-2 Inv-loop μ-loop
 product-requires-2 c κs =
     let yz = c .before .before in
-    rw (yz .product .ensures) (positive (yz .before .before .before))
+    let begun = yz .before .before .before in
+    rw (yz .product .ensures) (positive begun)
 
 loop-again : tie.Need-loop-again Inv-loop μ-loop
 loop-again c =
-    let s = start (c .before) in
-    let l = c .before .before .before .before .loop in
+    let s = start (loop (c .before)) in
+    let l = loop (c .before) .loop in
     let a = s .args in
     let p = a .u .modulus in
     let x = c .before .x .ensures in
@@ -62,11 +68,11 @@ loop-again c =
       within = omega arith;
       filled =
           rw (w .9)
-          (equation-taken p (a .t1) (a .t2) (a .t3) (a .skeleton .now) (a .i) (l .j) (l .row) (l .inv .filled) (w .8 .result .value) (sym x ∙ w .0 .taken)
-          (omega (arith, s .pre .behind, s .pre .within))
+          (filled-next (l .inv .filled) (omega (arith, s .pre .behind, s .pre .within))
           (ap (λ e. e .value) yzw
           ∙ ap₂ (λ (m n : ℕ). m * getD (a .t3) n 0 % p)
-          (ap₂ (λ (m n : ℕ). (getD (a .t1) m 0 * getD (a .t2) n 0) % p) (w .1 .ensures) (w .3 .ensures)) (w .6 .ensures)));
+          (ap₂ (λ (m n : ℕ). (getD (a .t1) m 0 * getD (a .t2) n 0) % p) (w .1 .ensures) (w .3 .ensures)) (w .6 .ensures)
+          ∙ sym (number-here p (a .t1) (a .t2) (a .t3) (a .i) (getD (a .skeleton .now) (l .j) 0) (sym x ∙ w .0 .taken))));
     })
     (λ w. record {
       within = omega arith;
@@ -79,7 +85,7 @@ loop-again c =
 
 returns : tie.Need-returns Inv-loop μ-loop
 returns c =
-    let s = c .before .before .before in
+    let s = start (c .before) in
     let l = c .before .loop in
     let a = s .args in
     equation-end (a .u .modulus) (a .t1) (a .t2) (a .t3) (a .skeleton .now) (a .i) (l .j) (l .row) (l .inv .filled) (a .column)

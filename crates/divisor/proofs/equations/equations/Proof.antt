@@ -1,7 +1,7 @@
 -- `divisor::equations::equations` meets its contract. The invariant: the table has the equations of the kept points passed, and as many are kept as
 -- were met and are left.
 use borrow.Author.Needs.{needs}
-use mathlib.Core.Path.{_≡_, sym, _∙_, ap, subst}
+use mathlib.Core.Path.{_≡_, refl, sym, _∙_, ap, subst, subst₂}
 use mathlib.Core.Logic.{⊎-elim}
 use mathlib.Core.List.{List}
 use Prim.Native.Nat.{ℕ, suc, _+_, _-_, _/_, _≤_, _<_}
@@ -15,9 +15,9 @@ use Rattle.divisor.specs.table.Added.{adds-ready, adds-columns}
 use Rattle.divisor.specs.sorting.Model.{alike}
 use Rattle.divisor.specs.points.Model.{kept-before, Equations-before}
 use Rattle.divisor.specs.sorting.Turns.{alike-same, alike-other}
+use Rattle.divisor.specs.equations.Model.{Equations-to}
 use Rattle.divisor.specs.points.Parts.{part-is, part-length}
-use Rattle.divisor.specs.points.Turns.{equations-start, equations-other, equations-same, points-sized, next-fits, equations-to-at, length-none}
-use Rattle.divisor.specs.points.Turns.{length-same, length-other}
+use Rattle.divisor.specs.points.Turns.{equations-start, equations-other, equations-same, next-fits, length-same, length-other}
 use Rattle.divisor.proofs.equations.equations.Statement.{statement}
 use Rattle.divisor.proofs.equations.equations.Tie as tie
 
@@ -34,14 +34,12 @@ abbrev μ-loop : tie.MeasureT-loop
 μ-loop p skeleton points least columns work sizes t₀ kept₀ i₀ t kept i = length points / 3 - i
 
 loop-holds : tie.Need-loop-holds Inv-loop μ-loop
-loop-holds c =
-    let a = c .before .before .before .before .args in
-    record {
-      within = omega arith;
-      left = omega arith;
-      added = rw (c .empty .ensures) equations-start;
-      met = λ P. length-none P (a .least) (a .points .now) (a .t4) (a .work .now);
-    }
+loop-holds c = record {
+  within = omega arith;
+  left = omega arith;
+  added = rw (c .empty .ensures) equations-start;
+  met = λ P. (unfold kept-before in refl);
+}
 
 -- at the loop: where the function began
 abbrev start : tie.At-loop Inv-loop μ-loop → tie.Start Inv-loop μ-loop
@@ -55,7 +53,7 @@ one-kept c =
     let s = start (c .before .before) in
     let a = s .args in
     let n = length (a .points .now) in
-    alike-same (a .t4) (n / 3) (c .before .before .loop .i) (a .least) (points-sized n (a .t4) (s .pre .few) (s .pre .count)) (c .before .loop-test .taken)
+    alike-same (a .t4) (n / 3) (c .before .before .loop .i) (a .least) (omega (arith, s .pre .few, s .pre .count)) (c .before .loop-test .taken)
     (c .if1 .taken)
 
 column-of-requires : tie.Need-column-of-requires Inv-loop μ-loop
@@ -97,31 +95,34 @@ loop-again c =
     let l = c .before .before .loop in
     let n = length (a .points .now) / 3 in
     let i : l .i < length (a .points .now) / 3 = c .before .loop-test .taken in
-    let within = points-sized (length (a .points .now)) (a .t4) (s .pre .few) (s .pre .count) in
+    let within : n ≤ length (a .t4) = omega (arith, s .pre .few, s .pre .count) in
     ⊎-elim
     (λ w.
-    let left = alike-same (a .t4) n (l .i) (a .least) within i (w .0 .taken) in
+    let same = w .0 .taken in let column = w .1 in let point = w .4 in
+    let left = alike-same (a .t4) n (l .i) (a .least) within i same in
     let k : c .if1 .kept ≡ l .kept + 1 = w .6 in
     record {
       within = omega arith;
       left = omega (arith, k, l .inv .left, left);
       added =
           rw (w .5)
-          (equations-same (l .inv .added) (w .0 .taken)
-          (w .1 .result) (l .kept) (a .columns - length (a .skeleton .now) - 1) (w .4 .result) (l .inv .met)
-          (omega (arith, s .pre .columns-are, s .pre .some)) (omega (arith, s .pre .columns-are, s .pre .some)) (w .1 .ensures)
+          (equations-same (l .inv .added) same
+          (column .result) (l .kept) (a .columns - length (a .skeleton .now) - 1) (point .result) (l .inv .met)
+          (omega (arith, s .pre .columns-are, s .pre .some)) (omega (arith, s .pre .columns-are, s .pre .some)) (column .ensures)
           (next-fits (a .columns - length (a .skeleton .now) - 1) (l .kept) (omega (arith, s .pre .columns-are, l .inv .left, left)))
-          (equations-to-at (part-is 3 (l .i) (a .points .now)) (part-is 8 (l .i) (a .work .now)) (w .4 .ensures)));
-      met = λ P. length-same P (a .least) (a .points .now) (a .t4) (a .work .now) (l .i) (l .kept) (l .inv .met P) (w .0 .taken) ∙ sym k;
+          (subst₂ (λ at image. Equations-to 8 (a .p) (l .t) (a .skeleton .now) at image (column .result) (point .result))
+          (part-is 3 (l .i) (a .points .now)) (part-is 8 (l .i) (a .work .now)) (point .ensures)));
+      met = λ P. length-same P (a .least) (a .points .now) (a .t4) (a .work .now) (l .i) (l .kept) (l .inv .met P) same ∙ sym k;
     })
     (λ w.
-    let left = alike-other (a .t4) n (l .i) (a .least) within i (w .0 .left) in
+    let other = w .0 .left in
+    let left = alike-other (a .t4) n (l .i) (a .least) within i other in
     let k : c .if1 .kept ≡ l .kept = w .2 in
     record {
       within = omega arith;
       left = omega (arith, k, l .inv .left, left);
-      added = rw (w .1) (equations-other (l .inv .added) (w .0 .left));
-      met = λ P. length-other P (a .least) (a .points .now) (a .t4) (a .work .now) (l .i) (l .kept) (l .inv .met P) (w .0 .left) ∙ sym k;
+      added = rw (w .1) (equations-other (l .inv .added) other);
+      met = λ P. length-other P (a .least) (a .points .now) (a .t4) (a .work .now) (l .i) (l .kept) (l .inv .met P) other ∙ sym k;
     })
     (c .if1 .came)
 

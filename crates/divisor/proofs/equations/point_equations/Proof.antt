@@ -1,6 +1,6 @@
 -- `divisor::equations::point_equations` meets its contract. The invariant: the table has the equations of the powers passed.
 use borrow.Author.Needs.{needs}
-use mathlib.Core.Path.{_≡_, refl, sym, _∙_, ap, subst}
+use mathlib.Core.Path.{_≡_, refl, sym, _∙_, ap, subst, subst₃}
 use mathlib.Core.Logic.{⊎-elim}
 use mathlib.Core.List.{List}
 use Prim.Native.Nat.{ℕ, _-_, _%_, _<_, _≤_}
@@ -18,7 +18,7 @@ use Rattle.divisor.specs.table.Model.{with-row, TableReady}
 use Rattle.divisor.specs.equations.Model.{EquationReady, IsEquation, Equations-to}
 use Rattle.divisor.specs.table.Turns.{blank-adds-nothing}
 use Rattle.divisor.specs.equations.RowLaws.{equation-ready}
-use Rattle.divisor.specs.equations.PointTurns.{equation-with, point-start, point-next}
+use Rattle.divisor.specs.equations.PointTurns.{point-start, point-next}
 use Rattle.divisor.specs.table.Added.{adds-ready}
 use Rattle.divisor.proofs.equations.point_equations.Statement.{statement}
 use Rattle.divisor.proofs.equations.point_equations.Tie as tie
@@ -101,8 +101,11 @@ difference-requires c κs =
 
 -- the multiplier's number
 module _ (c : tie.After-difference Inv-loop μ-loop) where
+  abbrev zeroed : tie.After-zero Inv-loop μ-loop
+  zeroed = c .before .before .before
+
   abbrev turn : tie.In-loop Inv-loop μ-loop
-  turn = c .before .before .before .before
+  turn = zeroed .before
 
   abbrev loop : tie.At-loop Inv-loop μ-loop
   loop = turn .before
@@ -111,7 +114,7 @@ module _ (c : tie.After-difference Inv-loop μ-loop) where
   opposite = (start loop .args .p - getD (start loop .args .image .now) (loop .loop .i) 0) % start loop .args .p
 
   u-is : c .difference .result ≡ element (start loop .args .p) opposite
-  u-is = c .difference .ensures ∙ (λ n. difference-of (c .before .before .before .zero .ensures n) (c .before .of4 .ensures n))
+  u-is = c .difference .ensures ∙ (λ n. difference-of (zeroed .zero .ensures n) (c .before .of4 .ensures n))
       ∙ ap (λ (n : ℕ). element (start loop .args .p) (n % start loop .args .p)) (zero-add _)
 
   opposite-below : opposite < start loop .args .p
@@ -141,7 +144,8 @@ is-equation : (c : tie.After-equation Inv-loop μ-loop) → let a = start (loop 
 is-equation c =
     let at = loop (c .before) in
     let a = start at .args in
-    equation-with (y-table at) (z-table at) (w-table at)
+    subst₃ (λ ys zs ws. IsEquation (a .p) ys zs ws (a .skeleton .now) (at .loop .i) (a .column) (opposite (c .before)) (c .equation .result))
+    (y-table at) (z-table at) (w-table at)
     (subst (λ u. IsEquation (u .modulus) (ys at) (zs at) (ws at) (a .skeleton .now) (at .loop .i) (a .column) (u .value) (c .equation .result))
     (u-is (c .before)) (c .equation .ensures))
 

@@ -1,48 +1,40 @@
--- `divisor::monic::leading` meets its contract. The invariant: the coefficients passed are 0, so the leading one is that of those left.
+-- `divisor::monic::leading` meets its contract. The invariant: the coefficients passed are 0.
 use borrow.Author.Needs.{needs}
-use mathlib.Core.Path.{_≡_, refl, sym, _∙_}
-use mathlib.Core.List.{List}
-use Prim.Native.Nat.{ℕ, _-_, _≤_}
+use mathlib.Core.Path.{_≡_, sym, _∙_}
+use Prim.Native.Nat.{_-_}
 use native.Mathlib.Omega.{arith}
-use lib.ListN.{take, drop}
-use Rattle.divisor.specs.monic.Model.{leading}
-use Rattle.divisor.specs.sorting.Turns.{leading-next, leading-found, leading-end}
+use lib.ListN.{getD, take, List·getD-eq-default}
+use lib.Seq.{getD-take, length-take-le}
+use Rattle.poly.specs.list.Searching.{Searching}
+use Rattle.poly.specs.list.Search.{search-begins, search-goes-on, search-stops, search-ends}
+use Rattle.divisor.specs.monic.Terms.{leading-searched}
 use Rattle.divisor.proofs.monic.leading.Statement.{statement}
 use Rattle.divisor.proofs.monic.leading.Tie as tie
 
-record Reached (n : ℕ) (values : List ℕ) (i : ℕ) : Type 0 where
-  within : i ≤ n
-  same : leading (take n values) ≡ leading (drop i (take n values))
-
 abbrev Inv-loop : tie.InvT-loop
-Inv-loop n values i₀ i = Reached n values i
+Inv-loop n values i₀ i = Searching (λ k. ¬ (getD values k 0 ≡ 0)) n i
 
 abbrev μ-loop : tie.MeasureT-loop
 μ-loop n values i₀ i = n - i
 
 loop-holds : tie.Need-loop-holds Inv-loop μ-loop
-loop-holds c = record { within = omega arith; same = refl }
+loop-holds c = search-begins
 
 returns : tie.Need-returns Inv-loop μ-loop
 returns c =
-    let s = c .before .before .before in
-    let l = c .before .before .loop in
-    sym (l .inv .same ∙ leading-found (s .args .t1) (s .args .n) (l .i) (s .pre .within) (c .before .loop-test .taken) (c .if1 .taken))
+    let loop = c .before .before in
+    let a = loop .before .args in
+    sym (leading-searched (a .n) (a .t1) _ (search-stops (loop .loop .inv) (c .if1 .taken)) ∙ getD-take (a .n) (a .t1) _ 0 (c .before .loop-test .taken))
 
 loop-again : tie.Need-loop-again Inv-loop μ-loop
-loop-again c =
-    let s = c .before .before .before in
-    let l = c .before .before .loop in
-    record {
-      within = omega arith;
-      same = l .inv .same ∙ leading-next (s .args .t1) (s .args .n) (l .i) (s .pre .within) (c .before .loop-test .taken) (c .if1 .left);
-    }
+loop-again c = search-goes-on (c .before .before .loop .inv) (c .before .loop-test .taken) (λ n. n (c .if1 .left))
 
 returns-2 : tie.Need-returns-2 Inv-loop μ-loop
 returns-2 c =
     let s = c .before .before in
-    let l = c .before .loop in
-    sym (l .inv .same ∙ leading-end (s .args .t1) (s .args .n) (l .i) (s .pre .within) (c .loop-test .left))
+    let a = s .args in
+    sym (leading-searched (a .n) (a .t1) _ (search-ends (c .before .loop .inv) (c .loop-test .left))
+    ∙ List·getD-eq-default (take (a .n) (a .t1)) 0 (omega (arith, length-take-le (a .n) (a .t1) (s .pre .within), c .loop-test .left)))
 
 pub leading-spec : {M : Type 1} → statement M
 leading-spec =

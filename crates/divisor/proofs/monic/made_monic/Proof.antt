@@ -33,14 +33,18 @@ Inv-loop p skeleton values inverse terms₀ count₀ i₀ terms count i = Reache
 abbrev μ-loop : tie.MeasureT-loop
 μ-loop p skeleton values inverse terms₀ count₀ i₀ terms count i = length skeleton - i
 
+-- with the leading coefficient as an element: where the function began
+abbrev start : tie.After-of Inv-loop μ-loop → tie.Start Inv-loop μ-loop
+start c = c .before .before .before
+
 -- the leading coefficient
-lead-is : (c : tie.After-of Inv-loop μ-loop) → let a = c .before .before .before .args in
+lead-is : (c : tie.After-of Inv-loop μ-loop) → let a = start c .args in
     c .of .result ≡ element (a .p) (leading (take (length (a .skeleton .now)) (a .t3)))
-lead-is c = c .of .ensures ∙ ap (element (c .before .before .before .args .p)) (c .before .leading .ensures)
+lead-is c = c .of .ensures ∙ ap (element (start c .args .p)) (c .before .leading .ensures)
 
 inverse-requires : tie.Need-inverse-requires Inv-loop μ-loop
 inverse-requires c κs =
-    let s = c .before .before .before in
+    let s = start c in
     subst Invertible (sym (lead-is c))
     record {
       is-listed = s .pre .listed;
@@ -53,36 +57,37 @@ loop-holds c = record { within = omega arith; few = omega arith; made = collecti
 
 product-requires : tie.Need-product-requires Inv-loop μ-loop
 product-requires c κs =
-    let turn = c .before .before .before in
-    let inverse = turn .before .before in
-    let start = inverse .before .before .before in
-    rw (c .of2 .ensures) (listed-positive (start .pre .listed))
+    let loop = c .before .before .before in
+    rw (c .of2 .ensures) (listed-positive (start (loop .before .before) .pre .listed))
 
 loop-again : tie.Need-loop-again Inv-loop μ-loop
 loop-again c =
     let loop = c .before .before in
     let inverse = loop .before in
-    let s = inverse .before .before .before .before in
+    let s = start (inverse .before) in
     let l = loop .loop in
     let a = s .args in
     let f = inverse .inverse .result .value in
     let i = c .before .loop-test .taken in
     ⊎-elim
     (λ w.
+    let more = w .6 in
     let made = w .2 .ensures ∙ ap (λ e. product-of e (inverse .inverse .result)) (w .1 .ensures) in
     record {
       within = omega arith;
-      few = omega (arith, w .6, l .inv .few);
+      few = omega (arith, more, l .inv .few);
       made =
-          rw (w .6, w .5, w .4 .ensures ∙ ap (λ e. keyed (getD (a .skeleton .now) (l .i) 0) (e .value)) made)
+          rw (more, w .5, w .4 .ensures ∙ ap (λ e. keyed (getD (a .skeleton .now) (l .i) 0) (e .value)) made)
           (collecting-next (l .inv .made) (omega (arith, s .pre .few, l .inv .few))
           (left-taken (a .p) f (a .skeleton .now) (a .t3) (l .i) (s .pre .long) i (w .0 .taken)));
     })
-    (λ w. record {
+    (λ w.
+    let same = w .2 in
+    record {
       within = omega arith;
-      few = omega (arith, w .2, l .inv .few);
+      few = omega (arith, same, l .inv .few);
       made =
-          rw (w .2, w .1)
+          rw (same, w .1)
           (subst (Made (a .p) f (a .skeleton .now) (a .t3) (l .terms) (l .count))
           (left-passed (a .p) f (a .skeleton .now) (a .t3) (l .i) (s .pre .long) i (w .0 .left)) (l .inv .made));
     })
@@ -91,7 +96,7 @@ loop-again c =
 returns : tie.Need-returns Inv-loop μ-loop
 returns c =
     let inverse = c .before .before in
-    let s = inverse .before .before .before .before in
+    let s = start (inverse .before) in
     let l = c .before .loop in
     let a = s .args in
     let none = left-none (a .p) (inverse .inverse .result .value) (a .skeleton .now) (a .t3) (l .i) (s .pre .long) (c .loop-test .left) in

@@ -75,9 +75,6 @@ loop-again c =
           (ap (λ (r : PointImage). length (r .coefficients)) e ∙ look-eight (s .pre) (l .loop .i) .eight));
     }
 
-same-length : tie.Need-same-length Inv-loop μ-loop
-same-length c = search needs
-
 returns : tie.Need-returns Inv-loop μ-loop
 returns c =
     let a = start (c .before) .args in
@@ -89,4 +86,4 @@ pub look-spec : {M : Type 1} → statement M
 look-spec =
     tie.close (tie.spec Inv-loop μ-loop loop-holds (λ c. search needs) (λ c. search needs) (λ c. search needs) (λ c. search needs) (λ c. search needs)
     (λ c. search needs) image-at-requires (λ c. search needs) (λ c. search needs) (λ c. search needs) store-requires (λ c. search needs)
-    (λ c. search needs) loop-again same-length returns)
+    (λ c. search needs) loop-again (λ c. search needs) returns)

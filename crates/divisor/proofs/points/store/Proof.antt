@@ -35,13 +35,10 @@ loop-again c =
     subst (Storing (a .at) (a .work .now) (a .t1) _) e
     (part-next (l .inv) (omega arith) (omega (arith, s .pre .within, s .pre .room)) (λ i. getD (a .t1) (k i) 0))
 
-same-length : tie.Need-same-length Inv-loop μ-loop
-same-length c = search needs
-
 returns : tie.Need-returns Inv-loop μ-loop
 returns c = part-end (c .before .loop .inv) (omega arith)
 
 pub store-spec : {M : Type 1} → statement M
 store-spec =
     tie.close (tie.spec Inv-loop μ-loop loop-holds (λ c. search needs) (λ c. search needs) (λ c. search needs) (λ c. search needs) (λ c. search needs)
-    (λ c. search needs) (λ c. search needs) loop-again same-length returns)
+    (λ c. search needs) (λ c. search needs) loop-again (λ c. search needs) returns)

@@ -56,9 +56,6 @@ use Rattle.divisor.proofs.table.add_equation as add
 use Rattle.divisor.proofs.table.add_equation.Statement as stated
 use Rattle.divisor.proofs.table.add_equation.Code as code
 
-abbrev Arg : Type 0
-Arg = RefT Table × (Row × (ℕ × Unit {0}))
-
 abbrev stayed : Stays (add.ended .signature .params) (add.ended .kept)
 stayed = (stay-ref (0 ∷ []) tt (plain (λ _. T.the-row)), (stay-none (λ _. R.the-row) yes, (stay-none (λ _. residue) yes, tt)))
 
@@ -82,7 +79,7 @@ module _ {M : Type 1} (𝓤 : URA M) (H : Heap 𝓤) (A : Atoms 𝓤) (at-mem : 
 module _ {M : Type 1} (𝓤 : URA M) (H : Heap 𝓤) (A : Atoms 𝓤) (W : Given 𝓤 H A) (at-mem : Memory → SProp 𝓤) (run : Routine → Fun 𝓤) (κ : Lft) (q : Share)
     (b o : ℕ) (γ : GName) (h : Table) (e : Row) (p : ℕ)
     (e-is : Is R.the-row e (rval e ∷ [])) (p-fits : p < 2 ^ bits residue-width) where
-  abbrev x : Arg
+  abbrev x : RefT Table × (Row × (ℕ × Unit {0}))
   x = (record { ptr = (b, o); name = γ; now = h }, (e, (p, tt)))
 
   abbrev at : List Val × (List Val × (List Val × Unit {0}))

@@ -13,14 +13,18 @@ Inv-loop row j₀ j = Searching (Entry row) most-columns j
 abbrev μ-loop : tie.MeasureT-loop
 μ-loop row j₀ j = most-columns - j
 
+-- with a cell read: the loop
+abbrev loop : tie.After-if12 Inv-loop μ-loop → tie.At-loop Inv-loop μ-loop
+loop c = c .before .before
+
 loop-holds : tie.Need-loop-holds Inv-loop μ-loop
 loop-holds c = search-begins
 
 returns : tie.Need-returns Inv-loop μ-loop
-returns c = search-stops (c .before .before .before .loop .inv) (c .if1 .taken)
+returns c = search-stops (loop (c .before) .loop .inv) (c .if1 .taken)
 
 loop-again : tie.Need-loop-again Inv-loop μ-loop
-loop-again c = search-goes-on (c .before .before .before .loop .inv) (c .before .before .loop-test .taken) (λ n. n (c .if1 .left))
+loop-again c = search-goes-on (loop (c .before) .loop .inv) (c .before .before .loop-test .taken) (λ n. n (c .if1 .left))
 
 returns-2 : tie.Need-returns-2 Inv-loop μ-loop
 returns-2 c = search-ends (c .before .loop .inv) (c .loop-test .left)

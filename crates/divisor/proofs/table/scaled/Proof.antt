@@ -20,8 +20,12 @@ Inv-loop j columns p r₀ inverse i₀ r i =
 abbrev μ-loop : tie.MeasureT-loop
 μ-loop j columns p r₀ inverse i₀ r i = columns - i
 
+-- with the inverse made: where the function began
+abbrev start : tie.After-inverse Inv-loop μ-loop → tie.Start Inv-loop μ-loop
+start c = c .before .before .before
+
 -- what the inverse is
-is-inverse : (c : tie.After-inverse Inv-loop μ-loop) → let a = c .before .before .before .args in
+is-inverse : (c : tie.After-inverse Inv-loop μ-loop) → let a = start c .args in
     Inverse (element (a .p) (cell (a .row) (a .j))) (c .inverse .result)
 is-inverse c = subst (λ e. Inverse e (c .inverse .result)) (c .before .of .ensures) (c .inverse .ensures)
 
@@ -29,25 +33,25 @@ inverse-requires : tie.Need-inverse-requires Inv-loop μ-loop
 inverse-requires c κs = subst Invertible (sym (c .of .ensures)) (search needs)
 
 loop-holds : tie.Need-loop-holds Inv-loop μ-loop
-loop-holds c = let pre = c .before .before .before .pre in part-start (omega (arith, pre .within, pre .most)) (pre .size)
+loop-holds c = let pre = start c .pre in part-start (omega (arith, pre .within, pre .most)) (pre .size)
 
 loop-again : tie.Need-loop-again Inv-loop μ-loop
 loop-again c =
     let cell-made = c .before in
     let loop = cell-made .before .before .before in
     let inverse = loop .before in
+    let s = start inverse in
     let made = c .product .ensures ∙ ap (product-of (inverse .inverse .result)) (cell-made .of2 .ensures)
     ∙ ap (λ m. element m (inverse .inverse .result .value * cell (loop .loop .r) (loop .loop .i) % m)) (is-inverse inverse .same) in
-    let a = inverse .before .before .before .args in
-    part-next (loop .loop .inv) (cell-made .before .before .loop-test .taken) (inverse .before .before .before .pre .most)
-    (ap (λ e. e .value) made ∙ ap (λ x. inverse .inverse .result .value * x % a .p) (loop .loop .inv .filled .left (loop .loop .i) (omega arith)))
+    part-next (loop .loop .inv) (cell-made .before .before .loop-test .taken) (s .pre .most)
+    (ap (λ e. e .value) made ∙ ap (λ x. inverse .inverse .result .value * x % s .args .p) (loop .loop .inv .filled .left (loop .loop .i) (omega arith)))
 
 returns : tie.Need-returns Inv-loop μ-loop
 returns c =
     let loop = c .before in
-    let start = loop .before .before .before .before in
-    let a = start .args in
-    let is = inverse-val _ _ (listed-prime (start .pre .listed)) (is-inverse (loop .before)) in
+    let s = start (loop .before) in
+    let a = s .args in
+    let is = inverse-val _ _ (listed-prime (s .pre .listed)) (is-inverse (loop .before)) in
     ap (λ x. record { cells = x }) (part-end (loop .loop .inv) (c .loop-test .left))
     ∙ ap (λ f. altered (a .j) (a .columns) (λ k. f * cell (a .row) k % a .p) (a .row)) is
 

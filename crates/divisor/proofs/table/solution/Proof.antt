@@ -12,9 +12,6 @@ told : (c : tie.After-kind-of) {k : Kind} → c .kind-of .result ≡ k
     → solved-as k (c .before .args .p) (c .before .args .t) ≡ solved (c .before .args .p) (c .before .args .t)
 told c e = ap (λ k. solved-as k (c .before .args .p) (c .before .args .t)) (sym e ∙ c .kind-of .ensures)
 
-enum-told : tie.Need-enum-told
-enum-told c = search needs
-
 returns : tie.Need-returns
 returns c = told (c .before .before) (c .enum-told .given .1)
 
@@ -23,8 +20,9 @@ returns-2 c = told (c .before .before) (c .enum-told2 .given .1)
 
 returns-3 : tie.Need-returns-3
 returns-3 c =
-    ap (λ v. record { kind = One; values = v }) (c .values-of .ensures) ∙ told (c .before .before .before) (c .before .enum-told3 .given .1)
+    let asked = c .before .before .before in
+    ap (λ v. record { kind = One; values = v }) (c .values-of .ensures) ∙ told asked (c .before .enum-told3 .given .1)
 
 pub solution-spec : {M : Type 1} → statement M
 solution-spec =
-    tie.close (tie.spec (λ c κs. search needs) enum-told (λ c. search needs) (λ c. search needs) (λ c κs. search needs) returns returns-2 returns-3)
+    tie.close (tie.spec (λ c κs. search needs) (λ c. search needs) (λ c. search needs) (λ c. search needs) (λ c κs. search needs) returns returns-2 returns-3)

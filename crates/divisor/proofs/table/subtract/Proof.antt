@@ -17,13 +17,16 @@ Inv-loop row₀ j columns p pivot factor i₀ row i =
 abbrev μ-loop : tie.MeasureT-loop
 μ-loop row₀ j columns p pivot factor i₀ row i = columns - i
 
+-- with the row's cell as an element: the loop
+abbrev loop : tie.After-of2 Inv-loop μ-loop → tie.At-loop Inv-loop μ-loop
+loop c = c .before .before .before
+
 minus-product-requires : tie.Need-minus-product-requires Inv-loop μ-loop
 minus-product-requires c κs =
     let cell-made = c .before .before in
-    let factor-made = cell-made .before .before .before .before in
     record {
       positive = omega (arith, ap (λ e. e .modulus) (cell-made .of2 .ensures));
-      within = omega (arith, ap (λ e. e .modulus) (cell-made .of2 .ensures), ap (λ e. e .value) (factor-made .of .ensures));
+      within = omega (arith, ap (λ e. e .modulus) (cell-made .of2 .ensures), ap (λ e. e .value) (loop cell-made .before .of .ensures));
     }
 
 loop-holds : tie.Need-loop-holds Inv-loop μ-loop
@@ -32,15 +35,15 @@ loop-holds c = let pre = c .before .before .pre in part-start (omega (arith, pre
 loop-again : tie.Need-loop-again Inv-loop μ-loop
 loop-again c =
     let cell-made = c .before .before .before in
-    let loop = cell-made .before .before .before in
+    let at = loop cell-made in
     let made = c .minus-product .ensures
-    ∙ (λ n. minus-product-of (cell-made .of2 .ensures n) (loop .before .of .ensures n) (c .before .of3 .ensures n)) in
-    let start = loop .before .before .before in
+    ∙ (λ n. minus-product-of (cell-made .of2 .ensures n) (at .before .of .ensures n) (c .before .of3 .ensures n)) in
+    let start = at .before .before .before in
     let a = start .args in
-    let i = loop .loop .i in
-    part-next (loop .loop .inv) (cell-made .before .before .loop-test .taken) (start .pre .most)
+    let i = at .loop .i in
+    part-next (at .loop .inv) (cell-made .before .before .loop-test .taken) (start .pre .most)
     (ap (λ e. e .value) made
-    ∙ ap (λ x. (x + (a .p - getD (a .row .now) (a .j) 0) * cell (a .t2) i) % a .p) (loop .loop .inv .filled .left i (omega arith)))
+    ∙ ap (λ x. (x + (a .p - getD (a .row .now) (a .j) 0) * cell (a .t2) i) % a .p) (at .loop .inv .filled .left i (omega arith)))
 
 returns : tie.Need-returns Inv-loop μ-loop
 returns c =

@@ -27,6 +27,10 @@ Inv-loop j last p row values sum₀ k₀ sum k = Reached j last p row values sum
 abbrev μ-loop : tie.MeasureT-loop
 μ-loop j last p row values sum₀ k₀ sum k = last - k
 
+-- at the loop: where the function began
+abbrev start : tie.At-loop Inv-loop μ-loop → tie.Start Inv-loop μ-loop
+start l = l .before .before .before
+
 loop-holds : tie.Need-loop-holds Inv-loop μ-loop
 loop-holds c =
     let a = c .before .before .args in
@@ -41,7 +45,7 @@ loop-again : tie.Need-loop-again Inv-loop μ-loop
 loop-again c =
     let cell-made = c .before .before in
     let loop = cell-made .before .before .before in
-    let a = loop .before .before .before .args in
+    let a = start loop .args in
     let k = loop .loop .k in
     let sum = loop .loop .sum in
     let positive : 0 < a .p = omega (arith, loop .loop .inv .below) in
@@ -69,7 +73,7 @@ returns : tie.Need-returns Inv-loop μ-loop
 returns c =
     let left = c .before .before in
     let loop = left .before in
-    let a = loop .before .before .before .args in
+    let a = start loop .args in
     let sum = loop .loop .sum in
     c .difference .ensures ∙ ap (λ e. difference-of e sum) (c .before .zero .ensures)
     ∙ ap (λ (n : ℕ). element (a .p) (n % a .p)) (zero-add (a .p - sum .value))

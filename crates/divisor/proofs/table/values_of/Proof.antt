@@ -36,13 +36,14 @@ value-at-requires c κs =
 
 loop-again : tie.Need-loop-again Inv-loop μ-loop
 loop-again c =
-    let at = c .before .before .before in
-    let a = at .before .args in
+    let turn = c .before .before in
+    let a = turn .before .before .args in
+    let l = turn .before .loop in
     record {
       within = search needs;
       same =
-          ap (λ e. back (at .loop .j - 1) (a .p) (a .t1) (set (at .loop .values) (at .loop .j - 1) (e .value))) (c .value-at .ensures)
-          ∙ sym (fold-turn (with-unknown (a .p) (a .t1)) (at .loop .values) (down-turn (at .loop .j) (c .before .before .loop-test .taken))) ∙ at .loop .inv .same;
+          ap (λ e. back (l .j - 1) (a .p) (a .t1) (set (l .values) (l .j - 1) (e .value))) (c .value-at .ensures)
+          ∙ sym (fold-turn (with-unknown (a .p) (a .t1)) (l .values) (down-turn (l .j) (turn .loop-test .taken))) ∙ l .inv .same;
     }
 
 returns : tie.Need-returns Inv-loop μ-loop

@@ -27,11 +27,18 @@ Inv-loop p columns t row₀ j₀ s row j = Reached p t row₀ s row j
 abbrev μ-loop : tie.MeasureT-loop
 μ-loop p columns t row₀ j₀ s row j = columns - j
 
+-- with a cell read: the loop; with a kept row read: the test of the cell
+abbrev loop : tie.After-if12 Inv-loop μ-loop → tie.At-loop Inv-loop μ-loop
+loop c = c .before .before
+
+abbrev entry : tie.After-if22 Inv-loop μ-loop → tie.Then1 Inv-loop μ-loop
+entry c = c .before .before
+
 -- at an entry that is not 0 the row can be worked on
 column : (c : tie.Then1 Inv-loop μ-loop)
-    → let at = c .before .before .before in Column (at .before .args .p) (at .loop .row) (at .loop .j) (at .before .args .t .columns)
+    → let at = loop (c .before) in Column (at .before .args .p) (at .loop .row) (at .loop .j) (at .before .args .t .columns)
 column c =
-    let at = c .before .before .before in
+    let at = loop (c .before) in
     record {
       listed = at .before .pre .table .listed;
       size = at .loop .inv .ready .size;
@@ -52,28 +59,28 @@ loop-holds c =
     }
 
 scaled-requires : tie.Need-scaled-requires Inv-loop μ-loop
-scaled-requires c κs = column (c .before .before .before)
+scaled-requires c κs = column (entry (c .before))
 
 returns : tie.Need-returns Inv-loop μ-loop
 returns c =
-    let entry = c .before .before .before .before in
-    let loop = entry .before .before .before in
-    let l = loop .loop in
-    let a = loop .before .args in
+    let test = entry (c .before .before) in
+    let at = loop (test .before) in
+    let l = at .loop in
+    let a = at .before .args in
     ap (λ x. record { rows = set (l .s .rows) (l .j) x; columns = l .s .columns }) (c .scaled .ensures)
     ∙ ap (λ (t : Table). record { rows = set (t .rows) (l .j) (scaled-row (a .p) (l .row) (l .j) (a .t .columns)); columns = t .columns }) (l .inv .same)
-    ∙ sym (insert-kept (a .p) (a .t) (l .row) (l .j) (entry .before .before .loop-test .taken) (entry .if1 .taken)
+    ∙ sym (insert-kept (a .p) (a .t) (l .row) (l .j) (test .before .before .loop-test .taken) (test .if1 .taken)
     (subst (λ (t : Table). diagonal t (l .j) ≡ 0) (l .inv .same) (c .before .if2 .taken)))
     ∙ l .inv .comes-to
 
 subtract-requires : tie.Need-subtract-requires Inv-loop μ-loop
-subtract-requires c κs = column (c .before .before .before .before)
+subtract-requires c κs = column (entry (c .before .before))
 
 loop-again : tie.Need-loop-again Inv-loop μ-loop
 loop-again c =
-    let loop = c .before .before .before in
-    let l = loop .loop in
-    let a = loop .before .args in
+    let at = loop (c .before) in
+    let l = at .loop in
+    let a = at .before .args in
     let test = c .before .before .loop-test .taken in
     let left = a .t .columns - (l .j + 1) in
     let next = minus (a .p) (l .row) (row-at (a .t) (l .j)) (l .j) (a .t .columns) in
@@ -90,11 +97,13 @@ loop-again c =
           ∙ l .inv .comes-to;
       same = l .inv .same;
     })
-    (λ w. record {
+    (λ w.
+    let is = w .1 in
+    record {
       within = omega arith;
-      ready = rw (w .1) (l .inv .ready);
+      ready = rw is (l .inv .ready);
       comes-to =
-          ap (λ x. insert left (l .j + 1) (a .p) (a .t) x) (w .1) ∙ sym (insert-skip (a .p) (a .t) (l .row) (l .j) test (w .0 .left)) ∙ l .inv .comes-to;
+          ap (λ x. insert left (l .j + 1) (a .p) (a .t) x) is ∙ sym (insert-skip (a .p) (a .t) (l .row) (l .j) test (w .0 .left)) ∙ l .inv .comes-to;
       same = l .inv .same;
     })
     (c .if1 .came)

@@ -14,9 +14,13 @@ opened c = c .before .before .before .before .before
 abbrev start : tie.After-made-monic → tie.Start
 start m = opened (m .before)
 
--- with the divisions done: the divisor that was made
-abbrev made : tie.After-divides-both → tie.After-made-monic
-made d = d .before .before .before .before
+-- before the divisions: the divisor that was made
+abbrev made : tie.After-divides-both-arg → tie.After-made-monic
+made c = c .before .before .before
+
+-- at the test: the divisions
+abbrev judged : tie.After-slice-known3 → tie.After-divides-both
+judged k = k .before .before
 
 made-monic-requires : tie.Need-made-monic-requires
 made-monic-requires c κs =
@@ -39,24 +43,26 @@ slice-aggregate-list c =
     sym (length-take-le (m .made-monic .result .count) (m .made-monic .result .terms) (omega (arith, made .sized, made .fits, start m .pre .few)))
 
 divides-both-requires : tie.Need-divides-both-requires
-divides-both-requires c κs = let m = c .before .before .before in can-divide (start m .pre) (m .made-monic .ensures) refl
+divides-both-requires c κs = can-divide (start (made c) .pre) (made c .made-monic .ensures) refl
 
 returns : tie.Need-returns
 returns c =
-    let d = c .before .before .before in
-    settled-rejected (start (made d) .pre) (made d .made-monic .ensures) refl (d .divides-both .ensures) (c .if1 .taken)
+    let d = judged (c .before) in
+    let m = made (d .before) in
+    settled-rejected (start m .pre) (m .made-monic .ensures) refl (d .divides-both .ensures) (c .if1 .taken)
 
 write-requires : tie.Need-write-requires
 write-requires c κs =
-    let d = c .before .before .before .before in
-    fits-output (start (made d) .pre) (made d .made-monic .ensures) refl
+    let m = made (judged (c .before .before) .before) in
+    fits-output (start m .pre) (m .made-monic .ensures) refl
 
 returns-2 : tie.Need-returns-2
 returns-2 c =
     let write = c .before .before in
     let test = write .before .before in
-    let d = test .before .before .before in
-    settled-accepted (start (made d) .pre) (made d .made-monic .ensures) refl (d .divides-both .ensures) (test .if1 .left) (write .write .ensures)
+    let d = judged (test .before) in
+    let m = made (d .before) in
+    settled-accepted (start m .pre) (m .made-monic .ensures) refl (d .divides-both .ensures) (test .if1 .left) (write .write .ensures)
 
 pub divided-spec : {M : Type 1} → statement M
 divided-spec =

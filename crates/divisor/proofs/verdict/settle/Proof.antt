@@ -9,9 +9,6 @@ use Rattle.divisor.proofs.verdict.settle.Tie as tie
 abbrev start : tie.After-enum-told3 → tie.Start
 start c = c .before .before .before .before .before .before .before .before
 
-enum-told : tie.Need-enum-told
-enum-told c = search needs
-
 divided-requires : tie.Need-divided-requires
 divided-requires c κs =
     let told = c .before .before in
@@ -19,11 +16,13 @@ divided-requires c κs =
 
 returns : tie.Need-returns
 returns c =
-    settled-refused (unsolvable (c .before .before .before .before .enum-told .given .1)) (c .before .before .refused .ensures)
+    let refused = c .before .before in
+    settled-refused (unsolvable (refused .before .before .enum-told .given .1)) (refused .refused .ensures)
 
 returns-2 : tie.Need-returns-2
 returns-2 c =
-    settled-refused (several (c .before .before .before .before .enum-told2 .given .1)) (c .before .before .refused2 .ensures)
+    let refused = c .before .before in
+    settled-refused (several (refused .before .before .enum-told2 .given .1)) (refused .refused2 .ensures)
 
 returns-3 : tie.Need-returns-3
 returns-3 c =
@@ -33,5 +32,5 @@ returns-3 c =
 
 pub settle-spec : {M : Type 1} → statement M
 settle-spec =
-    tie.close (tie.spec enum-told (λ c κs. search needs) (λ c. search needs) (λ c κs. search needs) (λ c. search needs) divided-requires
+    tie.close (tie.spec (λ c. search needs) (λ c κs. search needs) (λ c. search needs) (λ c κs. search needs) (λ c. search needs) divided-requires
     (λ c. search needs) returns (λ c. search needs) returns-2 (λ c. search needs) (λ c. search needs) returns-3)
