@@ -93,5 +93,5 @@ pub record StoreReady (at : ℕ) (work : List ℕ) : Type 0 where
   pub room : work-room ≤ length work
 
 -- eight numbers in the work room from a place on
-abbrev pub placed : List ℕ → ℕ → List ℕ → List ℕ
-placed numbers at work = cells (between at (at + 8) (λ k. getD numbers (k - at) 0) work) (length work)
+abbrev pub stored : List ℕ → ℕ → List ℕ → List ℕ
+stored numbers at work = cells (between at (at + 8) (λ k. getD numbers (k - at) 0) work) (length work)

@@ -11,17 +11,17 @@ use Rattle.field.specs.loops.Cells.{cells-length, cells-at, cells-all, past-end
 use Rattle.poly.specs.declared.PointImage.{PointImage}
 use Rattle.poly.specs.Room.{work-room}
 use Rattle.divisor.specs.Candidate.{most-points}
-use Rattle.divisor.specs.points.Model.{image-at, look-at, Looks, placed}
+use Rattle.divisor.specs.points.Model.{image-at, look-at, Looks, stored}
 use Rattle.divisor.specs.points.Parts.{part-length, part-at}
 
 module _ (numbers : List ℕ) (at : ℕ) (work : List ℕ) (fits : at + 8 ≤ length work) where
-  placed-here : (j : ℕ) → j < 8 → getD (placed numbers at work) (at + j) 0 ≡ getD numbers j 0
-  placed-here j l =
+  stored-here : (j : ℕ) → j < 8 → getD (stored numbers at work) (at + j) 0 ≡ getD numbers j 0
+  stored-here j l =
       let e : at + j - at ≡ j = omega arith in
       cells-at _ (length work) (at + j) (omega arith) ∙ between-in at (at + 8) _ work (at + j) (omega arith) (omega arith) ∙ ap (λ k. getD numbers k 0) e
 
-  placed-else : (k : ℕ) → (k < at) ⊎ (at + 8 ≤ k) → getD (placed numbers at work) k 0 ≡ getD work k 0
-  placed-else k o =
+  stored-else : (k : ℕ) → (k < at) ⊎ (at + 8 ≤ k) → getD (stored numbers at work) k 0 ≡ getD work k 0
+  stored-else k o =
       cells-all (λ a. a ≡ getD work k 0) _ (length work) k (λ l. between-out at (at + 8) _ work k o) (λ l. sym (past-end (length work) k work refl l))
 
 -- eight numbers that stand in the work room from 8 i on are the image of point i
@@ -50,18 +50,18 @@ module _ {p : ℕ} {A B points before : List ℕ} where
   -- one more point
   pub looks-next : {n : ℕ} {work sizes : List ℕ} {seen : PointImage} → n < most-points → work-room ≤ length before
       → Looks n p A B points before work sizes → seen ≡ look-at p A B points n → length (seen .coefficients) ≡ 8
-      → Looks (n + 1) p A B points before (placed (seen .coefficients) (8 * n) work) (set sizes n (seen .size))
+      → Looks (n + 1) p A B points before (stored (seen .coefficients) (8 * n) work) (set sizes n (seen .size))
   looks-next {n} {work} {sizes} {seen} small room h e eight =
-      let after = placed (seen .coefficients) (8 * n) work in
+      let after = stored (seen .coefficients) (8 * n) work in
       let same-length : length after ≡ length work = cells-length _ (length work) in
       let long : 8 * most-points ≤ length work = omega (arith, h .same-length) in
-      let others = placed-else (seen .coefficients) (8 * n) work (omega arith) in
+      let others = stored-else (seen .coefficients) (8 * n) work (omega arith) in
       record {
         sized = filled-next (h .sized) small (ap (λ (r : PointImage). r .size) e);
         same-length = same-length ∙ h .same-length;
         images = λ i l. elim (ℕ-discrete i n) [
           | yes q ↦
-              ap (image-at after) q ∙ image-is (seen .coefficients) after n eight (omega arith) (placed-here (seen .coefficients) (8 * n) work (omega arith))
+              ap (image-at after) q ∙ image-is (seen .coefficients) after n eight (omega arith) (stored-here (seen .coefficients) (8 * n) work (omega arith))
               ∙ ap (λ (r : PointImage). r .coefficients) e ∙ ap (λ (k : ℕ). look-at p A B points k .coefficients) (sym q)
           | no q ↦ image-same work after i n same-length (omega arith) (omega arith) others ∙ h .images i (omega arith)
         ];

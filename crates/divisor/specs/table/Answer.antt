@@ -16,7 +16,7 @@ use Rattle.field.specs.Prime.{Prime}
 use Rattle.field.specs.Fp.{Fp, el}
 use Rattle.field.specs.Modulo.{Modulo}
 use Rattle.field.specs.loops.Places.{replicate-all}
-use Rattle.field.specs.loops.Fold.{fold, down}
+use Rattle.field.specs.loops.Fold.{fold-always, downwards}
 use Rattle.divisor.specs.declared.table.Row.{Row}
 use Rattle.divisor.specs.declared.table.Table.{Table}
 use Rattle.divisor.specs.declared.table.Kind.the-variants.{None, One, Several}
@@ -81,9 +81,7 @@ solved-below p t ready k =
 
 -- and as many as a row has cells
 back-length : (p : ℕ) (t : Table) (j : ℕ) (v : List ℕ) → length (back j p t v) ≡ length v
-unfolding fold down
-back-length p t zero v = refl
-back-length p t (suc j) v = back-length p t j _ ∙ length-set v j _
+back-length p t j v = fold-always (λ w. length w ≡ length v) (λ i w e. length-set w i _ ∙ e) (downwards j) v refl
 
 pub solved-length : (p : ℕ) (t : Table) → length (solved p t .values) ≡ most-columns
 solved-length p t = elim (kind t) as (λ x. length (solved-as x p t .values) ≡ most-columns) [

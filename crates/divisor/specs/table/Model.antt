@@ -8,7 +8,7 @@ use lib.ListN.{length, getD, set, replicate}
 use Rattle.field.specs.Moduli.{Listed}
 use Rattle.field.specs.Fp.{el, inv}
 use Rattle.field.specs.loops.Filled.{cells, between}
-use Rattle.field.specs.loops.Fold.{fold, from, down}
+use Rattle.field.specs.loops.Fold.{fold, upwards, downwards}
 use Rattle.divisor.specs.declared.table.Row.{Row}
 use Rattle.divisor.specs.declared.table.Table.{Table}
 use Rattle.divisor.specs.declared.table.Kind.{Kind}
@@ -89,7 +89,7 @@ abbrev pub plus-column : ℕ → Row → List ℕ → ℕ → ℕ → ℕ
 plus-column p e values k a = (a + cell e k * getD values k 0) % p
 
 abbrev pub total : ℕ → ℕ → ℕ → Row → List ℕ → ℕ → ℕ
-total n k p e values a = fold (plus-column p e values) (from k n) a
+total n k p e values a = fold (plus-column p e values) (upwards k n) a
 
 -- what the row e, kept in column j, leaves for the unknown of that column
 abbrev pub value : ℕ → Row → List ℕ → ℕ → ℕ → ℕ
@@ -100,7 +100,7 @@ abbrev pub with-unknown : ℕ → Table → ℕ → List ℕ → List ℕ
 with-unknown p t j values = set values j (value p (row-at t j) values j (t .columns - 1))
 
 abbrev pub back : ℕ → ℕ → Table → List ℕ → List ℕ
-back j p t values = fold (with-unknown p t) (down j) values
+back j p t values = fold (with-unknown p t) (downwards j) values
 
 abbrev pub values : ℕ → Table → List ℕ
 values p t = back (t .columns - 1) p t zeros

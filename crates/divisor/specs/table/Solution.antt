@@ -20,7 +20,7 @@ use Rattle.field.specs.Fp.{el, add, neg}
 use Rattle.field.specs.elements.Fp.{el-mod}
 use Rattle.field.specs.elements.Link.{plus-times-el, opposite-el}
 use Rattle.field.specs.Modulo.{Modulo}
-use Rattle.field.specs.loops.Fold.{fold, from, down}
+use Rattle.field.specs.loops.Fold.{fold, fold-always, upwards, downwards}
 use Rattle.field.specs.loops.Places.{replicate-all, set-all}
 use Rattle.divisor.specs.declared.table.Row.{Row}
 use Rattle.divisor.specs.declared.table.Table.{Table}
@@ -30,9 +30,7 @@ use Rattle.divisor.specs.table.Meaning.{entries, last-column, columns-of
 use Rattle.divisor.specs.table.Columns.{column-pivot}
 
 total-below : (p : ℕ) → 0 < p → (n k : ℕ) (e : Row) (v : List ℕ) (a : ℕ) → a < p → total n k p e v a < p
-unfolding fold from
-total-below p h zero k e v a b = b
-total-below p h (suc n) k e v a b = total-below p h n (suc k) e v _ (mod-lt _ h)
+total-below p h n k e v = fold-always (λ a. a < p) (λ i a b. mod-lt _ h) (upwards k n)
 
 module _ (p : ℕ) (P : Prime p) where
   abbrev K : Field
@@ -41,7 +39,7 @@ module _ (p : ℕ) (P : Prime p) where
   -- the code's sum and the row's value differ by what the sum begins with
   total-adds : (e : Row) (v : List ℕ) (last n i : ℕ) → i + n ≡ last → (a : ℕ)
       → add (el p (total n i p e v a)) (el p (cell e last)) ≡ add (el p a) (eval K (entries p (e .cells) i (suc n)) (entries p v i n))
-  unfolding fold from entries
+  unfolding fold upwards entries
   total-adds e v last zero i h a = let same : last ≡ i = omega arith in ap (λ m. add (el p a) (el p (cell e m))) same
   total-adds e v last (suc n) i h a =
       total-adds e v last n (suc i) (omega arith) ((a + cell e i * getD v i 0) % p)
@@ -82,7 +80,7 @@ module _ (p : ℕ) (P : Prime p) where
 
     back-solves : ((i : ℕ) → i < n → ¬ (diagonal t i ≡ 0)) → (j k : ℕ) (v : List ℕ) → j + k ≡ n → length v ≡ most-columns
         → entries p v j k ≡ solution K (el p 0) (columns-of p t j k) → entries p (back j p t v) 0 n ≡ solution K (el p 0) (table-of p n t)
-    unfolding fold down
+    unfolding fold downwards
     back-solves full zero k v h s known =
         let same : k ≡ n = omega arith in
         subst (λ m. entries p v 0 m ≡ solution K (el p 0) (columns-of p t 0 m)) same known
@@ -101,10 +99,8 @@ module _ (p : ℕ) (P : Prime p) where
 
 -- all values are below p
 back-below : (p : ℕ) → 0 < p → (t : Table) (j : ℕ) (v : List ℕ) → ((k : ℕ) → getD v k 0 < p) → (k : ℕ) → getD (back j p t v) k 0 < p
-unfolding fold down
-back-below p h t zero v b k = b k
-back-below p h t (suc j) v b k =
-    back-below p h t j _ (λ m. set-all (λ a. a < p) v j m _ 0 (mod-lt _ h) (b m)) k
+back-below p h t j =
+    fold-always (λ v. (k : ℕ) → getD v k 0 < p) (λ i v b k. set-all (λ a. a < p) v i k _ 0 (mod-lt _ h) (b k)) (downwards j)
 
 pub values-below : (p : ℕ) (t : Table) → TableReady p t → (k : ℕ) → getD (values p t) k 0 < p
 values-below p t ready =

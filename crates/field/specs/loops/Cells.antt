@@ -10,7 +10,7 @@ use borrow.Author.Tests.{lt-ltb, le-ltb}
 use lib.Dec.{ltb}
 use lib.ListN.{length, getD, set, drop, length-set, length-append, length-drop, List·getD-append, List·getD-eq-default}
 use lib.Seq.{ext-getD, getD-set-same, getD-set-other, getD-drop, getD-append-add}
-use Rattle.field.specs.loops.Filled.{cells, Filled, between}
+use Rattle.field.specs.loops.Filled.{cells, Filled, between, FilledPart}
 
 pub cells-length : (h : ℕ → ℕ) (n : ℕ) → length (cells h n) ≡ n
 unfolding cells
@@ -115,11 +115,6 @@ between-all P i n h old k new left = go (ltb k i) (ltb k n)
     go true b = left
     go false true = new
     go false false = left
-
--- the loop over a part
-pub record FilledPart (i n : ℕ) (h : ℕ → ℕ) (size : ℕ) (old : List ℕ) (k : ℕ) (r : List ℕ) : Type 0 where
-  pub from : i ≤ k
-  pub filled : Filled (between i n h old) size old k r
 
 module _ {i n : ℕ} {h : ℕ → ℕ} {size : ℕ} {old : List ℕ} where
   pub part-start : i ≤ size → length old ≡ size → FilledPart i n h size old i old

@@ -22,29 +22,29 @@ module _ {E A : Type 0} (f : E → A → A) {left : List E} (a : A) where
   fold-end e = ap (λ l. fold f l a) e
 
 -- the n numbers from i on, and those below n, the greatest first
-unfoldable pub from : ℕ → ℕ → List ℕ
-from i zero = []
-from i (suc n) = i ∷ from (suc i) n
+unfoldable pub upwards : ℕ → ℕ → List ℕ
+upwards i zero = []
+upwards i (suc n) = i ∷ upwards (suc i) n
 
-unfoldable pub down : ℕ → List ℕ
-down zero = []
-down (suc n) = n ∷ down n
+unfoldable pub downwards : ℕ → List ℕ
+downwards zero = []
+downwards (suc n) = n ∷ downwards n
 
-pub from-turn : (i n : ℕ) → i < n → from i (n - i) ≡ i ∷ from (i + 1) (n - (i + 1))
-unfolding from
-from-turn i n l = let e : n - i ≡ suc (n - (i + 1)) = omega arith in ap (from i) e ∙ ap (λ k. i ∷ from k (n - (i + 1))) (sym (add-one i))
+pub upwards-turn : (i n : ℕ) → i < n → upwards i (n - i) ≡ i ∷ upwards (i + 1) (n - (i + 1))
+unfolding upwards
+upwards-turn i n l = let e : n - i ≡ suc (n - (i + 1)) = omega arith in ap (upwards i) e ∙ ap (λ k. i ∷ upwards k (n - (i + 1))) (sym (add-one i))
 
-pub from-end : (i n : ℕ) → n ≤ i → from i (n - i) ≡ []
-unfolding from
-from-end i n l = let e : n - i ≡ 0 = omega arith in ap (from i) e
+pub upwards-end : (i n : ℕ) → n ≤ i → upwards i (n - i) ≡ []
+unfolding upwards
+upwards-end i n l = let e : n - i ≡ 0 = omega arith in ap (upwards i) e
 
-pub down-turn : (n : ℕ) → 0 < n → down n ≡ (n - 1) ∷ down (n - 1)
-unfolding down
-down-turn n l = let e : n ≡ suc (n - 1) = omega arith in ap down e
+pub downwards-turn : (n : ℕ) → 0 < n → downwards n ≡ (n - 1) ∷ downwards (n - 1)
+unfolding downwards
+downwards-turn n l = let e : n ≡ suc (n - 1) = omega arith in ap downwards e
 
-pub down-end : (n : ℕ) → n ≤ 0 → down n ≡ []
-unfolding down
-down-end n l = let e : n ≡ 0 = omega arith in ap down e
+pub downwards-end : (n : ℕ) → n ≤ 0 → downwards n ≡ []
+unfolding downwards
+downwards-end n l = let e : n ≡ 0 = omega arith in ap downwards e
 
 -- the loop at i: what is left of the list, folded from here on, gives what the whole gave
 pub record Folding {A : Type 0} (f : ℕ → A → A) (ts : List ℕ) (old : A) (i : ℕ) (a : A) : Type 0 where
@@ -88,3 +88,7 @@ module _ {A : Type 0} {f : ℕ → A → A} (Q : ℕ → Type 0) where
   unfolding fold
   fold-through m step [] q a = refl
   fold-through m step (t ∷ ts) q a = fold-through m step ts (λ i l. q (suc i) (omega arith)) (f t a) ∙ ap (fold f ts) (step t a (q 0 (omega arith)))
+
+-- where every member keeps it
+pub fold-always : {A : Type 0} {f : ℕ → A → A} (P : A → Type 0) → ((t : ℕ) (a : A) → P a → P (f t a)) → (ts : List ℕ) (a : A) → P a → P (fold f ts a)
+fold-always P step ts = fold-keeps (λ t. Unit {0}) P (λ t a u. step t a) ts (λ i l. tt)

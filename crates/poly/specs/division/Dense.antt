@@ -14,7 +14,7 @@ use Rattle.algebra.specs.Lead.{Lead, Upto}
 use Rattle.algebra.specs.Laws.Ring.{zero-add}
 use Rattle.algebra.specs.Laws.Solver.{_⊕_, _⊗_, _⊖_, ⊝, _≗_, k0, ring1, ring2, ring3, ring4}
 use Rattle.algebra.specs.Laws.Monomial.{monomial-at, monomial-off, monomial-add, monomial-zero, monomial-neg, monomial-mul}
-use Rattle.field.specs.loops.Fold.{fold, fold-keeps}
+use Rattle.field.specs.loops.Fold.{fold, fold-always}
 use Rattle.field.specs.Fp.{Fp, el, add, neg, mul}
 use Rattle.field.specs.elements.Fp.{el-nonzero}
 use Rattle.field.specs.Prime.{Prime}
@@ -43,7 +43,7 @@ MovesUp s n [] = Unit {0}
 MovesUp s n (t ∷ ts) = (key-of t + s < n) × (exponents (key-of t + s) ≡ exponents s ⊞ exponents (key-of t)) × MovesUp s n ts
 
 pub less-length : (p s q : ℕ) (ts l : List ℕ) → length (less-product p s q ts l) ≡ length l
-less-length p s q ts l = fold-keeps (λ t. Unit {0}) (λ m. length m ≡ length l) (λ t m u e. length-set m _ _ ∙ e) ts (λ i b. tt) l refl
+less-length p s q ts l = fold-always (λ m. length m ≡ length l) (λ t m e. length-set m _ _ ∙ e) ts l refl
 
 module _ (p : ℕ) (P : Prime p) where
   abbrev R : CommRing
@@ -166,4 +166,4 @@ module _ (p : ℕ) (P : Prime p) where
       ∙ ring4 (S4 R) (λ d m a b. (d ⊖ m ⊗ a) ⊖ m ⊗ b ≗ d ⊖ m ⊗ (a ⊕ b)) tt (dense l) (monomial R (exponents s) (el p q)) (term R (term-of p P t)) (poly p P ts)
 
   pub less-reduced : (s q : ℕ) (ts l : List ℕ) → Reduced p l → Reduced p (less-product p s q ts l)
-  less-reduced s q ts = fold-keeps (λ t. Unit {0}) (Reduced p) (λ t m u red. set-reduced p m _ _ (mod-lt _ (prime-positive P)) red) ts (λ i b. tt)
+  less-reduced s q ts = fold-always (Reduced p) (λ t m red. set-reduced p m _ _ (mod-lt _ (prime-positive P)) red) ts

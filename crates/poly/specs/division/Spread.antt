@@ -12,7 +12,7 @@ use Rattle.algebra.specs.SeriesRing.{S4}
 use Rattle.algebra.specs.Monomial.{monomial, polynomial}
 use Rattle.algebra.specs.Laws.Solver.{_⊕_, _⊖_, ⊝, _≗_, k0, ring1, ring2}
 use Rattle.algebra.specs.Laws.Monomial.{monomial-neg}
-use Rattle.field.specs.loops.Fold.{fold, fold-keeps}
+use Rattle.field.specs.loops.Fold.{fold, fold-keeps, fold-always}
 use Rattle.field.specs.Fp.{Fp, el}
 use Rattle.field.specs.Prime.{Prime}
 use Rattle.field.specs.modulus.Prime.{prime-positive}
@@ -27,7 +27,7 @@ use Rattle.poly.specs.division.Dense.{Reduced, dense, dense-set, dense-s
 use Rattle.poly.specs.division.SpreadModel.{spread, gathered}
 
 pub spread-length : (ts l : List ℕ) → length (spread ts l) ≡ length l
-spread-length ts l = fold-keeps (λ t. Unit {0}) (λ m. length m ≡ length l) (λ t m u e. length-set m _ _ ∙ e) ts (λ i b. tt) l refl
+spread-length ts l = fold-always (λ m. length m ≡ length l) (λ t m e. length-set m _ _ ∙ e) ts l refl
 
 -- a cell above every key stays as it is
 pub spread-above : (ts l : List ℕ) (i : ℕ) → ((j : ℕ) → j < length ts → key-of (getD ts j 0) < i) → getD (spread ts l) i 0 ≡ getD l i 0

@@ -28,7 +28,7 @@ use Rattle.field.specs.Modulo.{Modulo}
 use Rattle.field.specs.elements.Link.{minus-times-el}
 use Rattle.poly.specs.Coefficients.{Eight, series}
 use Rattle.field.specs.loops.Filled.{between}
-use Rattle.field.specs.loops.Fold.{fold, down}
+use Rattle.field.specs.loops.Fold.{fold, downwards}
 use Rattle.field.specs.loops.Cells.{cells-at, cells-all, past-end, between-in, between-out}
 use Rattle.poly.specs.euclid.Model.{size, scaled, monic, less-at, subtract, remainder}
 use Rattle.field.specs.loops.Places.{Clear}
@@ -82,7 +82,7 @@ module _ {p : ℕ} (P : Prime p) where
   -- so the common divisors of f and g are those of the remainder and g
   pub remainder-greatest : (m : ℕ) (g : List ℕ) → Clear (suc m) g → (k : ℕ) (f : List ℕ) → Eight p f → k + m ≤ 8 → (u : ℕ → Fp p)
       → Greatest (series p (remainder p m g k f)) (series p g) u → Greatest (series p f) (series p g) u
-  unfolding fold down
+  unfolding fold downwards
   remainder-greatest m g cg zero f h fit u s = s
   remainder-greatest m g cg (suc k) f h fit u s =
       let c = getD f (k + m) 0 in

@@ -6,7 +6,7 @@ use lib.Dec.{eqb}
 use lib.ListN.{getD}
 use Rattle.field.specs.Fp.{el, inv}
 use Rattle.field.specs.loops.Filled.{cells, between}
-use Rattle.field.specs.loops.Fold.{fold, down}
+use Rattle.field.specs.loops.Fold.{fold, downwards}
 
 -- the place after the highest number that is not 0, among the first n; 0 where all are 0
 unfoldable pub size-to : ℕ → List ℕ → ℕ
@@ -38,7 +38,7 @@ reduced p m g k f = subtract p (getD f (k + m) 0) k f g
 
 -- the remainder of f by g, where f has k powers from m on
 abbrev pub remainder : ℕ → ℕ → List ℕ → ℕ → List ℕ → List ℕ
-remainder p m g k f = fold (reduced p m g) (down k) f
+remainder p m g k f = fold (reduced p m g) (downwards k) f
 
 -- Euclid's algorithm; the fuel falls, and the size of g is enough
 unfoldable pub euclid : ℕ → ℕ → List ℕ → List ℕ → List ℕ

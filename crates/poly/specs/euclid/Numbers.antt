@@ -9,7 +9,7 @@ use borrow.Author.Tests.{eq-eqb, ne-eqb}
 use lib.ListN.{getD}
 use Rattle.poly.specs.Coefficients.{Eight}
 use Rattle.field.specs.loops.Filled.{cells, between}
-use Rattle.field.specs.loops.Fold.{fold, down}
+use Rattle.field.specs.loops.Fold.{fold, fold-always, downwards}
 use Rattle.field.specs.loops.Cells.{cells-length, cells-all, past-end, between-in, between-all}
 use Rattle.field.specs.loops.Places.{Clear, clear-one-less}
 use Rattle.poly.specs.euclid.Model.{size-to, scaled, less-at, subtract, remainder}
@@ -102,13 +102,11 @@ module _ (p : ℕ) (pos : 0 < p) where
 
   -- the remainder is clear from the degree of g on
   pub remainder-eight : (m : ℕ) (g : List ℕ) (k : ℕ) (f : List ℕ) → Eight p f → Eight p (remainder p m g k f)
-  unfolding fold down
-  remainder-eight m g zero f h = h
-  remainder-eight m g (suc k) f h = remainder-eight m g k (subtract p (getD f (k + m) 0) k f g) (subtract-eight (getD f (k + m) 0) k f g h)
+  remainder-eight m g k = fold-always (Eight p) (λ j f. subtract-eight (getD f (j + m) 0) j f g) (downwards k)
 
   pub remainder-clear : (m : ℕ) (g : List ℕ) → getD g m 0 ≡ 1 → Clear (suc m) g → (k : ℕ) (f : List ℕ) → Eight p f → Clear (k + m) f
       → Clear m (remainder p m g k f)
-  unfolding fold down
+  unfolding fold downwards
   remainder-clear m g g1 cg zero f h cf = λ i l. cf i (omega arith)
   remainder-clear m g g1 cg (suc k) f h cf =
       remainder-clear m g g1 cg k (subtract p (getD f (k + m) 0) k f g) (subtract-eight (getD f (k + m) 0) k f g h)

@@ -4,7 +4,7 @@ use mathlib.Core.List.{List}
 use Prim.Native.Nat.{ℕ, _<_}
 use native.Mathlib.Nat.{mod-lt}
 use lib.ListN.{set, replicate, length-set}
-use Rattle.field.specs.loops.Fold.{fold-keeps}
+use Rattle.field.specs.loops.Fold.{fold-always}
 use Rattle.poly.specs.Coefficients.{Eight}
 use Rattle.field.specs.loops.Places.{set-all, replicate-all}
 use Rattle.poly.specs.value.Model.{plus-term, value-of}
@@ -23,4 +23,4 @@ module _ (p : ℕ) (ys zs ws : List ℕ) where
   pub value-of-eight : 0 < p → (ts : List ℕ) → Eight p (value-of p ys zs ws ts)
   unfolding value-of
   value-of-eight pos ts =
-      fold-keeps (λ t. Unit {0}) (Eight p) (λ t r u h. set-eight p r _ _ h (plus-term-below pos t _)) ts (λ i b. tt) (replicate 8 0) (zeros-eight p pos)
+      fold-always (Eight p) (λ t r h. set-eight p r _ _ h (plus-term-below pos t _)) ts (replicate 8 0) (zeros-eight p pos)

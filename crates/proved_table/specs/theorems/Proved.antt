@@ -19,7 +19,7 @@ use Rattle.field.specs.elements.Fp.{Fp-discrete}
 use Rattle.field.specs.faults.Decision.{placed-check, look, first-check, decided}
 use Rattle.poly.specs.Room.{work-room}
 use Rattle.field.specs.loops.Filled.{cells, between}
-use Rattle.field.specs.loops.Fold.{fold, down}
+use Rattle.field.specs.loops.Fold.{fold, downwards}
 use Rattle.poly.specs.value.PowersModel.{power, powers}
 use Rattle.poly.specs.value.Model.{plus-term, value-of}
 use Rattle.poly.specs.euclid.Model.{size-to, scaled, monic, subtract, euclid, gcd}
@@ -47,7 +47,7 @@ use Rattle.proved_table.specs.Table.{images, products, p1, table}
 
 pub table-passes : (every test table ≡ true) × (every test more-rows ≡ true)
 unfolding ℕ-discrete decLe decLt mono pow listed listed-decided el add mul neg chase inv Fp-discrete Dec·not Dec·and placed-check look first-check
-    decided cells power powers plus-term fold value-of size-to scaled monic between subtract down euclid gcd value-at image-of-values
+    decided cells power powers plus-term fold value-of size-to scaled monic between subtract downwards euclid gcd value-at image-of-values
     image-of points-of lesser alike kept-of leading scaled-terms compare-by compare each-at-most plus less before-all leads
     divided division tried divided-by by-answer with-counts by-kept by-least by-looks computed count-decided not-below-decided key-decided
     term-decided number-decided checks-append list-checks skeleton-checks points-checks checks same-numbers agrees passes answers test
@@ -67,7 +67,7 @@ table-determined = each-follows Holds Determined holds-determined table table-ho
 -- the images that the rows name are those, and so are the images beside them
 images-pass : (every image-test images ≡ true) × (every image-test more-images ≡ true)
 unfolding ℕ-discrete decLe decLt listed listed-decided el add mul neg chase inv Dec·not Dec·and placed-check look first-check decided cells power
-    powers plus-term fold value-of size-to scaled monic between subtract down euclid gcd value-at image-of-values image-of
+    powers plus-term fold value-of size-to scaled monic between subtract downwards euclid gcd value-at image-of-values image-of
     count-decided not-below-decided key-decided term-decided number-decided checks-append list-checks point-checks image-checks same-numbers
     image-passes image-agrees image-test
 images-pass = (refl, refl)

@@ -5,7 +5,8 @@ use mathlib.Core.List.{List}
 use Prim.Native.Nat.{ℕ, _+_, _-_}
 use native.Mathlib.Omega.{arith}
 use lib.ListN.{length, getD}
-use Rattle.field.specs.loops.Cells.{FilledPart, part-start, part-next, part-end}
+use Rattle.field.specs.loops.Filled.{FilledPart}
+use Rattle.field.specs.loops.Cells.{part-start, part-next, part-end}
 use Rattle.divisor.proofs.points.store.Statement.{statement}
 use Rattle.divisor.proofs.points.store.Tie as tie
 

@@ -7,7 +7,8 @@ use mathlib.Core.Path.{sym, ap, _∙_, subst}
 use Prim.Native.Nat.{_-_, _*_, _%_}
 use native.Mathlib.Omega.{arith}
 use lib.ListN.{getD}
-use Rattle.field.specs.loops.Cells.{FilledPart, part-start, part-next, part-end}
+use Rattle.field.specs.loops.Filled.{FilledPart}
+use Rattle.field.specs.loops.Cells.{part-start, part-next, part-end}
 use Rattle.divisor.specs.table.Model.{most-columns, cell, altered}
 use borrow.Author.Needs.{needs}
 use Rattle.divisor.proofs.table.scaled.Statement.{statement}

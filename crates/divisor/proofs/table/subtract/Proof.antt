@@ -4,7 +4,8 @@ use mathlib.Core.Path.{ap, _∙_}
 use Prim.Native.Nat.{_+_, _-_, _*_, _%_}
 use native.Mathlib.Omega.{arith}
 use Rattle.field.specs.Contract.{minus-product-of}
-use Rattle.field.specs.loops.Cells.{FilledPart, part-start, part-next, part-end}
+use Rattle.field.specs.loops.Filled.{FilledPart}
+use Rattle.field.specs.loops.Cells.{part-start, part-next, part-end}
 use Rattle.divisor.specs.table.Model.{most-columns, cell}
 use borrow.Author.Needs.{needs}
 use Rattle.divisor.proofs.table.subtract.Statement.{statement}

@@ -9,7 +9,7 @@ use lib.ListN.{getD}
 use Rattle.field.specs.declared.elements.Element.{Element}
 use Rattle.field.specs.Contract.{element, plus-product-of, difference-of}
 use Rattle.divisor.specs.declared.table.Row.{Row}
-use Rattle.field.specs.loops.Fold.{fold-turn, fold-end, from-turn, from-end}
+use Rattle.field.specs.loops.Fold.{fold-turn, fold-end, upwards-turn, upwards-end}
 use Rattle.divisor.specs.table.Model.{cell, plus-column, total}
 use borrow.Author.Needs.{needs}
 use Rattle.divisor.proofs.table.value_at.Statement.{statement}
@@ -58,7 +58,7 @@ loop-again c =
       below = rw made (mod-lt _ positive);
       comes-to =
           ap (λ e. total (a .last - (k + 1)) (k + 1) (a .p) (a .t1) (a .t2) (e .value)) made
-          ∙ sym (fold-turn (plus-column (a .p) (a .t1) (a .t2)) (sum .value) (from-turn k (a .last) test)) ∙ loop .loop .inv .comes-to;
+          ∙ sym (fold-turn (plus-column (a .p) (a .t1) (a .t2)) (sum .value) (upwards-turn k (a .last) test)) ∙ loop .loop .inv .comes-to;
     }
 
 difference-requires : tie.Need-difference-requires Inv-loop μ-loop
@@ -78,7 +78,7 @@ returns c =
     c .difference .ensures ∙ ap (λ e. difference-of e sum) (c .before .zero .ensures)
     ∙ ap (λ (n : ℕ). element (a .p) (n % a .p)) (zero-add (a .p - sum .value))
     ∙ ap (λ (n : ℕ). element (a .p) ((a .p - n) % a .p))
-    (sym (fold-end (plus-column (a .p) (a .t1) (a .t2)) (sum .value) (from-end (loop .loop .k) (a .last) (left .loop-test .left))) ∙ loop .loop .inv .comes-to)
+    (sym (fold-end (plus-column (a .p) (a .t1) (a .t2)) (sum .value) (upwards-end (loop .loop .k) (a .last) (left .loop-test .left))) ∙ loop .loop .inv .comes-to)
 
 pub value-at-spec : {M : Type 1} → statement M
 value-at-spec =

@@ -6,7 +6,7 @@ use Prim.Native.Nat.{ℕ, _-_, _≤_}
 use native.Mathlib.Omega.{arith}
 use lib.ListN.{set}
 use Rattle.divisor.specs.declared.table.Table.{Table}
-use Rattle.field.specs.loops.Fold.{fold-turn, fold-end, down-turn, down-end}
+use Rattle.field.specs.loops.Fold.{fold-turn, fold-end, downwards-turn, downwards-end}
 use Rattle.divisor.specs.table.Model.{zeros, with-unknown, back}
 use borrow.Author.Needs.{needs}
 use Rattle.divisor.proofs.table.values_of.Statement.{statement}
@@ -43,14 +43,14 @@ loop-again c =
       within = search needs;
       same =
           ap (λ e. back (l .j - 1) (a .p) (a .t1) (set (l .values) (l .j - 1) (e .value))) (c .value-at .ensures)
-          ∙ sym (fold-turn (with-unknown (a .p) (a .t1)) (l .values) (down-turn (l .j) (turn .loop-test .taken))) ∙ l .inv .same;
+          ∙ sym (fold-turn (with-unknown (a .p) (a .t1)) (l .values) (downwards-turn (l .j) (turn .loop-test .taken))) ∙ l .inv .same;
     }
 
 returns : tie.Need-returns Inv-loop μ-loop
 returns c =
     let at = c .before in
     let a = at .before .args in
-    sym (fold-end (with-unknown (a .p) (a .t1)) (at .loop .values) (down-end (at .loop .j) (c .loop-test .left))) ∙ at .loop .inv .same
+    sym (fold-end (with-unknown (a .p) (a .t1)) (at .loop .values) (downwards-end (at .loop .j) (c .loop-test .left))) ∙ at .loop .inv .same
 
 pub values-of-spec : {M : Type 1} → statement M
 values-of-spec =

@@ -6,7 +6,8 @@ use native.Mathlib.Omega.{arith}
 use lib.ListN.{getD}
 use Rattle.field.specs.declared.elements.Element.{Element}
 use Rattle.field.specs.elements.Plain.{minus-product-is, can-subtract}
-use Rattle.field.specs.loops.Cells.{FilledPart, part-start, part-next, part-end}
+use Rattle.field.specs.loops.Filled.{FilledPart}
+use Rattle.field.specs.loops.Cells.{part-start, part-next, part-end}
 use Rattle.poly.specs.euclid.Model.{less-at, subtract}
 use Rattle.poly.proofs.euclid.subtract.Statement.{statement}
 use Rattle.poly.proofs.euclid.subtract.Tie as tie
