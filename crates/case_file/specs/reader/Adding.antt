@@ -33,7 +33,8 @@ Adds bytes k at r r′ first second skeleton points first′ second′ skeleton�
 
 -- the record with these numbers beside fault and next
 abbrev counts-of : Counts → (modulus first second skeleton points : ℕ) → Counts
-counts-of r m f s k p = record { fault = r .fault; next = r .next; modulus = m; first = f; second = s; skeleton = k; points = p }
+counts-of r m f s k p =
+    record { fault = r .fault; next = r .next; modulus = m; first = f; second = s; skeleton = k; points = p }
 
 module _ {bytes : List ℕ} {k at : ℕ} {r : Counts} (ready : Ready bytes k at r) where
   pub modulus-whole : k ≡ modulus-kind → at + 2 ≤ length bytes

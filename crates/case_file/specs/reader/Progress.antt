@@ -80,7 +80,8 @@ module _ {bs : List ℕ} {r : Counts} {f s k p : List ℕ} {before at : ℕ} (q 
 
     module _ {e : ℕ} (t : e ≡ fault-number today before kind (held r kind) (length bs - (at + 1))) where
       tests : fault-number today before kind (length (q .case kind)) (length after) ≡ e
-      tests = rw (← left) (sym (t ∙ fault-same today before kind _ _ _ (counted before (q .case) (q .standing) r (q .given .record-is) (q .not-ended) kind)))
+      tests =
+          rw (← left) (sym (t ∙ fault-same today before kind _ _ _ (counted before (q .case) (q .standing) r (q .given .record-is) (q .not-ended) kind)))
 
       pub stopped : (e ≡ 0 → ⊥) → read-one bs ≡ refused e at
       stopped z = opened ∙ stops today at before (q .case) kind after e tests z
@@ -102,7 +103,8 @@ module _ {bs : List ℕ} {r : Counts} {f s k p : List ℕ} {before at : ℕ} (q 
                 low = range kind (well .is-known) .0;
                 high = omega (arith, range kind (well .is-known) .1);
                 whole = fits-in;
-                room = rw (counted before (q .case) (q .standing) r (q .given .record-is) (q .not-ended) kind (well .is-known) (well .in-order))
+                room =
+                    rw (counted before (q .case) (q .standing) r (q .given .record-is) (q .not-ended) kind (well .is-known) (well .in-order))
                     (well .room);
                 threes = threes before (q .case) (q .standing) r (q .given .record-is);
               }

@@ -31,7 +31,8 @@ above k = by-member k (λ (ks : List ℕ). (n : ℕ) → rises n ks ≡ true →
     (λ j ks ne ih n r. let t = risen n j ks r in omega (arith, t .0, ih j (t .1)))
 
 pub at-most-greatest : (g : ℕ → ℕ) (k : ℕ) (ks : List ℕ) → member k ks ≡ true → g k ≤ greatest (map g ks)
-at-most-greatest g k = by-member k (λ (ks : List ℕ). g k ≤ greatest (map g ks)) (λ ks. le-max-left (g k) (greatest (map g ks)))
+at-most-greatest g k =
+    by-member k (λ (ks : List ℕ). g k ≤ greatest (map g ks)) (λ ks. le-max-left (g k) (greatest (map g ks)))
     (λ j ks ne ih. omega (arith, le-max-right (g j) (greatest (map g ks))))
 
 not-found : (b : ℕ) (ks : List Kind) → member b (bytes-of ks) ≡ false → find ks b ≡ unknown b
@@ -85,7 +86,8 @@ module _ (f : Format) where
 
   pub not-second : (before : ℕ) → follows f before (first-byte f) ≡ true → before ≡ 0
   not-second zero e = refl
-  not-second (suc before) e = absurd (let l = not-falling (suc before) (first-byte f) (omega arith) e in omega (arith, l .1))
+  not-second (suc before) e =
+      absurd (let l = not-falling (suc before) (first-byte f) (omega arith) e in omega (arith, l .1))
 
   -- a record that may stand here is not below the one before it
   pub not-below : (before k : ℕ) → follows f before k ≡ true → before ≤ k
@@ -124,7 +126,8 @@ module _ (f : Format) where
 
 -- the first failed of a record's tests, by their outcomes
 abbrev outcome : (is-known order whole room : Bool) → ℕ
-outcome is-known order whole room = first-failed ((KIND_UNKNOWN, is-known) ∷ (ORDER, order) ∷ (BODY_CUT, whole) ∷ (TOO_MANY, room) ∷ [])
+outcome is-known order whole room =
+    first-failed ((KIND_UNKNOWN, is-known) ∷ (ORDER, order) ∷ (BODY_CUT, whole) ∷ (TOO_MANY, room) ∷ [])
 
 all-true : (a b c d : Bool) → outcome a b c d ≡ 0 → (a ≡ true) × (b ≡ true) × (c ≡ true) × (d ≡ true)
 all-true true true true true h = (refl, refl, refl, refl)

@@ -83,7 +83,8 @@ module _ (c : Call) (pass : Passes (table c)) (listed : Listed (c .modulus)) whe
         (s .0, subst (Sorted (Numbers c listed) (A c listed) (B c listed) d (lent-points c listed) bad-points (s .0)) kept (s .1))
 
     count-kept : length (k ∷ ks) ≡ kept-points
-    count-kept = ap length (sym kept) ∙ kept-count P (A c listed) (B c listed) (suc d) (lent-points c listed) (looks-of c) (looked c pass listed)
+    count-kept =
+        ap length (sym kept) ∙ kept-count P (A c listed) (B c listed) (suc d) (lent-points c listed) (looks-of c) (looked c pass listed)
 
     count-unlucky : some .0 ≡ point-count c - bad-points - kept-points
     count-unlucky =
@@ -120,7 +121,8 @@ module _ (c : Call) (pass : Passes (table c)) (listed : Listed (c .modulus)) whe
     image = kept-images (Numbers c listed) (A c listed) (B c listed) d (lent-points c listed) bad-points (some .0) (k ∷ ks) (some .1) .0
 
     degree-small : d < 8
-    degree-small = omega (arith, image-within (Numbers c listed) (A c listed) (B c listed) (k .point) d (k .image) 7 (first-small c pass listed) image)
+    degree-small =
+        omega (arith, image-within (Numbers c listed) (A c listed) (B c listed) (k .point) d (k .image) 7 (first-small c pass listed) image)
 
     -- as many unknowns as the skeleton has keys and there are kept points after the first
     abbrev pub unknowns : ℕ
@@ -138,7 +140,8 @@ module _ (c : Call) (pass : Passes (table c)) (listed : Listed (c .modulus)) whe
 
     pub answer-several : (v w : List (Fp (c .modulus))) → linear.DifferentSolutions (Numbers c listed) unknowns equations v w
         → Candidate c (result SEVERAL_SOLUTIONS [])
-    answer-several v w h = answer-verdict SEVERAL_SOLUTIONS [] (several (several-solutions (Numbers c listed) (monomials c listed) k ks v w
+    answer-several v w h =
+        answer-verdict SEVERAL_SOLUTIONS [] (several (several-solutions (Numbers c listed) (monomials c listed) k ks v w
         (subst (λ (n : ℕ). linear.DifferentSolutions (Numbers c listed) (n + length ks) equations v w) (sym length-monomials) h)))
 
     -- the values of the only solution, of which the first are the coefficients of the skeleton
@@ -175,7 +178,8 @@ module _ (c : Call) (pass : Passes (table c)) (listed : Listed (c .modulus)) whe
 
       -- the divisor is that of the skeleton polynomial, its polynomial that of the list, and its numbers are the list
       divisor-is : divisor (Numbers c listed) found ≡ made-monic (Numbers c listed) (without-zeros (Numbers c listed) (skeleton-of p P (c .skeleton) cs))
-      divisor-is = ap (λ (f : Polynomial (Numbers c listed)). made-monic (Numbers c listed) (without-zeros (Numbers c listed) f)) same-skeleton
+      divisor-is =
+          ap (λ (f : Polynomial (Numbers c listed)). made-monic (Numbers c listed) (without-zeros (Numbers c listed) f)) same-skeleton
 
       of-list : polynomial (Numbers c listed .ring) (divisor (Numbers c listed) found) ≡ poly p P (monic-terms p (c .skeleton) cs)
       of-list = ap (polynomial (Numbers c listed .ring)) (divisor-is ∙ sym (list .reads))
@@ -187,7 +191,8 @@ module _ (c : Call) (pass : Passes (table c)) (listed : Listed (c .modulus)) whe
       DividesBothLists g = Divides (Numbers c listed) g (poly p P (c .first-list)) × Divides (Numbers c listed) g (poly p P (c .second-list))
 
       pub answer-rejected : ¬ Both p P (c .first-list) (c .second-list) (monic-terms p (c .skeleton) cs) → Candidate c (result DOES_NOT_DIVIDE [])
-      answer-rejected n = answer-verdict DOES_NOT_DIVIDE [] (rejected found only (λ both. n (subst DividesBothLists of-list both)))
+      answer-rejected n =
+          answer-verdict DOES_NOT_DIVIDE [] (rejected found only (λ both. n (subst DividesBothLists of-list both)))
 
       pub answer-accepted : Both p P (c .first-list) (c .second-list) (monic-terms p (c .skeleton) cs) → Candidate c (result 0 (monic-terms p (c .skeleton) cs))
       answer-accepted both =

@@ -26,7 +26,8 @@ abbrev pub answer-of : (c : Call) (listed : Listed (c .modulus)) → CandidateRe
 answer-of c listed = RuleAnswer (Numbers c listed) (A c listed) (B c listed) (monomials c listed) (lent-points c listed)
 
 abbrev pub result-of : (c : Call) (listed : Listed (c .modulus)) → CandidateRecord → Polynomial (Numbers c listed) → Result
-result-of c listed f G = record { found = f; output = written (numbers-of (c .modulus) (prime c listed) G) (c .output); work = cleared (c .work) }
+result-of c listed f G =
+    record { found = f; output = written (numbers-of (c .modulus) (prime c listed) G) (c .output); work = cleared (c .work) }
 
 -- the evidence that the modulus is listed does not matter
 answered-determined : (c : Call) (listed listed′ : Listed (c .modulus)) (f g : CandidateRecord) (G : Polynomial (Numbers c listed))
@@ -46,4 +47,5 @@ candidate-determined c r q (refused f h) (refused g k) =
     λ i. record { found = refused-record (e i); output = c .output; work = c .work }
 candidate-determined c r q (refused f h) (answered pass listed g G x) = absurd (not-passes-and-refuses (table c) f pass h)
 candidate-determined c r q (answered pass listed f G x) (refused g h) = absurd (not-passes-and-refuses (table c) g pass h)
-candidate-determined c r q (answered pass listed f G x) (answered pass′ listed′ g H y) = answered-determined c listed listed′ f g G H x y
+candidate-determined c r q (answered pass listed f G x) (answered pass′ listed′ g H y) =
+    answered-determined c listed listed′ f g G H x y

@@ -24,11 +24,14 @@ module _ (K : Field) (A B : Polynomial K) where
   least-degree d e points b u b′ u′ ks k ls (bad x s) (unlucky f W j l t) = absurd (j .good x)
   least-degree d e points b u b′ u′ ks k ls (bad x s) (keep W j t) = absurd (j .good x)
   least-degree d e points b u b′ u′ ks k ls (unlucky g U i l s) (bad y t) = absurd (i .good y)
-  least-degree d e points b u b′ u′ ks k ls (unlucky g U i l s) (unlucky f W j m t) = least-degree d e _ b _ b′ _ ks k ls s t
-  least-degree d e points b u b′ u′ ks k ls (unlucky {at = at} g U i l s) (keep W j t) = let q : g ≡ e = image-unique K A B at g e U W i j .0 in omega arith
+  least-degree d e points b u b′ u′ ks k ls (unlucky g U i l s) (unlucky f W j m t) =
+      least-degree d e _ b _ b′ _ ks k ls s t
+  least-degree d e points b u b′ u′ ks k ls (unlucky {at =
+      at} g U i l s) (keep W j t) = let q : g ≡ e = image-unique K A B at g e U W i j .0 in omega arith
   least-degree d e points b u b′ u′ ks k ls (keep U i s) (bad y t) = absurd (i .good y)
   least-degree d e points b u b′ u′ ks k ls (keep U i s) (unlucky f W j m t) = least-degree d e _ b u b′ _ _ k ls s t
-  least-degree d e points b u b′ u′ ks k ls (keep {at = at} U i s) (keep W j t) = let q : d ≡ e = image-unique K A B at d e U W i j .0 in omega arith
+  least-degree d e points b u b′ u′ ks k ls (keep {at =
+      at} U i s) (keep W j t) = let q : d ≡ e = image-unique K A B at d e U W i j .0 in omega arith
 
   pub sorted-determined : (d : ℕ) (points : List (Point R)) (b u b′ u′ : ℕ) (ks ls : List (Kept K))
       → Sorted K A B d points b u ks → Sorted K A B d points b′ u′ ls → (b ≡ b′) × (u ≡ u′) × (ks ≡ ls)
@@ -52,9 +55,12 @@ module _ (K : Field) (A B : Polynomial K) where
   -- every point is bad, unlucky or kept
   pub counts-add-up : (d : ℕ) (points : List (Point R)) (b u : ℕ) (ks : List (Kept K)) → Sorted K A B d points b u ks → b +ₙ u +ₙ length ks ≡ length points
   counts-add-up d points b u ks done = refl
-  counts-add-up d points b u ks (bad {points = ps} {b = c} x s) = let h : c +ₙ u +ₙ length ks ≡ length ps = counts-add-up d _ _ u ks s in omega arith
-  counts-add-up d points b u ks (unlucky {points = ps} {u = w} e U i l s) = let h : b +ₙ w +ₙ length ks ≡ length ps = counts-add-up d _ b _ ks s in omega arith
-  counts-add-up d points b u ks (keep {points = ps} {kept = ls} U i s) = let h : b +ₙ u +ₙ length ls ≡ length ps = counts-add-up d _ b u _ s in omega arith
+  counts-add-up d points b u ks (bad {points =
+      ps} {b = c} x s) = let h : c +ₙ u +ₙ length ks ≡ length ps = counts-add-up d _ _ u ks s in omega arith
+  counts-add-up d points b u ks (unlucky {points =
+      ps} {u = w} e U i l s) = let h : b +ₙ w +ₙ length ks ≡ length ps = counts-add-up d _ b _ ks s in omega arith
+  counts-add-up d points b u ks (keep {points =
+      ps} {kept = ls} U i s) = let h : b +ₙ u +ₙ length ls ≡ length ps = counts-add-up d _ b u _ s in omega arith
 
   -- kept points rule out that all are bad
   not-all-bad : (d : ℕ) (points : List (Point R)) (b u : ℕ) (k : Kept K) (ks : List (Kept K))
@@ -86,13 +92,16 @@ module _ (K : Field) (A B : Polynomial K) where
   verdict-determined monomials kept n m G H (accepted s only x) (several t) = absurd (not-several monomials kept s only t)
   verdict-determined monomials kept n m G H (accepted s only x) (rejected t only′ y) =
       absurd (y (subst (λ (v : Unknowns K). DividesBoth K A B (divisor K v)) (only′ .1 s (only .0)) x))
-  verdict-determined monomials kept n m G H (accepted s only x) (accepted t only′ y) = (refl, ap (divisor K) (only′ .1 s (only .0)))
+  verdict-determined monomials kept n m G H (accepted s only x) (accepted t only′ y) =
+      (refl, ap (divisor K) (only′ .1 s (only .0)))
 
   pub answer-determined : (monomials : List Exponents) (points : List (Point R)) (r q : CandidateRecord) (G H : Polynomial K)
       → RuleAnswer K A B monomials points r G → RuleAnswer K A B monomials points q H → (r ≡ q) × (G ≡ H)
   answer-determined monomials points r q G H (all-bad all) (all-bad all′) = (refl, refl)
-  answer-determined monomials points r q G H (all-bad all) (some-good d b u k ks s n I x) = absurd (not-all-bad d points b u k ks s all)
-  answer-determined monomials points r q G H (some-good d b u k ks s n I x) (all-bad all) = absurd (not-all-bad d points b u k ks s all)
+  answer-determined monomials points r q G H (all-bad all) (some-good d b u k ks s n I x) =
+      absurd (not-all-bad d points b u k ks s all)
+  answer-determined monomials points r q G H (some-good d b u k ks s n I x) (all-bad all) =
+      absurd (not-all-bad d points b u k ks s all)
   answer-determined monomials points r q G H (some-good d b u k ks s n I x) (some-good e c w l ls t m J y) =
       let le : d ≤ e = least-degree d e points b u c w (k ∷ ks) l ls s t in
       let ge : e ≤ d = least-degree e d points c w b u (l ∷ ls) k ks t s in

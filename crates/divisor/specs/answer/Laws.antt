@@ -131,7 +131,8 @@ module _ {c : Call} {after sizes : List ℕ} {m count : ℕ} (good : SomeGood c 
       -- what is settled is the rule's verdict
       settles : (number : ℕ) (terms : List ℕ) → Settles p (c .first-list) (c .second-list) (c .skeleton) s number terms
           → Candidate c (assembled.result c pass listed d (kept .at-least) k ks (kept .kept-is) number terms)
-      settles number terms (unsolvable e) = assembled.answer-none c pass listed d (kept .at-least) k ks (kept .kept-is) (says-as None e)
+      settles number terms (unsolvable e) =
+          assembled.answer-none c pass listed d (kept .at-least) k ks (kept .kept-is) (says-as None e)
       settles number terms (several e) =
           let q = says-as Several e in assembled.answer-several c pass listed d (kept .at-least) k ks (kept .kept-is) (q .0) (q .1) (q .2)
       settles number terms (rejected e h) =

@@ -64,7 +64,8 @@ module _ (c : Call) (pass : Passes (table c)) where
   keys-most = let n : ¬ (most-keys < length (c .skeleton)) = λ l. never-placed (rest .0) (inr l) in omega arith
 
   pub keys-small : (j : ℕ) → j < length (c .skeleton) → getD (c .skeleton) j 0 < keys
-  keys-small j l = let n : ¬ (keys ≤ getD (c .skeleton) j 0) = λ m. none-wrong (WrongKey (c .skeleton)) (rest .1 .0) j (above l m) in omega arith
+  keys-small j l =
+      let n : ¬ (keys ≤ getD (c .skeleton) j 0) = λ m. none-wrong (WrongKey (c .skeleton)) (rest .1 .0) j (above l m) in omega arith
 
   pub skeleton-falls : FallFrom keys (c .skeleton)
   skeleton-falls = keys-fall (c .skeleton) (none-wrong (WrongKey (c .skeleton)) (rest .1 .0))
@@ -82,7 +83,8 @@ module _ (c : Call) (pass : Passes (table c)) where
   work-fits = let n : ¬ (length (c .work) < work-room) = never-placed (rest .1 .1 .1 .1 .1 .0) in omega arith
 
   pub look-ready : LookReady (c .modulus) (c .first-list) (c .second-list) (c .points) (c .work)
-  look-ready = record { lists = lists-pass; threes = right-points .threes; few = right-points .few; below = right-points .below; room = work-fits }
+  look-ready =
+      record { lists = lists-pass; threes = right-points .threes; few = right-points .few; below = right-points .below; room = work-fits }
 
   pub looked : (listed : Listed (c .modulus)) → Looked (prime c listed) (A c listed) (B c listed) (lent-points c listed) (looks-of c)
   looked listed = seen look-ready (prime c listed) 0 (point-count c) (let t = right-points .threes in omega arith)

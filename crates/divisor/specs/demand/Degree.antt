@@ -48,7 +48,8 @@ module _ (K : Field) where
     -- the value of a common divisor divides the image
     pub value-divides-image : (at : Point R) (d : ℕ) (U : Seq R) → Image K A B at d U → (H : S4 R .Car) (fin : IsPolynomial K H)
         → Divides K H (polynomial R A) → Divides K H (polynomial R B) → DividesX K (valued K at .fn H fin) U
-    value-divides-image at d U image H fin dA dB = image .greatest .most _ (valued K at .keeps H fin) (of-value A dA) (of-value B dB)
+    value-divides-image at d U image H fin dA dB =
+        image .greatest .most _ (valued K at .keeps H fin) (of-value A dA) (of-value B dB)
       where
         of-value : (f : Polynomial K) → Divides K H (polynomial R f) → DividesX K (valued K at .fn H fin) (value R f at)
         of-value f q =
@@ -125,8 +126,11 @@ module _ (K : Field) where
   pub accepted-greatest : (A B : Polynomial K) (monomials : List Exponents) (points : List (Point R)) → WithinX K (x-degree R A) A → WithinX K 7 A
       → (r : CandidateRecord) (G : Polynomial K) → RuleAnswer K A B monomials points r G → r .fault .number ≡ 0 → GreatestInX K A B G (r .degree)
   accepted-greatest A B monomials points w small r G (all-bad all) e = absurd (omega arith)
-  accepted-greatest A B monomials points w small r G (some-good d b u k kept sorted n H (unsolvable z)) e = absurd (omega arith)
-  accepted-greatest A B monomials points w small r G (some-good d b u k kept sorted n H (several s)) e = absurd (omega arith)
-  accepted-greatest A B monomials points w small r G (some-good d b u k kept sorted n H (rejected s only x)) e = absurd (omega arith)
+  accepted-greatest A B monomials points w small r G (some-good d b u k kept sorted n H (unsolvable z)) e =
+      absurd (omega arith)
+  accepted-greatest A B monomials points w small r G (some-good d b u k kept sorted n H (several s)) e =
+      absurd (omega arith)
+  accepted-greatest A B monomials points w small r G (some-good d b u k kept sorted n H (rejected s only x)) e =
+      absurd (omega arith)
   accepted-greatest A B monomials points w small r G (some-good d b u k kept sorted n H (accepted s only both)) e =
       accepted-degree A B monomials points w small d b u k kept sorted s (only .0) both

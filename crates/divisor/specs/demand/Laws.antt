@@ -29,7 +29,8 @@ use Rattle.divisor.specs.verdict.Output.{answered-output}
 -- no power of x in a first list that passes is above the first term's
 first-within : (c : Call) → Passes (table c) → (listed : Listed (c .modulus))
     → WithinX (Numbers c listed) (x-degree (Numbers c listed .ring) (A c listed)) (A c listed)
-first-within c pass listed = falling-within (c .modulus) (prime c listed) keys (c .first-list) (right-lists c pass .first .falls)
+first-within c pass listed =
+    falling-within (c .modulus) (prime c listed) keys (c .first-list) (right-lists c pass .first .falls)
 
 -- DEMAND 3, first half
 pub accepted-is-greatest : (c : Call) (r : Result) → Candidate c r → AcceptedIsGreatest c r

@@ -51,7 +51,8 @@ module _ (K : Field) where
   at-other : (ms : List Exponents) (f : S4 R .Car) (e : Exponents) → ¬ Proposed K ms e → coef R (polynomial R (terms-at ms f)) e ≡ 𝟘
   unfolding polynomial terms-at
   at-other [] f e n = refl
-  at-other (m ∷ ms) f e n = ap₂ _+_ (monomial-off R m e _ (λ q. n (inl q))) (at-other ms f e (λ p. n (inr p))) ∙ R .add-zero _
+  at-other (m ∷ ms) f e n =
+      ap₂ _+_ (monomial-off R m e _ (λ q. n (inl q))) (at-other ms f e (λ p. n (inr p))) ∙ R .add-zero _
 
   at-proposed : (ms : List Exponents) → FallingMonomials ms → (f : S4 R .Car) (e : Exponents) → Proposed K ms e
       → coef R (polynomial R (terms-at ms f)) e ≡ coef R f e

@@ -29,7 +29,8 @@ use Rattle.divisor.specs.equations.Model.{monomial-number, IsEquation}
 
 entries-split : (p : ℕ) (l : List ℕ) (i a b j : ℕ) → j ≡ i + a → entries p l i (a + b) ≡ entries p l i a ++ entries p l j b
 unfolding entries
-entries-split p l i zero b j e = let q : j ≡ i = omega arith in let r : zero + b ≡ b = omega arith in λ k. entries p l (sym q k) (r k)
+entries-split p l i zero b j e =
+    let q : j ≡ i = omega arith in let r : zero + b ≡ b = omega arith in λ k. entries p l (sym q k) (r k)
 entries-split p l i (suc a) b j e =
     let r : suc a + b ≡ suc (a + b) = omega arith in
     ap (entries p l i) r ∙ ap (el p (getD l i 0) ∷_) (entries-split p l (suc i) a b j (omega arith))
@@ -51,7 +52,8 @@ number-below p pos ys zs ws i k = elim (ℕ-discrete (exponents k .x) i) [
 
 -- the cells of an equation are below p
 pub equation-ready : (p : ℕ) → 0 < p → (ys zs ws ks : List ℕ) (i column u : ℕ) (r : Row) → u < p → IsEquation p ys zs ws ks i column u r → RowReady p r
-equation-ready p pos ys zs ws ks i column u r l h = record { size = h .size; below = λ j. go j (decLt j (length ks)) (ℕ-discrete j column) }
+equation-ready p pos ys zs ws ks i column u r l h =
+    record { size = h .size; below = λ j. go j (decLt j (length ks)) (ℕ-discrete j column) }
   where
     go : (j : ℕ) → Dec (j < length ks) → Dec (j ≡ column) → cell r j < p
     go j (yes a) c = subst (λ (n : ℕ). n < p) (sym (h .monomials j a)) (number-below p pos ys zs ws i (getD ks j 0))
@@ -98,7 +100,8 @@ module _ (p : ℕ) (P : Prime p) (y z w : ℕ) where
         → entries p (r .cells) j n ≡ replicate n (el p 0)
     unfolding entries
     zero-entries u zero j h l m = refl
-    zero-entries u (suc n) j h l m = ap₂ _∷_ (ap (el p) (h .others j l (λ e. omega arith))) (zero-entries u n (suc j) h (omega arith) (omega arith))
+    zero-entries u (suc n) j h l m =
+        ap₂ _∷_ (ap (el p) (h .others j l (λ e. omega arith))) (zero-entries u n (suc j) h (omega arith) (omega arith))
 
     multiplier-entries : (u n m j : ℕ) → IsEquation p (powers p y) (powers p z) (powers p w) ks i column u r → length ks ≤ j → column ≡ j + m → m < n
         → entries p (r .cells) j n ≡ only-at K n m (el p u)

@@ -114,7 +114,8 @@ module _ (K : Field) where
 
   -- the monic form of a polynomial and of a multiple are the same
   pub monic-of-multiple : (c : Car) → ¬ (c ≡ 𝟘) → (f : Polynomial K) → made-monic K (without-zeros K (divided-by K c f)) ≡ made-monic K (without-zeros K f)
-  monic-of-multiple c nc f = ap (made-monic K) (without-zeros-divided c nc f) ∙ made-monic-divided c nc (without-zeros K f) (without-zeros-nonzero K f)
+  monic-of-multiple c nc f =
+      ap (made-monic K) (without-zeros-divided c nc f) ∙ made-monic-divided c nc (without-zeros K f) (without-zeros-nonzero K f)
 
   pub divided-monomials : (c : Car) (f : Polynomial K) → map (λ (t : Term R). t .exponents) (divided-by K c f) ≡ map (λ (t : Term R). t .exponents) f
   unfolding divided-by
@@ -127,7 +128,8 @@ module _ (K : Field) where
   nonzero-made-monic (t ∷ ts) h n = record {
     leading = (unfold divided-by in K .mul-inv (t .coefficient) (h .0));
     factor = t .coefficient;
-    multiple = ap (λ (u : S4 R .Car). S4 R .mul u (constant K (t .coefficient))) (polynomial-divided (t .coefficient) (t ∷ ts))
+    multiple =
+        ap (λ (u : S4 R .Car). S4 R .mul u (constant K (t .coefficient))) (polynomial-divided (t .coefficient) (t ∷ ts))
         ∙ S4 R .mul-assoc _ _ _
         ∙ ap (S4 R .mul (polynomial R (t ∷ ts))) (monomial-times _ (K .inv (t .coefficient)) (t .coefficient)
         ∙ ap (constant K) (R .mul-comm _ _ ∙ K .mul-inv (t .coefficient) (h .0)) ∙ constant-one)
@@ -136,5 +138,6 @@ module _ (K : Field) where
 
   -- the monic form of a polynomial that is not 0
   pub monic-is-made-monic : (f : Polynomial K) → ¬ (polynomial R f ≡ S4 R .𝟘) → MadeMonic K (polynomial R f) (made-monic K (without-zeros K f))
-  monic-is-made-monic f n = subst (λ (C : S4 R .Car). MadeMonic K C (made-monic K (without-zeros K f))) (polynomial-without-zeros f)
+  monic-is-made-monic f n =
+      subst (λ (C : S4 R .Car). MadeMonic K C (made-monic K (without-zeros K f))) (polynomial-without-zeros f)
       (nonzero-made-monic (without-zeros K f) (without-zeros-nonzero K f) (λ e. n (sym (polynomial-without-zeros f) ∙ e)))

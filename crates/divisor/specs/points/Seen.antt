@@ -55,7 +55,8 @@ left-length : (points : List ℕ) (i n : ℕ) → length points ≡ 3 * (i + n) 
 left-length points i n e = let q = length-drop (3 * i) points in omega arith
 
 left-next : (points : List ℕ) (i : ℕ) → drop 3 (left points i) ≡ left points (suc i)
-left-next points i = let e : 3 * i + 3 ≡ 3 * suc i = omega arith in drop-drop 3 (3 * i) points ∙ ap (λ (n : ℕ). drop n points) e
+left-next points i =
+    let e : 3 * i + 3 ≡ 3 * suc i = omega arith in drop-drop 3 (3 * i) points ∙ ap (λ (n : ℕ). drop n points) e
 
 points-next : {p : ℕ} (P : Prime p) (points : List ℕ) (i n : ℕ) → length points ≡ 3 * (i + suc n)
     → points-of p P (left points i) ≡ point-of p P (point-at points i) ∷ points-of p P (left points (suc i))

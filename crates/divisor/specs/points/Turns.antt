@@ -25,7 +25,8 @@ use Rattle.divisor.specs.points.Model.{next-column, image-at, kept-befor
 module _ (K : Field) (es : List Exponents) (n : ℕ) where
   rows-from-more : (m : ℕ) (ks : List (Kept K)) (k : Kept K) (a : ℕ) → a ≡ m + length ks
       → rows-from K es n m (ks ++ (k ∷ [])) ≡ rows-from K es n m ks ++ rows-at K es n a k 0 8
-  rows-from-more m [] k a e = let q : m ≡ a = omega arith in append-nil (rows-at K es n m k 0 8) ∙ ap (λ (b : ℕ). rows-at K es n b k 0 8) q
+  rows-from-more m [] k a e =
+      let q : m ≡ a = omega arith in append-nil (rows-at K es n m k 0 8) ∙ ap (λ (b : ℕ). rows-at K es n b k 0 8) q
   rows-from-more m (x ∷ ks) k a e =
       ap (rows-at K es n m x 0 8 ++_) (rows-from-more (suc m) ks k a (omega arith))
       ∙ sym (append-assoc (rows-at K es n m x 0 8) (rows-from K es n (suc m) ks) (rows-at K es n a k 0 8))
@@ -63,7 +64,8 @@ module _ {p : ℕ} (P : Prime p) (m : ℕ) (points sizes work : List ℕ) (i : �
 
 module _ {p : ℕ} {ks points sizes work : List ℕ} {m columns : ℕ} where
   pub equations-start : Equations-before 0 p ks points sizes work m columns (empty-table columns)
-  equations-start = record { rows = []; adds = adds-none p (empty-table columns); means = λ P. (unfold kept-before in refl) }
+  equations-start =
+      record { rows = []; adds = adds-none p (empty-table columns); means = λ P. (unfold kept-before in refl) }
 
   module _ {i : ℕ} {t : Table} (h : Equations-before i p ks points sizes work m columns t) where
     pub equations-other : ¬ (getD sizes i 0 ≡ m) → Equations-before (i + 1) p ks points sizes work m columns t

@@ -49,7 +49,8 @@ pub record KeptPoints (c : Call) (listed : Listed (c .modulus)) (after sizes : L
 module _ (c : Call) (pass : Passes (table c)) (after sizes : List ℕ)
     (look : Looks (point-count c) (c .modulus) (c .first-list) (c .second-list) (c .points) (c .work) after sizes) where
   pub within : Within most-points (point-count c) sizes
-  within = record { within = let e = look .sized .long in let f = few-points c pass in omega arith; few = few-points c pass }
+  within =
+      record { within = let e = look .sized .long in let f = few-points c pass in omega arith; few = few-points c pass }
 
   pub room-after : work-room ≤ length after
   room-after = let e = look .same-length in let w = work-fits c pass in omega arith
@@ -86,7 +87,8 @@ module _ {c : Call} {after sizes : List ℕ} {m count : ℕ} (good : SomeGood c 
   count-small = let l = alike-most m (take n sizes) in let e = sized in let f = few-points c pass in let i = good .is-count in omega arith
 
   pub counts-fit : (bad : ℕ) → bad ≡ alike 0 (take (point-count c) sizes) → bad + count ≤ point-count c
-  counts-fit bad is-bad = let l = alike-two 0 m (λ e. good .some (sym e)) (take n sizes) in let e = sized in let i = good .is-count in omega arith
+  counts-fit bad is-bad =
+      let l = alike-two 0 m (λ e. good .some (sym e)) (take n sizes) in let e = sized in let i = good .is-count in omega arith
 
   pub columns-fit : Columns (length (c .skeleton) + count)
   columns-fit =
@@ -122,7 +124,8 @@ module _ {c : Call} {after sizes : List ℕ} {m count : ℕ} (good : SomeGood c 
       ∙ ap (λ (s : ℕ). kept-of P s (lent-points c listed) (looks-of c)) (sym next)
 
   counted : count ≡ alike (suc d) (sizes-of (looks-of c))
-  counted = good .is-count ∙ ap (alike m) (sizes-are c pass after sizes (good .look)) ∙ ap (λ (s : ℕ). alike s (sizes-of (looks-of c))) (sym next)
+  counted =
+      good .is-count ∙ ap (alike m) (sizes-are c pass after sizes (good .look)) ∙ ap (λ (s : ℕ). alike s (sizes-of (looks-of c))) (sym next)
 
   kept-counted : length kept ≡ count
   kept-counted = kept-count P (A c listed) (B c listed) (suc d) (lent-points c listed) (looks-of c) (looked c pass listed) ∙ sym counted
@@ -131,7 +134,8 @@ module _ {c : Call} {after sizes : List ℕ} {m count : ℕ} (good : SomeGood c 
   some-first = first-kept kept (let e = kept-counted in let l = some-kept in let i = good .is-count in omega arith)
 
   at-least : AtLeast (suc d) (sizes-of (looks-of c))
-  at-least = subst (λ (s : ℕ). AtLeast s (sizes-of (looks-of c))) (sym next) (subst (AtLeast m) (sizes-are c pass after sizes (good .look)) (facts .below))
+  at-least =
+      subst (λ (s : ℕ). AtLeast s (sizes-of (looks-of c))) (sym next) (subst (AtLeast m) (sizes-are c pass after sizes (good .look)) (facts .below))
 
   pub kept-points : KeptPoints c (right-lists c (good .pass) .is-listed) after sizes m count
   kept-points = record {

@@ -33,8 +33,10 @@ lesser-is a b = go (ℕ-discrete b 0) (ℕ-discrete a 0) (decLt b a)
     go : Dec (b ≡ 0) → Dec (a ≡ 0) → Dec (b < a) → Lesser a b (lesser a b)
     go (yes e) y z = rw (eq-eqb b 0 e, lesser) (first (inl e))
     go (no n) (yes e) z = rw (ne-eqb b 0 n, lesser) (rw (eq-eqb a 0 e, lesser) (second n (inl e)))
-    go (no n) (no m) (yes l) = rw (ne-eqb b 0 n, lesser) (rw (ne-eqb a 0 m, lesser) (rw (lt-ltb b a l, lesser) (second n (inr l))))
-    go (no n) (no m) (no l) = rw (ne-eqb b 0 n, lesser) (rw (ne-eqb a 0 m, lesser) (rw (le-ltb b a (omega arith), lesser) (first (inr (m, omega arith)))))
+    go (no n) (no m) (yes l) =
+        rw (ne-eqb b 0 n, lesser) (rw (ne-eqb a 0 m, lesser) (rw (lt-ltb b a l, lesser) (second n (inr l))))
+    go (no n) (no m) (no l) =
+        rw (ne-eqb b 0 n, lesser) (rw (ne-eqb a 0 m, lesser) (rw (le-ltb b a (omega arith), lesser) (first (inr (m, omega arith)))))
 
 -- each size is 0 or at least m
 abbrev pub AtLeast : ℕ → List ℕ → Type 0
@@ -59,7 +61,8 @@ alike-here s sizes = rw (eq-eqb s s refl, alike) (omega arith)
 
 alike-later : (m s : ℕ) (sizes : List ℕ) → 0 < alike m sizes → 0 < alike m (s ∷ sizes)
 unfolding alike
-alike-later m s sizes l = elim (ℕ-discrete s m) [ yes e ↦ rw (eq-eqb s m e, alike) (omega arith) | no n ↦ rw (ne-eqb s m n, alike) l ]
+alike-later m s sizes l =
+    elim (ℕ-discrete s m) [ yes e ↦ rw (eq-eqb s m e, alike) (omega arith) | no n ↦ rw (ne-eqb s m n, alike) l ]
 
 -- a size counts at most as often as there are sizes, and so do two different ones together
 pub alike-most : (a : ℕ) (l : List ℕ) → alike a l ≤ length l
@@ -83,7 +86,8 @@ alike-two a b n (s ∷ l) = go (ℕ-discrete s a) (ℕ-discrete s b) (alike-two 
 -- the least size is the least
 pub least-is : (a : ℕ) (sizes : List ℕ) → Least a sizes (fold with-size sizes a)
 unfolding fold
-least-is a [] = record { below-first = inr (omega arith); below = tt; zero-first = λ e. e; zero = λ e. tt; reached = inl refl }
+least-is a [] =
+    record { below-first = inr (omega arith); below = tt; zero-first = λ e. e; zero = λ e. tt; reached = inl refl }
 least-is a (s ∷ sizes) = go (lesser a s) (lesser-is a s) (fold with-size sizes (lesser a s)) (least-is (lesser a s) sizes)
   where
     go : (b : ℕ) → Lesser a s b → (m : ℕ) → Least b sizes m → Least a (s ∷ sizes) m

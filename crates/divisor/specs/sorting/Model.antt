@@ -16,7 +16,8 @@ sizes-of looks = map (λ (r : PointImage). r .size) looks
 
 -- the less of two sizes, of which 0 is none
 unfoldable pub lesser : ℕ → ℕ → ℕ
-lesser a b = elim (eqb b 0) [ true ↦ a | false ↦ elim (eqb a 0) [ true ↦ b | false ↦ elim (ltb b a) [ true ↦ b | false ↦ a ] ] ]
+lesser a b =
+    elim (eqb b 0) [ true ↦ a | false ↦ elim (eqb a 0) [ true ↦ b | false ↦ elim (ltb b a) [ true ↦ b | false ↦ a ] ] ]
 
 -- the least so far, with one more size
 abbrev pub with-size : ℕ → ℕ → ℕ

@@ -40,10 +40,12 @@ module _ (p f : ℕ) (ks values : List ℕ) (i : ℕ) (long : length ks ≤ leng
   keys-left h = drop-cons ks i 0 h ∙ ap (λ (k : ℕ). getD ks i 0 ∷ drop k ks) (sym (add-one i))
 
   pub left-passed : i < length ks → getD values i 0 ≡ 0 → terms-left i ≡ terms-left (i + 1)
-  left-passed h e = ap₂ (scaled-terms p f) (keys-left h) (next-left values (length ks) i long h) ∙ scaled-zero p f (getD ks i 0) (getD values i 0) _ _ e
+  left-passed h e =
+      ap₂ (scaled-terms p f) (keys-left h) (next-left values (length ks) i long h) ∙ scaled-zero p f (getD ks i 0) (getD values i 0) _ _ e
 
   pub left-taken : i < length ks → ¬ (getD values i 0 ≡ 0) → terms-left i ≡ keyed (getD ks i 0) ((getD values i 0 * f) % p) ∷ terms-left (i + 1)
-  left-taken h e = ap₂ (scaled-terms p f) (keys-left h) (next-left values (length ks) i long h) ∙ scaled-here p f (getD ks i 0) (getD values i 0) _ _ e
+  left-taken h e =
+      ap₂ (scaled-terms p f) (keys-left h) (next-left values (length ks) i long h) ∙ scaled-here p f (getD ks i 0) (getD values i 0) _ _ e
 
   pub left-none : length ks ≤ i → terms-left i ≡ []
   unfolding scaled-terms

@@ -46,13 +46,15 @@ module _ (p : ℕ) (t : Table) (i : ℕ) where
 pub same-row : (p : ℕ) (t u : Table) (i n : ℕ) (T : Equations (Fp p)) → row-at u i ≡ row-at t i → columns-of p u (suc i) n ≡ T
     → columns-of p u i (suc n) ≡ column (eqb (diagonal t i) 0) (entries p (row-at t i .cells) (suc i) (suc n)) T
 unfolding columns-of
-same-row p t u i n T same behind = ap₂ (λ r rest. column (eqb (cell r i) 0) (entries p (r .cells) (suc i) (suc n)) rest) same behind
+same-row p t u i n T same behind =
+    ap₂ (λ r rest. column (eqb (cell r i) 0) (entries p (r .cells) (suc i) (suc n)) rest) same behind
 
 -- the columns from i on are known by the rows from i on
 pub columns-same : (p : ℕ) (t u : Table) (i n : ℕ) → ((k : ℕ) → i ≤ k → row-at u k ≡ row-at t k) → columns-of p u i n ≡ columns-of p t i n
 unfolding columns-of
 columns-same p t u i zero h = ap (λ r. last-column (eqb (cell r i) 0)) (h i (omega arith))
-columns-same p t u i (suc n) h = same-row p t u i n (columns-of p t (suc i) n) (h i (omega arith)) (columns-same p t u (suc i) n (λ k l. h k (omega arith)))
+columns-same p t u i (suc n) h =
+    same-row p t u i n (columns-of p t (suc i) n) (h i (omega arith)) (columns-same p t u (suc i) n (λ k l. h k (omega arith)))
 
 -- the empty table is that of no equation
 pub empty-columns : (p columns i n : ℕ) → columns-of p (empty-table columns) i n ≡ fresh n
@@ -71,7 +73,8 @@ kind-as false b = some-kind b
 
 free-columns : (p : ℕ) (t : Table) (n i : ℕ) → kind-from n i t ≡ some-kind (has-free (columns-of p t i n))
 unfolding kind-from columns-of
-free-columns p t zero i = elim (eqb (diagonal t i) 0) as (λ b. One ≡ some-kind (has-free (last-column {A = Fp p} b))) [ true ↦ refl | false ↦ refl ]
+free-columns p t zero i =
+    elim (eqb (diagonal t i) 0) as (λ b. One ≡ some-kind (has-free (last-column {A = Fp p} b))) [ true ↦ refl | false ↦ refl ]
 free-columns p t (suc n) i = elim (ℕ-discrete (diagonal t i) 0) [
   | yes z ↦ rw (eq-eqb (diagonal t i) 0 z, kind-from, columns-of)
   | no z ↦ rw (ne-eqb (diagonal t i) 0 z, kind-from, columns-of) (free-columns p t n (suc i))

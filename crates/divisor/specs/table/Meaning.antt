@@ -34,7 +34,8 @@ last-column false = failed
 -- the columns from i on, n of them and the last one
 unfoldable pub columns-of : (p : ℕ) → Table → ℕ → ℕ → Equations (Fp p)
 columns-of p t i zero = last-column (eqb (diagonal t i) 0)
-columns-of p t i (suc n) = column (eqb (diagonal t i) 0) (entries p (row-at t i .cells) (suc i) (suc n)) (columns-of p t (suc i) n)
+columns-of p t i (suc n) =
+    column (eqb (diagonal t i) 0) (entries p (row-at t i .cells) (suc i) (suc n)) (columns-of p t (suc i) n)
 
 -- an equation of n unknowns, and a table of them
 abbrev pub row-of : (p n : ℕ) → Row → List (Fp p)

@@ -9,7 +9,8 @@ use Rattle.divisor.specs.declared.table.Row.{Row}
 use Rattle.divisor.specs.table.Model.{most-columns, cell, altered, minus, scaled-row, RowReady}
 
 pub altered-at : (j n : ℕ) (h : ℕ → ℕ) (e : Row) (k : ℕ) → j ≤ k → k < n → k < most-columns → cell (altered j n h e) k ≡ h k
-altered-at j n h e k from to small = cells-at (between j n h (e .cells)) most-columns k small ∙ between-in j n h (e .cells) k from to
+altered-at j n h e k from to small =
+    cells-at (between j n h (e .cells)) most-columns k small ∙ between-in j n h (e .cells) k from to
 
 -- an equation stays one
 module _ (p : ℕ) (e : Row) (j n : ℕ) (ok : RowReady p e) where

@@ -67,7 +67,8 @@ module _ (p : ℕ) (P : Prime p) where
       kept-row = getD-set-same (t .rows) i (scaled-row p e i (t .columns)) no-row (omega (arith, ready .size))
 
       kept-diagonal : ¬ (cell e i ≡ 0) → ¬ (diagonal (kept p t i e) i ≡ 0)
-      kept-diagonal z q = scaled-diagonal p P e i (t .columns) most within (ok .below i) z (ap (λ r. cell r i) (sym kept-row) ∙ q)
+      kept-diagonal z q =
+          scaled-diagonal p P e i (t .columns) most within (ok .below i) z (ap (λ r. cell r i) (sym kept-row) ∙ q)
 
       kept-behind : (n : ℕ) → columns-of p (kept p t i e) (suc i) n ≡ columns-of p t (suc i) n
       kept-behind n =
@@ -143,7 +144,8 @@ module _ (p : ℕ) (P : Prime p) where
         → columns-of p (insert (suc n) i p t e) i n ≡ step K (columns-of p t i n) (entries p (e .cells) i (suc n))
     unfolding entries
     columns-step zero i e ok size = last-step e ok i (omega arith)
-    columns-step (suc n) i e ok size = column-step e ok i (omega arith) n size (λ f k. columns-step n (suc i) f k (omega arith))
+    columns-step (suc n) i e ok size =
+        column-step e ok i (omega arith) n size (λ f k. columns-step n (suc i) f k (omega arith))
 
     -- a step of the model is a step of the field's table
     pub table-step : (n : ℕ) (e : Row) → RowReady p e → suc n ≡ t .columns → table-of p n (with-row p t e) ≡ step K (table-of p n t) (row-of p n e)

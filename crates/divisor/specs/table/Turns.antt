@@ -55,7 +55,8 @@ module _ (p : ℕ) (t : Table) (e : Row) (j : ℕ) where
 -- an equation without entries adds nothing
 insert-blank : (p : ℕ) (t : Table) (e : Row) (n j : ℕ) → ((k : ℕ) → k < j + n → cell e k ≡ 0) → insert n j p t e ≡ t
 insert-blank p t e zero j z = (unfold insert in refl)
-insert-blank p t e (suc n) j z = insert-at-zero p t e j n (z j (omega arith)) ∙ insert-blank p t e n (suc j) (λ k l. z k (omega arith))
+insert-blank p t e (suc n) j z =
+    insert-at-zero p t e j n (z j (omega arith)) ∙ insert-blank p t e n (suc j) (λ k l. z k (omega arith))
 
 pub blank-adds-nothing : (p : ℕ) (t : Table) (e : Row) → t .columns ≤ most-columns → (place : ℕ) → most-columns ≤ place → Searched (Entry e) most-columns place
     → with-row p t e ≡ t
@@ -81,13 +82,16 @@ module _ (t : Table) where
   one-from : (n i : ℕ) → ((k : ℕ) → k < i + n → ¬ (diagonal t k ≡ 0)) → kind-from n i t ≡ One
   unfolding kind-from
   one-from zero i h = refl
-  one-from (suc n) i h = rw (ne-eqb (diagonal t i) 0 (h i (omega arith)), kind-from) (one-from n (suc i) (λ k l. h k (omega arith)))
+  one-from (suc n) i h =
+      rw (ne-eqb (diagonal t i) 0 (h i (omega arith)), kind-from) (one-from n (suc i) (λ k l. h k (omega arith)))
 
   module _ (z : diagonal t (t .columns - 1) ≡ 0) where
     pub kind-several : (k : ℕ) → k < t .columns - 1 → diagonal t k ≡ 0 → kind t ≡ Several
     unfolding kind
-    kind-several k l y = rw (eq-eqb (diagonal t (t .columns - 1)) 0 z, kind) (several-from (t .columns - 1) 0 k (omega arith) (omega arith) y)
+    kind-several k l y =
+        rw (eq-eqb (diagonal t (t .columns - 1)) 0 z, kind) (several-from (t .columns - 1) 0 k (omega arith) (omega arith) y)
 
     pub kind-one : ((k : ℕ) → k < t .columns - 1 → ¬ (diagonal t k ≡ 0)) → kind t ≡ One
     unfolding kind
-    kind-one h = rw (eq-eqb (diagonal t (t .columns - 1)) 0 z, kind) (one-from (t .columns - 1) 0 (λ k l. h k (omega arith)))
+    kind-one h =
+        rw (eq-eqb (diagonal t (t .columns - 1)) 0 z, kind) (one-from (t .columns - 1) 0 (λ k l. h k (omega arith)))

@@ -37,7 +37,8 @@ module _ (p : ℕ) (P : Prime p) where
   inserted-at (suc j) (suc (suc (suc n))) e [] h y z w = absurd (omega arith)
   inserted-at (suc j) (suc (suc (suc n))) e (a ∷ []) h y z w = absurd (omega arith)
   inserted-at (suc j) (suc (suc (suc n))) e (a ∷ b ∷ []) h y z w = absurd (omega arith)
-  inserted-at (suc j) (suc (suc (suc n))) e (a ∷ b ∷ c ∷ l) h y z w = there (inserted-at j n (omega arith) l (omega arith) y z w)
+  inserted-at (suc j) (suc (suc (suc n))) e (a ∷ b ∷ c ∷ l) h y z w =
+      there (inserted-at j n (omega arith) l (omega arith) y z w)
 
   again-at : (i m j n : ℕ) → m ≡ 3 * i → n ≡ 3 * j → i < j → (l : List ℕ) → n ≤ length l
       → Again (point-of p P (take 3 (drop m l))) (points-of p P l) (points-of p P (take n l ++ (take 3 (drop m l) ++ drop n l)))
@@ -49,7 +50,8 @@ module _ (p : ℕ) (P : Prime p) where
   again-at i m (suc j) (suc (suc (suc n))) d e k [] h = absurd (omega arith)
   again-at i m (suc j) (suc (suc (suc n))) d e k (y ∷ []) h = absurd (omega arith)
   again-at i m (suc j) (suc (suc (suc n))) d e k (y ∷ z ∷ []) h = absurd (omega arith)
-  again-at zero zero (suc j) (suc (suc (suc n))) d e k (y ∷ z ∷ w ∷ l) h = behind (inserted-at j n (omega arith) l (omega arith) y z w)
+  again-at zero zero (suc j) (suc (suc (suc n))) d e k (y ∷ z ∷ w ∷ l) h =
+      behind (inserted-at j n (omega arith) l (omega arith) y z w)
   again-at zero (suc m) (suc j) (suc (suc (suc n))) d e k (y ∷ z ∷ w ∷ l) h = absurd (omega arith)
   again-at (suc i) zero (suc j) (suc (suc (suc n))) d e k (y ∷ z ∷ w ∷ l) h = absurd (omega arith)
   again-at (suc i) (suc zero) (suc j) (suc (suc (suc n))) d e k (y ∷ z ∷ w ∷ l) h = absurd (omega arith)

@@ -109,7 +109,8 @@ module _ (K : Field) where
 
     -- a point whose image is monic has one multiplier
     one-multiplier : (k : Kept K) (d : ℕ) → d < 8 → k .image d ≡ 𝟙 → (m n : Car) → Here k m → Here k n → m ≡ n
-    one-multiplier k d l one m n h e = sym (mul-one m) ∙ ap (m *_) (sym one) ∙ sym (h d l) ∙ e d l ∙ ap (n *_) one ∙ mul-one n
+    one-multiplier k d l one m n h e =
+        sym (mul-one m) ∙ ap (m *_) (sym one) ∙ sym (h d l) ∙ e d l ∙ ap (n *_) one ∙ mul-one n
 
     -- no knowledge: what solves with it solves without it, and has no freedom more
     pub repeated-adds-nothing : {k : Kept K} {ks ls : List (Kept K)} (d : ℕ) → d < 8 → k .image d ≡ 𝟙 → (b : Again k ks ls) (ms : List Car)
@@ -119,7 +120,8 @@ module _ (K : Field) where
         let r = out-holds a ms (e .1) in
         ((e .0, r .2), ap (m ∷_) (ap (λ (x : Car). put a x (take-out a ms)) (one-multiplier k d l one m (r .0) (e .0) (r .1)) ∙ r .3))
     repeated-adds-nothing d l one (later b) [] e = absurd e
-    repeated-adds-nothing d l one (later b) (m ∷ ms) e = let r = repeated-adds-nothing d l one b ms (e .1) in ((e .0, r .0), ap (m ∷_) (r .1))
+    repeated-adds-nothing d l one (later b) (m ∷ ms) e =
+        let r = repeated-adds-nothing d l one b ms (e .1) in ((e .0, r .0), ap (m ∷_) (r .1))
 
   -- where solutions go over to solutions and back, with the same divisor, the verdict is the same
   module _ (A B : Polynomial K) (es : List Exponents) (ks ls : List (Kept K)) (to from : Unknowns K → Unknowns K)
@@ -167,10 +169,12 @@ module _ (K : Field) where
     }
 
     back-less : (s : Unknowns K) → Solution K es ks s → with-less (with-more s) ≡ s
-    back-less s h = λ i. record { skeleton = s .skeleton; multipliers = less-more (s .skeleton) b (s .multipliers) (h .holds) i }
+    back-less s h =
+        λ i. record { skeleton = s .skeleton; multipliers = less-more (s .skeleton) b (s .multipliers) (h .holds) i }
 
     back-more : (s : Unknowns K) → Solution K es ls s → with-more (with-less s) ≡ s
-    back-more s h = λ i. record { skeleton = s .skeleton; multipliers = repeated-adds-nothing (s .skeleton) d small one b (s .multipliers) (h .holds) .1 i }
+    back-more s h =
+        λ i. record { skeleton = s .skeleton; multipliers = repeated-adds-nothing (s .skeleton) d small one b (s .multipliers) (h .holds) .1 i }
 
     pub repeated-verdict : (n : ℕ) (G : Polynomial K) → Verdict K A B es ks n G ↔ Verdict K A B es ls n G
     repeated-verdict n G = (

@@ -82,10 +82,13 @@ module _ (K : Field) (A B : Polynomial K) where
     sorted-again : {at : Point R} {ps qs : List (Point R)} {b u : ℕ} {ks : List (Kept K)} → Again at ps qs → Sorted K A B d ps b u ks
         → (c v : ℕ) × (ls : List (Kept K)) × Sorted K A B d qs c v ls × Counted at b u ks c v ls
     sorted-again (behind a) (bad x s) = (_, _, _, bad x (inserted-bad x a s), bad-more x)
-    sorted-again (behind a) (unlucky e U i l s) = (_, _, _, unlucky e U i l (inserted-unlucky e U i l a s), unlucky-more e U i l)
-    sorted-again (behind a) (keep U i s) = let r = inserted-kept U i a s in (_, _, _, keep U i (r .1), kept-more U i (behind (r .2)))
+    sorted-again (behind a) (unlucky e U i l s) =
+        (_, _, _, unlucky e U i l (inserted-unlucky e U i l a s), unlucky-more e U i l)
+    sorted-again (behind a) (keep U i s) =
+        let r = inserted-kept U i a s in (_, _, _, keep U i (r .1), kept-more U i (behind (r .2)))
     sorted-again (later q) (bad x s) = let r = sorted-again q s in (_, _, _, bad x (r .3), counted-bad (r .4))
-    sorted-again (later q) (unlucky e U i l s) = let r = sorted-again q s in (_, _, _, unlucky e U i l (r .3), counted-unlucky (r .4))
+    sorted-again (later q) (unlucky e U i l s) =
+        let r = sorted-again q s in (_, _, _, unlucky e U i l (r .3), counted-unlucky (r .4))
     sorted-again (later q) (keep U i s) = let r = sorted-again q s in (_, _, _, keep U i (r .3), counted-kept (r .4))
 
   -- an answer that differs in one count of points alone
@@ -102,7 +105,8 @@ module _ (K : Field) (A B : Polynomial K) where
     one-more = subst (λ (n : ℕ). OneMore K A B at (report NO_GOOD_POINT (none-good (length ps)) 0) (report NO_GOOD_POINT (none-good n) 0))
         (sym (again-length a)) (one-bad (bad-there a h));
   }
-  repeated-point small es {at} {ps} {qs} a r G (some-good d b u k kept s n H v) = let t = sorted-again d a s in go (t .0) (t .1) (t .2) (t .3) (t .4)
+  repeated-point small es {at} {ps} {qs} a r G (some-good d b u k kept s n H v) =
+      let t = sorted-again d a s in go (t .0) (t .1) (t .2) (t .3) (t .4)
     where
       told : ℕ → CandidateRecord
       told m = report n (record { d = d; bad = b; unlucky = u; kept = m }) (length H)
@@ -122,5 +126,6 @@ module _ (K : Field) (A B : Polynomial K) where
 
       go : (c w : ℕ) (ls : List (Kept K)) → Sorted K A B d qs c w ls → Counted d at b u (k ∷ kept) c w ls → AnsweredAlike es at qs before H
       go c w ls t (bad-more x) = record { found = _; answer = some-good d c w k kept t n H v; one-more = one-bad x }
-      go c w ls t (unlucky-more e U i l) = record { found = _; answer = some-good d c w k kept t n H v; one-more = one-unlucky e U i l }
+      go c w ls t (unlucky-more e U i l) =
+          record { found = _; answer = some-good d c w k kept t n H v; one-more = one-unlucky e U i l }
       go c w ls t (kept-more U i q) = kept-once-more ls U i q t

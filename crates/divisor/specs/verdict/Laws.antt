@@ -120,4 +120,5 @@ module _ {p : ℕ} {A B ks : List ℕ} (s : Solved) {output work : List ℕ} (e 
 
   pub settled-only : {output-after work-after : List ℕ} {r : Ruling} → Settled p A B ks (only (s .values)) output output-after work work-after r
       → Settled p A B ks s output output-after work work-after r
-  settled-only {output-after} {work-after} {r} = subst (λ (v : Solved). Settled p A B ks v output output-after work work-after r) (is-only s e)
+  settled-only {output-after} {work-after} {r} =
+      subst (λ (v : Solved). Settled p A B ks v output output-after work work-after r) (is-only s e)

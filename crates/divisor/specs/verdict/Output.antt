@@ -62,8 +62,10 @@ module _ (K : Field) where
 
   proposed-within : (f : Polynomial K) (keys : List ℕ) → map (λ (t : Term R). t .exponents) f ≡ map exponents keys → KeyedWithin f (length keys)
   proposed-within [] [] e = record { keyed = tt; count = omega arith }
-  proposed-within [] (k ∷ ks) e = absurd (let z : _≡_ {A = ℕ} 0 (suc (length (map exponents ks))) = ap length e in omega arith)
-  proposed-within (t ∷ ts) [] e = absurd (let z : suc (length (map (λ (t : Term R). t .exponents) ts)) ≡ 0 = ap length e in omega arith)
+  proposed-within [] (k ∷ ks) e =
+      absurd (let z : _≡_ {A = ℕ} 0 (suc (length (map exponents ks))) = ap length e in omega arith)
+  proposed-within (t ∷ ts) [] e =
+      absurd (let z : suc (length (map (λ (t : Term R). t .exponents) ts)) ≡ 0 = ap length e in omega arith)
   proposed-within (t ∷ ts) (k ∷ ks) e =
       let q : t .exponents ≡ exponents k = cc in
       let r : map (λ (t : Term R). t .exponents) ts ≡ map exponents ks = cc in

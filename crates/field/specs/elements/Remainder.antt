@@ -21,7 +21,8 @@ once-reduced n p l h = let m : n - p < p = omega arith in sym (mod-eq-sub-mod l 
 -- the modulus less a number added: the remainder is the difference, or the modulus less the difference the other way
 module _ (a b p : ℕ) (below : a < p) (other : b < p) where
   pub difference-up : b ≤ a → a - b ≡ (a + (p - b)) % p
-  difference-up l = let e : a - b ≡ a + (p - b) - p = omega arith in e ∙ once-reduced (a + (p - b)) p (omega arith) (omega arith)
+  difference-up l =
+      let e : a - b ≡ a + (p - b) - p = omega arith in e ∙ once-reduced (a + (p - b)) p (omega arith) (omega arith)
 
   pub difference-down : a < b → p - (b - a) ≡ (a + (p - b)) % p
   difference-down l = let e : p - (b - a) ≡ a + (p - b) = omega arith in let m : a + (p - b) < p = omega arith in e ∙ sym (mod-eq-of-lt m)

@@ -36,7 +36,8 @@ one-place-append (l ∷ front) back h k = (h .0, one-place-append front back (h 
 -- two faults of one table are equal
 pub refuses-determined : (lines : List Line) → OnePlaceEach lines → (f g : Fault) → Refuses lines f → Refuses lines g → f ≡ g
 refuses-determined [] one f g h k = absurd h
-refuses-determined (l ∷ lines) one f g (inl h) (inl k) = h .1 ∙ ap (fault (l .number)) (one .0 (h .0) (k .0) (h .2) (k .2)) ∙ sym (k .1)
+refuses-determined (l ∷ lines) one f g (inl h) (inl k) =
+    h .1 ∙ ap (fault (l .number)) (one .0 (h .0) (k .0) (h .2) (k .2)) ∙ sym (k .1)
 refuses-determined (l ∷ lines) one f g (inl h) (inr k) = absurd (k .0 (h .0) (h .2))
 refuses-determined (l ∷ lines) one f g (inr h) (inl k) = absurd (h .0 (k .0) (k .2))
 refuses-determined (l ∷ lines) one f g (inr h) (inr k) = refuses-determined lines (one .1) f g (h .1) (k .1)

@@ -56,7 +56,8 @@ module _ {h : ℕ → ℕ} {n : ℕ} {old : List ℕ} {i : ℕ} where
         }
       where
         go : (j : ℕ) → j < i + 1 → Dec (j ≡ i) → getD (set r i v) j 0 ≡ h j
-        go j k (yes q) = ap (λ (m : ℕ). getD (set r i v) m 0) q ∙ getD-set-same r i v 0 (omega (arith, f .long)) ∙ e ∙ ap h (sym q)
+        go j k (yes q) =
+            ap (λ (m : ℕ). getD (set r i v) m 0) q ∙ getD-set-same r i v 0 (omega (arith, f .long)) ∙ e ∙ ap h (sym q)
         go j k (no q) = getD-set-other r i j v 0 q ∙ f .done j (omega arith)
 
     -- nothing is stored where the right number stands
@@ -70,7 +71,8 @@ module _ {h : ℕ → ℕ} {n : ℕ} {old : List ℕ} {i : ℕ} where
 
     -- the loop may end where the right numbers stand from there on
     pub filled-stop : ((j : ℕ) → i ≤ j → j < n → getD old j 0 ≡ h j) → r ≡ cells h n
-    filled-stop s = cells-is h n r (f .long) (λ j k. elim (decLt j i) [ yes l ↦ f .done j l | no l ↦ f .left j (omega arith) ∙ s j (omega arith) k ])
+    filled-stop s =
+        cells-is h n r (f .long) (λ j k. elim (decLt j i) [ yes l ↦ f .done j l | no l ↦ f .left j (omega arith) ∙ s j (omega arith) k ])
 
     pub filled-end : n ≤ i → r ≡ cells h n
     filled-end l = filled-stop (λ j a b. absurd (omega arith))
@@ -89,7 +91,8 @@ module _ {h : ℕ → ℕ} {n : ℕ} {old : List ℕ} {i : ℕ} where
         sized = omega (arith, length-append new (drop i old), length-drop i old, f .within, f .long, counted)
 
         go : (j : ℕ) → Dec (j < i) → getD r j 0 ≡ getD (new ++ drop i old) j 0
-        go j (yes l) = f .done j l ∙ sym (cells-at h i j l) ∙ sym (List·getD-append new (drop i old) 0 j (omega (arith, counted)))
+        go j (yes l) =
+            f .done j l ∙ sym (cells-at h i j l) ∙ sym (List·getD-append new (drop i old) 0 j (omega (arith, counted)))
         go j (no l) =
             let s : j ≡ length new + (j - i) = omega (arith, counted) in
             let t : j ≡ i + (j - i) = omega arith in
@@ -105,7 +108,8 @@ module _ (i n : ℕ) (h : ℕ → ℕ) (old : List ℕ) (k : ℕ) where
   pub between-out : (k < i) ⊎ (n ≤ k) → between i n h old k ≡ getD old k 0
   unfolding between
   between-out (inl l) = rw (lt-ltb k i l, between)
-  between-out (inr m) = elim (decLt k i) [ yes l ↦ rw (lt-ltb k i l, between) | no l ↦ rw (le-ltb k i (omega arith), le-ltb k n m, between) ]
+  between-out (inr m) =
+      elim (decLt k i) [ yes l ↦ rw (lt-ltb k i l, between) | no l ↦ rw (le-ltb k i (omega arith), le-ltb k n m, between) ]
 
 pub between-all : (P : ℕ → Type 0) (i n : ℕ) (h : ℕ → ℕ) (old : List ℕ) (k : ℕ) → P (h k) → P (getD old k 0) → P (between i n h old k)
 unfolding between
@@ -122,7 +126,8 @@ module _ {i n : ℕ} {h : ℕ → ℕ} {size : ℕ} {old : List ℕ} where
 
   module _ {k : ℕ} {r : List ℕ} (f : FilledPart i n h size old k r) where
     pub part-next : k < n → n ≤ size → {v : ℕ} → v ≡ h k → FilledPart i n h size old (k + 1) (set r k v)
-    part-next l m e = record { from = omega (arith, f .from); filled = filled-next (f .filled) (omega arith) (e ∙ sym (between-in i n h old k (f .from) l)) }
+    part-next l m e =
+        record { from = omega (arith, f .from); filled = filled-next (f .filled) (omega arith) (e ∙ sym (between-in i n h old k (f .from) l)) }
 
     pub part-end : n ≤ k → r ≡ cells (between i n h old) size
     part-end l = filled-stop (f .filled) (λ j a b. sym (between-out i n h old j (inr (omega arith))))

@@ -23,13 +23,16 @@ pub record Collecting (all : List ℕ) (size : ℕ) (old out : List ℕ) (n : �
 
 module _ {all : List ℕ} {size : ℕ} {old : List ℕ} where
   pub collecting-start : length old ≡ size → Collecting all size old old 0 all
-  collecting-start e = record { few = omega arith; filled = filled-start (omega arith) e (λ j l. absurd (omega arith)); rest = refl }
+  collecting-start e =
+      record { few = omega arith; filled = filled-start (omega arith) e (λ j l. absurd (omega arith)); rest = refl }
 
   module _ {out : List ℕ} {n : ℕ} {left : List ℕ} (c : Collecting all size old out n left) where
     pub collecting-next : {v : ℕ} {later : List ℕ} → n < size → left ≡ v ∷ later → Collecting all size old (set out n v) (n + 1) later
     collecting-next {v} l e = record {
       few = omega (arith, length-drop n all, ap length (c .rest ∙ e));
-      filled = filled-next (c .filled) l (sym (ap (λ (k : ℕ). getD all k 0) (sym (add-zero n)) ∙ sym (getD-drop n all 0 0) ∙ ap (λ m. getD m 0 0) (c .rest ∙ e)));
+      filled =
+          filled-next (c .filled) l
+          (sym (ap (λ (k : ℕ). getD all k 0) (sym (add-zero n)) ∙ sym (getD-drop n all 0 0) ∙ ap (λ m. getD m 0 0) (c .rest ∙ e)));
       rest = sym (drop-drop 1 n all) ∙ ap (drop 1) (c .rest ∙ e);
     }
 

@@ -32,7 +32,8 @@ downwards (suc n) = n ∷ downwards n
 
 pub upwards-turn : (i n : ℕ) → i < n → upwards i (n - i) ≡ i ∷ upwards (i + 1) (n - (i + 1))
 unfolding upwards
-upwards-turn i n l = let e : n - i ≡ suc (n - (i + 1)) = omega arith in ap (upwards i) e ∙ ap (λ k. i ∷ upwards k (n - (i + 1))) (sym (add-one i))
+upwards-turn i n l =
+    let e : n - i ≡ suc (n - (i + 1)) = omega arith in ap (upwards i) e ∙ ap (λ k. i ∷ upwards k (n - (i + 1))) (sym (add-one i))
 
 pub upwards-end : (i n : ℕ) → n ≤ i → upwards i (n - i) ≡ []
 unfolding upwards
@@ -57,7 +58,12 @@ module _ {A : Type 0} {f : ℕ → A → A} {ts : List ℕ} {old : A} where
 
   module _ {i : ℕ} {a : A} (h : Folding f ts old i a) where
     pub folding-next : i < length ts → {b : A} → b ≡ f (getD ts i 0) a → Folding f ts old (i + 1) b
-    folding-next l e = record { within = omega arith; same = h .same ∙ fold-turn f a (drop-cons ts i 0 l ∙ ap (λ k. getD ts i 0 ∷ drop k ts) (sym (add-one i))) ∙ ap (fold f (drop (i + 1) ts)) (sym e) }
+    folding-next l e = record {
+      within = omega arith;
+      same =
+          h .same ∙ fold-turn f a (drop-cons ts i 0 l ∙ ap (λ k. getD ts i 0 ∷ drop k ts) (sym (add-one i)))
+          ∙ ap (fold f (drop (i + 1) ts)) (sym e);
+    }
 
     pub folding-end : length ts ≤ i → a ≡ fold f ts old
     folding-end l = sym (h .same ∙ fold-end f a (drop-of-length-le ts l))
@@ -81,13 +87,15 @@ module _ {A : Type 0} {f : ℕ → A → A} (Q : ℕ → Type 0) where
       → (a : A) → P a → P (fold f ts a)
   unfolding fold
   fold-keeps P step [] q a h = h
-  fold-keeps P step (t ∷ ts) q a h = fold-keeps P step ts (λ i l. q (suc i) (omega arith)) (f t a) (step t a (q 0 (omega arith)) h)
+  fold-keeps P step (t ∷ ts) q a h =
+      fold-keeps P step ts (λ i l. q (suc i) (omega arith)) (f t a) (step t a (q 0 (omega arith)) h)
 
   pub fold-through : (m : A → A) → ((t : ℕ) (a : A) → Q t → m (f t a) ≡ f t (m a)) → (ts : List ℕ) → ((i : ℕ) → i < length ts → Q (getD ts i 0))
       → (a : A) → m (fold f ts a) ≡ fold f ts (m a)
   unfolding fold
   fold-through m step [] q a = refl
-  fold-through m step (t ∷ ts) q a = fold-through m step ts (λ i l. q (suc i) (omega arith)) (f t a) ∙ ap (fold f ts) (step t a (q 0 (omega arith)))
+  fold-through m step (t ∷ ts) q a =
+      fold-through m step ts (λ i l. q (suc i) (omega arith)) (f t a) ∙ ap (fold f ts) (step t a (q 0 (omega arith)))
 
 -- where every member keeps it
 pub fold-always : {A : Type 0} {f : ℕ → A → A} (P : A → Type 0) → ((t : ℕ) (a : A) → P a → P (f t a)) → (ts : List ℕ) (a : A) → P a → P (fold f ts a)

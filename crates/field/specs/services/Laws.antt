@@ -28,8 +28,10 @@ pub arithmetic-determined : (lines : List Line) → OnePlaceEach lines
     → (a : Element) (r q : Answer) → Arithmetic lines Outcome a r → Arithmetic lines Outcome a q → r ≡ q
 arithmetic-determined lines one Outcome same a r q (refused f h) (refused g k) =
     ap (λ (f : Fault). answer f (element (a .modulus) 0)) (refuses-determined lines one f g h k)
-arithmetic-determined lines one Outcome same a r q (refused f h) (answered y k o) = absurd (not-passes-and-refuses lines f k h)
-arithmetic-determined lines one Outcome same a r q (answered x h o) (refused g k) = absurd (not-passes-and-refuses lines g h k)
+arithmetic-determined lines one Outcome same a r q (refused f h) (answered y k o) =
+    absurd (not-passes-and-refuses lines f k h)
+arithmetic-determined lines one Outcome same a r q (answered x h o) (refused g k) =
+    absurd (not-passes-and-refuses lines g h k)
 arithmetic-determined lines one Outcome same a r q (answered x h o) (answered y k u) =
     ap (λ (e : Element). answer none e) (same x y o u)
 

@@ -121,7 +121,8 @@ module _ (p : ℕ) (P : Prime p) where
   dense-from-upto : (k m : ℕ) (l : List ℕ) → ((i : ℕ) → m < k + i → getD l i 0 ≡ 0) → Upto R (exponents m) (dense-from k l)
   unfolding dense-from
   dense-from-upto k m [] h e o = refl
-  dense-from-upto k m (c ∷ l) h e o = ap₂ add (go (decLt m k)) (dense-from-upto (suc k) m l (λ i q. h (suc i) (omega arith)) e o) ∙ R .add-zero _
+  dense-from-upto k m (c ∷ l) h e o =
+      ap₂ add (go (decLt m k)) (dense-from-upto (suc k) m l (λ i q. h (suc i) (omega arith)) e o) ∙ R .add-zero _
     where
       go : Dec (m < k) → coef R (monomial R (exponents k) (el p c)) e ≡ el p 0
       go (yes q) =

@@ -53,7 +53,8 @@ no-cells = replicate keys 0
 
 pub no-cells-empty : Empty no-cells
 unfolding no-cells
-no-cells-empty = record { long = length-replicate {A = ℕ} keys 0; zeros = λ i. replicate-all (λ n. n ≡ 0) keys i 0 0 refl refl }
+no-cells-empty =
+    record { long = length-replicate {A = ℕ} keys 0; zeros = λ i. replicate-all (λ n. n ≡ 0) keys i 0 0 refl refl }
 
 -- a list spread over them means itself
 module _ (p : ℕ) (P : Prime p) (f : List ℕ) (hf : Falling p keys f) (l : List ℕ) (empty : Empty l) where
@@ -121,7 +122,8 @@ dividing can = let w = listed-below (can .is-listed) in search needs
 
 -- at most one term for each key
 pub found-terms-few : (p : ℕ) (f g l : List ℕ) → length (found p f g l) ≤ keys
-found-terms-few p f g l = by-lists p f g l [] (λ qs o. length qs ≤ keys) (λ e. omega arith) (λ e. found-few (setting p f g) keys (spread f l))
+found-terms-few p f g l =
+    by-lists p f g l [] (λ qs o. length qs ≤ keys) (λ e. omega arith) (λ e. found-few (setting p f g) keys (spread f l))
 
 module _ (p : ℕ) (P : Prime p) where
   pub divided-division : (f g : List ℕ) → Dividing p f g → (l c : List ℕ) → Empty l
@@ -129,7 +131,8 @@ module _ (p : ℕ) (P : Prime p) where
   divided-division [] [] h l c empty = absurd (omega (arith, h .some-dividend))
   divided-division [] (u ∷ us) h l c empty = absurd (omega (arith, h .some-dividend))
   divided-division (t ∷ ts) [] h l c empty = absurd (omega (arith, h .some-divisor))
-  divided-division (t ∷ ts) (u ∷ us) h l c empty = lists-division p P t ts u us (h .dividend-falls) (h .divisor-falls) (h .word) l c empty
+  divided-division (t ∷ ts) (u ∷ us) h l c empty =
+      lists-division p P t ts u us (h .dividend-falls) (h .divisor-falls) (h .word) l c empty
 
   -- a division that ends, with its terms and its answer
   pub record Ended (f g : List ℕ) : Type 0 where

@@ -63,7 +63,8 @@ module _ (d : Setting) where
       cell = getD-take keys work (k - 1) 0 (let c = g .cells in omega arith)
 
       pub going-stopped : fits d (k - 1) ≡ false → Stepped d before work false
-      going-stopped f = record { outcome = sym (g .same ∙ division-stopped d _ _ (omega arith) (λ z. nonzero (sym cell ∙ z)) f); rest = g .rest }
+      going-stopped f =
+          record { outcome = sym (g .same ∙ division-stopped d _ _ (omega arith) (λ z. nonzero (sym cell ∙ z)) f); rest = g .rest }
 
       -- a step: the quotient's coefficient q stored, the product taken away
       module _ {top : ℕ} (can : CanStep d top before) (f : fits d (k - 1) ≡ true) where

@@ -42,7 +42,8 @@ exponent-most in-w ts = refl
 
 -- the key of the greatest exponents has them
 pub most-exponents : (ts : List ℕ) → KeysBelow 0 keys ts → exponents (most-key ts) ≡ most-of ts
-most-exponents ts h = exponents-of-key (most-of ts) (record { y = most-small in-y ts h; z = most-small in-z ts h; w = most-small in-w ts h })
+most-exponents ts h =
+    exponents-of-key (most-of ts) (record { y = most-small in-y ts h; z = most-small in-z ts h; w = most-small in-w ts h })
 
 module _ (p : ℕ) (P : Prime p) where
   abbrev R : CommRing
@@ -64,11 +65,14 @@ module _ (p : ℕ) (P : Prime p) where
     stands : ¬ (coef R (poly p P ts) (exponents key) ≡ el p 0)
 
   reached : (v : Variable) (t : ℕ) (ts : List ℕ) (b : ℕ) → Falling p b (t ∷ ts) → Reached v b (t ∷ ts)
-  reached v t [] b h = record { key = key-of t; below = h .0; is-most = omega arith; stands = poly-lead p P t [] b h .stands }
-  reached v t (u ∷ us) b h = go (decLe (most v (u ∷ us)) (exponent v (exponents (key-of t)))) (reached v u us (key-of t) (h .3))
+  reached v t [] b h =
+      record { key = key-of t; below = h .0; is-most = omega arith; stands = poly-lead p P t [] b h .stands }
+  reached v t (u ∷ us) b h =
+      go (decLe (most v (u ∷ us)) (exponent v (exponents (key-of t)))) (reached v u us (key-of t) (h .3))
     where
       go : Dec (most v (u ∷ us) ≤ exponent v (exponents (key-of t))) → Reached v (key-of t) (u ∷ us) → Reached v b (t ∷ u ∷ us)
-      go (yes l) r = record { key = key-of t; below = h .0; is-most = omega arith; stands = poly-lead p P t (u ∷ us) b h .stands }
+      go (yes l) r =
+          record { key = key-of t; below = h .0; is-most = omega arith; stands = poly-lead p P t (u ∷ us) b h .stands }
       go (no n) r = record {
         key = r .key;
         below = let a = h .0 in let c = r .below in omega arith;

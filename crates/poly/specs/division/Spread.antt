@@ -46,7 +46,8 @@ module _ {j k : ℕ} (e : k ≡ suc j) (l : List ℕ) where
 
 gather-step : (k : ℕ) (l m : List ℕ) → getD l k 0 ≡ getD m k 0 → gathered k l ≡ gathered k m → Dec (getD l k 0 ≡ 0) → gathered (suc k) l ≡ gathered (suc k) m
 gather-step k l m e h (yes z) = gather-passed refl l z ∙ h ∙ sym (gather-passed refl m (sym e ∙ z))
-gather-step k l m e h (no n) = gather-taken refl l n ∙ ap₂ (λ (c : ℕ) (r : List ℕ). keyed k c ∷ r) e h ∙ sym (gather-taken refl m (λ z. n (e ∙ z)))
+gather-step k l m e h (no n) =
+    gather-taken refl l n ∙ ap₂ (λ (c : ℕ) (r : List ℕ). keyed k c ∷ r) e h ∙ sym (gather-taken refl m (λ z. n (e ∙ z)))
 
 -- only the cells below k count
 gather-set : (k j v : ℕ) (l : List ℕ) → k ≤ j → gathered k (set l j v) ≡ gathered k l

@@ -50,8 +50,10 @@ module _ (d : Setting) (Holds : ℕ → List ℕ → List ℕ → List ℕ → O
       cell : Dec (getD l k 0 ≡ 0) → (a : Bool) → fits d k ≡ a → ((m b : List ℕ) → Holds k m b (found-from d k m) (divide-from d k m b))
           → Holds (suc k) l c (found-from d (suc k) l) (divide-from d (suc k) l c)
       cell (yes e) a q again = rw (eq-eqb _ _ e, found-from, divide-from) (passes k l c _ _ e (again l c))
-      cell (no n) true q again = rw (ne-eqb _ _ n, found-from, divide-from) (rw (q, found-from, divide-from) (takes k l c _ _ n q (again _ _)))
-      cell (no n) false q again = rw (ne-eqb _ _ n, found-from, divide-from) (rw (q, found-from, divide-from) (stops k l c n q))
+      cell (no n) true q again =
+          rw (ne-eqb _ _ n, found-from, divide-from) (rw (q, found-from, divide-from) (takes k l c _ _ n q (again _ _)))
+      cell (no n) false q again =
+          rw (ne-eqb _ _ n, found-from, divide-from) (rw (q, found-from, divide-from) (stops k l c n q))
 
 -- no more terms than cells
 pub found-few : (d : Setting) (k : ℕ) (l : List ℕ) → length (found-from d k l) ≤ k

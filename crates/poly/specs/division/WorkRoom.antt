@@ -29,7 +29,8 @@ module _ (p s q n : ℕ) where
 -- a list spread over the cells
 module _ (n : ℕ) where
   pub take-spread : (ts l : List ℕ) → KeysBelow 0 n ts → take n (spread ts l) ≡ spread ts (take n l)
-  take-spread ts l h = fold-through (λ t. key-of t + 0 < n) (take n) (λ t m b. take-set-lt n m (key-of t) (coefficient-of t) (omega arith)) ts h l
+  take-spread ts l h =
+      fold-through (λ t. key-of t + 0 < n) (take n) (λ t m b. take-set-lt n m (key-of t) (coefficient-of t) (omega arith)) ts h l
 
   pub drop-spread : (ts l : List ℕ) → KeysBelow 0 n ts → drop n (spread ts l) ≡ drop n l
   drop-spread ts l h =
@@ -56,7 +57,8 @@ module _ (p s q : ℕ) (ts work : List ℕ) (small : s < keys) (within : KeysBel
   step-quotient = ap (take keys) behind ∙ take-set-lt keys (drop keys work) s q small
 
   pub step-beyond : beyond after ≡ beyond work
-  step-beyond = sym (drop-drop keys keys after) ∙ ap (drop keys) behind ∙ drop-set-lt keys (drop keys work) s q small ∙ drop-drop keys keys work
+  step-beyond =
+      sym (drop-drop keys keys after) ∙ ap (drop keys) behind ∙ drop-set-lt keys (drop keys work) s q small ∙ drop-drop keys keys work
 
 -- the parts are as long as there are keys, and 0 where the room was cleared
 module _ (work : List ℕ) (h : work-room ≤ length work) where

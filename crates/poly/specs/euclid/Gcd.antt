@@ -60,7 +60,8 @@ module _ {p : ℕ} (P : Prime p) where
       go : Dec (size g ≡ 0)
           → ((n : ℕ) (f g : List ℕ) → size g ≤ fuel → Eight p f → Leads n f → Eight p g → Gcd (series p f) (series p g) (euclid p fuel f g))
           → Gcd (series p f) (series p g) (euclid p (suc fuel) f g)
-      go (yes e) again = subst (Gcd (series p f) (series p g)) (sym (euclid-end p (suc fuel) f g e)) (alone n f g hf lf hg e)
+      go (yes e) again =
+          subst (Gcd (series p f) (series p g)) (sym (euclid-end p (suc fuel) f g e)) (alone n f g hf lf hg e)
       go (no q) again =
           let w =
           again (size g - 1) (turned p (size g) g) (rest p (size g) f g) (omega (arith, turn-smaller P f g hf hg q))
@@ -70,7 +71,8 @@ module _ {p : ℕ} (P : Prime p) where
 
   -- the degree is what the size says
   gcd-size : (a b : ℕ → Fp p) (u : List ℕ) (d : ℕ) → IsGcd P a b u d → size u ≡ suc d
-  gcd-size a b u d h = size-is 8 d u (eight-clear p u (h .eight)) (λ e. omega (arith, sym (h .monic .one) ∙ e)) (h .monic .clear)
+  gcd-size a b u d h =
+      size-is 8 d u (eight-clear p u (h .eight)) (λ e. omega (arith, sym (h .monic .one) ∙ e)) (h .monic .clear)
 
   module _ (a b : List ℕ) (ha : Eight p a) (q : ¬ (size a ≡ 0)) (hb : Eight p b) where
     abbrev n : ℕ

@@ -113,7 +113,8 @@ module _ {p : ℕ} (P : Prime p) where
     times i = (inverse * getD f i 0) % p
 
     times-el : (i : ℕ) → el p (inverse * getD f i 0) ≡ mul (inv (el p (getD f n 0))) (el p (getD f i 0))
-    times-el i = el-mul p inverse (getD f i 0) ∙ ap (λ (u : Fp p). mul u (el p (getD f i 0))) (el-val (inv (el p (getD f n 0))))
+    times-el i =
+        el-mul p inverse (getD f i 0) ∙ ap (λ (u : Fp p). mul u (el p (getD f i 0))) (el-val (inv (el p (getD f n 0))))
 
     monic-series : series p (monic p n f) ≡ over-lead (Modulo p P) n (series p f)
     unfolding monic scaled over-lead

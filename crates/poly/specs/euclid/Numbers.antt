@@ -70,7 +70,8 @@ module _ (p : ℕ) (pos : 0 < p) where
 
   pub subtract-eight : (c k : ℕ) (f g : List ℕ) → Eight p f → Eight p (subtract p c k f g)
   unfolding subtract
-  subtract-eight c k f g h = cells-eight _ (λ i l. between-all (λ n. n < p) k 8 (less-at p c k f g) f i (mod-lt _ pos) (h .below i))
+  subtract-eight c k f g h =
+      cells-eight _ (λ i l. between-all (λ n. n < p) k 8 (less-at p c k f g) f i (mod-lt _ pos) (h .below i))
 
   -- a step clears the power k + m, where g is monic of degree m and c stands there
   subtract-clear : (k m : ℕ) (f g : List ℕ) → Eight p f → Clear (suc k + m) f → getD g m 0 ≡ 1 → Clear (suc m) g

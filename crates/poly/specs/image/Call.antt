@@ -91,7 +91,8 @@ image-table-one-place c =
 
 -- the promise of the image service settles the record
 pub image-determined : (c : ImageCall) (r q : ImageRecord) → ImageAnswer c r → ImageAnswer c q → r ≡ q
-image-determined c r q (refused f h) (refused g k) = ap refused-image (refuses-determined (image-table c) (image-table-one-place c) f g h k)
+image-determined c r q (refused f h) (refused g k) =
+    ap refused-image (refuses-determined (image-table c) (image-table-one-place c) f g h k)
 image-determined c r q (refused f h) (answered pass listed s x) = absurd (not-passes-and-refuses (image-table c) f pass h)
 image-determined c r q (answered pass listed s x) (refused g k) = absurd (not-passes-and-refuses (image-table c) g pass k)
 image-determined c r q (answered pass listed s x) (answered pass′ listed′ s′ y) =

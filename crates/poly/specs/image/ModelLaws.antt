@@ -72,11 +72,13 @@ module _ {p : ℕ} (P : Prime p) (point : List ℕ) where
 
   pub value-at-eight : (ts : List ℕ) → Eight p (value-at p point ts)
   unfolding value-at
-  value-at-eight ts = value-of-eight p (powers p (getD point 0 0)) (powers p (getD point 1 0)) (powers p (getD point 2 0)) (prime-positive P) ts
+  value-at-eight ts =
+      value-of-eight p (powers p (getD point 0 0)) (powers p (getD point 1 0)) (powers p (getD point 2 0)) (prime-positive P) ts
 
   value-at-series : (ts : List ℕ) → RightList p ts → series p (value-at p point ts) ≡ value-there ts
   unfolding value-at
-  value-at-series ts h = value-of-series p P (getD point 0 0) (getD point 1 0) (getD point 2 0) ts (falling-key p keys ts (h .falls))
+  value-at-series ts h =
+      value-of-series p P (getD point 0 0) (getD point 1 0) (getD point 2 0) ts (falling-key p keys ts (h .falls))
 
   first-power : (ts : List ℕ) → 0 < length ts → x-degree (Modulo p P .ring) (terms-of p P ts) ≡ x-of (getD ts 0 0)
   first-power [] l = absurd (omega arith)

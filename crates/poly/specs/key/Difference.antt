@@ -71,7 +71,8 @@ module _ (a b : ℕ) (m n : Exponents) (em : exponents b ≡ m) (en : exponents 
   n-key = ap key (sym en) ∙ key-of-exponents a
 
   key-difference : exponents (b - a) ≡ less
-  key-difference = ap exponents (difference (key less) (key n) (key m) b a keys-sum m-key n-key) ∙ exponents-of-key less less-digits
+  key-difference =
+      ap exponents (difference (key less) (key n) (key m) b a keys-sum m-key n-key) ∙ exponents-of-key less less-digits
 
   plain-difference : m ≡ exponents (b - a) ⊞ n
   plain-difference = sym less-sum ∙ ap (λ (e : Exponents). e ⊞ n) (sym key-difference)

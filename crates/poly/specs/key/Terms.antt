@@ -97,8 +97,10 @@ module _ (p : ℕ) (P : Prime p) where
       (λ c. poly-determines ts us (key-of t) (key-of u) (h .3) (k .3) c)
     where
       go : Dec (key-of t < key-of u) → Dec (key-of u < key-of t) → (poly p P ts ≡ poly p P us → ts ≡ us) → t ∷ ts ≡ u ∷ us
-      go (yes l) m again = absurd (higher-differs u us (t ∷ ts) b (suc (key-of t)) k (omega arith, h .1, h .2, h .3) l (sym e))
-      go (no n) (yes m) again = absurd (higher-differs t ts (u ∷ us) a (suc (key-of u)) h (omega arith, k .1, k .2, k .3) m e)
+      go (yes l) m again =
+          absurd (higher-differs u us (t ∷ ts) b (suc (key-of t)) k (omega arith, h .1, h .2, h .3) l (sym e))
+      go (no n) (yes m) again =
+          absurd (higher-differs t ts (u ∷ us) a (suc (key-of u)) h (omega arith, k .1, k .2, k .3) m e)
       go (no n) (no m) again =
           let q : key-of t ≡ key-of u = omega arith in
           let c : coefficient-of t ≡ coefficient-of u =

@@ -37,7 +37,8 @@ module _ (bound : ℕ) (ts : List ℕ) (i : ℕ) where
     where
       go : (i : ℕ) → i < length ts → key-before ts i ≤ key-of (getD ts i 0) → WrongKey (map key-of ts) i
       go zero l h = above (omega (arith, length-map ts key-of)) (omega (arith, key-at ts 0))
-      go (suc j) l h = not-below j refl (omega (arith, length-map ts key-of)) (omega (arith, key-at ts j, key-at ts (suc j)))
+      go (suc j) l h =
+          not-below j refl (omega (arith, length-map ts key-of)) (omega (arith, key-at ts j, key-at ts (suc j)))
 
   pub term-is-right : key-before ts i ≤ keys → key-of (getD ts i 0) < key-before ts i
       → 0 < coefficient-of (getD ts i 0) → coefficient-of (getD ts i 0) < bound → ¬ WrongModulo bound ts i
@@ -64,7 +65,8 @@ module _ (ts : List ℕ) where
 
 -- each line has one place
 pub lists-one-place : (p : ℕ) (A B : List ℕ) → OnePlaceEach (of-lists p A B)
-lists-one-place p A B = (whole-one-place _, (whole-one-place _, (first-one-place _, (whole-one-place _, (first-one-place _, tt)))))
+lists-one-place p A B =
+    (whole-one-place _, (whole-one-place _, (first-one-place _, (whole-one-place _, (first-one-place _, tt)))))
 
 -- the promises of the checks settle their faults
 pub lists-check-determined : (p : ℕ) (A B : List ℕ) (f g : Fault) → Tested (of-lists p A B) f → Tested (of-lists p A B) g → f ≡ g

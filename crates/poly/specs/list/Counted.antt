@@ -27,4 +27,5 @@ module _ {count : ℕ} {Miscounted : Type 0} {number : ℕ} {Wrong : ℕ → Typ
     place-wrong l e = tested-past (placed-never counted) (tested-line place (searched-first Wrong n beyond place s l) e)
 
     pub places-right : n ≤ place → f ≡ none → Tested (line count (whole Miscounted) ∷ line number (first Wrong) ∷ []) f
-    places-right l e = tested-past (placed-never counted) (tested-past (searched-none Wrong n beyond place s l) (tested-end e))
+    places-right l e =
+        tested-past (placed-never counted) (tested-past (searched-none Wrong n beyond place s l) (tested-end e))

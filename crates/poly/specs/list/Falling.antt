@@ -49,4 +49,5 @@ falling-right p ts h i w =
   where
     before : (i : ℕ) → i < length ts → (key-before ts i ≤ keys → key-of (getD ts i 0) < key-before ts i → ⊥) → ⊥
     before zero l right = right (omega arith) (falling-key p keys ts h zero l)
-    before (suc i) l right = let b = falling-key p keys ts h i (omega arith) in right (omega arith) (falling-next p keys ts h i l)
+    before (suc i) l right =
+        let b = falling-key p keys ts h i (omega arith) in right (omega arith) (falling-next p keys ts h i l)

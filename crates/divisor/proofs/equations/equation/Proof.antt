@@ -29,7 +29,8 @@ abbrev μ-loop : tie.MeasureT-loop
 μ-loop skeleton i column u ys zs ws p row₀ j₀ row j = length skeleton - j
 
 loop-holds : tie.Need-loop-holds Inv-loop μ-loop
-loop-holds c = record { within = omega arith; filled = filled-start (omega arith) (length-replicate {A = ℕ} most-columns 0) (λ k l. absurd (omega arith)) }
+loop-holds c =
+    record { within = omega arith; filled = filled-start (omega arith) (length-replicate {A = ℕ} most-columns 0) (λ k l. absurd (omega arith)) }
 
 -- with the power of x known: the loop, and where the function began
 abbrev loop : tie.After-x Inv-loop μ-loop → tie.At-loop Inv-loop μ-loop

@@ -131,7 +131,8 @@ returns c =
     let a = start (c .before) .args in
     let l = c .before .loop in
     let e : l .i ≡ length (a .points .now) / 3 = omega arith in
-    subst (λ (j : ℕ). Equations-before j (a .p) (a .skeleton .now) (a .points .now) (a .t4) (a .work .now) (a .least) (a .columns) (l .t)) e (l .inv .added)
+    subst (λ (j : ℕ). Equations-before j (a .p) (a .skeleton .now) (a .points .now) (a .t4) (a .work .now) (a .least) (a .columns) (l .t)) e
+    (l .inv .added)
 
 pub equations-spec : {M : Type 1} → statement M
 equations-spec =

@@ -161,7 +161,8 @@ with-added-requires c κs =
     let a = s .args in
     record {
       table = ready at;
-      row = equation-ready (a .p) (listed-positive (s .pre .table .listed)) _ _ _ (a .skeleton .now) (at .loop .i) (a .column) _ (e .equation .result)
+      row =
+          equation-ready (a .p) (listed-positive (s .pre .table .listed)) _ _ _ (a .skeleton .now) (at .loop .i) (a .column) _ (e .equation .result)
           (opposite-below (e .before)) (is-equation e);
     }
 

@@ -14,11 +14,13 @@ returns-2 c = rw (ne-eqb _ 0 (c .before .if1 .left), lesser) (rw (eq-eqb _ 0 (c 
 
 returns-3 : tie.Need-returns-3
 unfolding lesser
-returns-3 c = rw (ne-eqb _ 0 (c .before .before .if1 .left), lesser) (rw (ne-eqb _ 0 (c .before .if2 .left), lesser) (rw (lt-ltb _ _ (c .if3 .taken), lesser)))
+returns-3 c =
+    rw (ne-eqb _ 0 (c .before .before .if1 .left), lesser) (rw (ne-eqb _ 0 (c .before .if2 .left), lesser) (rw (lt-ltb _ _ (c .if3 .taken), lesser)))
 
 returns-4 : tie.Need-returns-4
 unfolding lesser
-returns-4 c = rw (ne-eqb _ 0 (c .before .before .if1 .left), lesser) (rw (ne-eqb _ 0 (c .before .if2 .left), lesser) (rw (le-ltb _ _ (c .if3 .left), lesser)))
+returns-4 c =
+    rw (ne-eqb _ 0 (c .before .before .if1 .left), lesser) (rw (ne-eqb _ 0 (c .before .if2 .left), lesser) (rw (le-ltb _ _ (c .if3 .left), lesser)))
 
 pub lesser-spec : {M : Type 1} → statement M
 lesser-spec =

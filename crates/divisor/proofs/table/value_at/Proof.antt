@@ -78,7 +78,8 @@ returns c =
     c .difference .ensures ∙ ap (λ e. difference-of e sum) (c .before .zero .ensures)
     ∙ ap (λ (n : ℕ). element (a .p) (n % a .p)) (zero-add (a .p - sum .value))
     ∙ ap (λ (n : ℕ). element (a .p) ((a .p - n) % a .p))
-    (sym (fold-end (plus-column (a .p) (a .t1) (a .t2)) (sum .value) (upwards-end (loop .loop .k) (a .last) (left .loop-test .left))) ∙ loop .loop .inv .comes-to)
+    (sym (fold-end (plus-column (a .p) (a .t1) (a .t2)) (sum .value) (upwards-end (loop .loop .k) (a .last) (left .loop-test .left)))
+    ∙ loop .loop .inv .comes-to)
 
 pub value-at-spec : {M : Type 1} → statement M
 value-at-spec =

@@ -83,7 +83,8 @@ one-more : (c : tie.In-loop Inv-loop μ-loop) → Fits w64 (c .before .loop .i +
 one-more c = omega arith
 
 loop-holds : tie.Need-loop-holds Inv-loop μ-loop
-loop-holds c = record { numbers = zeros-eight (c .before .args .p) (omega (arith, c .before .pre .y-powers .below 0)); folding = folding-start }
+loop-holds c =
+    record { numbers = zeros-eight (c .before .args .p) (omega (arith, c .before .pre .y-powers .below 0)); folding = folding-start }
 
 product-requires : tie.Need-product-requires Inv-loop μ-loop
 product-requires c κs = let y = c .before in has-modulus (y .before .of2 .ensures) (positive (at-x y))
