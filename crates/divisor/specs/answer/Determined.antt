@@ -26,12 +26,12 @@ module _ (K : Field) (A B : Polynomial K) where
   least-degree d e points b u b′ u′ ks k ls (unlucky g U i l s) (bad y t) = absurd (i .good y)
   least-degree d e points b u b′ u′ ks k ls (unlucky g U i l s) (unlucky f W j m t) =
       least-degree d e _ b _ b′ _ ks k ls s t
-  least-degree d e points b u b′ u′ ks k ls (unlucky {at =
-      at} g U i l s) (keep W j t) = let q : g ≡ e = image-unique K A B at g e U W i j .0 in omega arith
+  least-degree d e points b u b′ u′ ks k ls (unlucky {at = at} g U i l s) (keep W j t) =
+      let q : g ≡ e = image-unique K A B at g e U W i j .0 in omega arith
   least-degree d e points b u b′ u′ ks k ls (keep U i s) (bad y t) = absurd (i .good y)
   least-degree d e points b u b′ u′ ks k ls (keep U i s) (unlucky f W j m t) = least-degree d e _ b u b′ _ _ k ls s t
-  least-degree d e points b u b′ u′ ks k ls (keep {at =
-      at} U i s) (keep W j t) = let q : d ≡ e = image-unique K A B at d e U W i j .0 in omega arith
+  least-degree d e points b u b′ u′ ks k ls (keep {at = at} U i s) (keep W j t) =
+      let q : d ≡ e = image-unique K A B at d e U W i j .0 in omega arith
 
   pub sorted-determined : (d : ℕ) (points : List (Point R)) (b u b′ u′ : ℕ) (ks ls : List (Kept K))
       → Sorted K A B d points b u ks → Sorted K A B d points b′ u′ ls → (b ≡ b′) × (u ≡ u′) × (ks ≡ ls)
@@ -55,12 +55,12 @@ module _ (K : Field) (A B : Polynomial K) where
   -- every point is bad, unlucky or kept
   pub counts-add-up : (d : ℕ) (points : List (Point R)) (b u : ℕ) (ks : List (Kept K)) → Sorted K A B d points b u ks → b +ₙ u +ₙ length ks ≡ length points
   counts-add-up d points b u ks done = refl
-  counts-add-up d points b u ks (bad {points =
-      ps} {b = c} x s) = let h : c +ₙ u +ₙ length ks ≡ length ps = counts-add-up d _ _ u ks s in omega arith
-  counts-add-up d points b u ks (unlucky {points =
-      ps} {u = w} e U i l s) = let h : b +ₙ w +ₙ length ks ≡ length ps = counts-add-up d _ b _ ks s in omega arith
-  counts-add-up d points b u ks (keep {points =
-      ps} {kept = ls} U i s) = let h : b +ₙ u +ₙ length ls ≡ length ps = counts-add-up d _ b u _ s in omega arith
+  counts-add-up d points b u ks (bad {points = ps} {b = c} x s) =
+      let h : c +ₙ u +ₙ length ks ≡ length ps = counts-add-up d _ _ u ks s in omega arith
+  counts-add-up d points b u ks (unlucky {points = ps} {u = w} e U i l s) =
+      let h : b +ₙ w +ₙ length ks ≡ length ps = counts-add-up d _ b _ ks s in omega arith
+  counts-add-up d points b u ks (keep {points = ps} {kept = ls} U i s) =
+      let h : b +ₙ u +ₙ length ls ≡ length ps = counts-add-up d _ b u _ s in omega arith
 
   -- kept points rule out that all are bad
   not-all-bad : (d : ℕ) (points : List (Point R)) (b u : ℕ) (k : Kept K) (ks : List (Kept K))

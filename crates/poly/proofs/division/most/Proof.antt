@@ -21,16 +21,18 @@ Inv-loop terms x₀ y₀ z₀ w₀ i₀ x y z w i = Folding raised terms (expone
 abbrev μ-loop : tie.MeasureT-loop
 μ-loop terms x₀ y₀ z₀ w₀ i₀ x y z w i = length terms - i
 
+-- where the function begins, and the turn, from where the last exponent is raised
 abbrev start : tie.At-loop Inv-loop μ-loop → tie.Start Inv-loop μ-loop
 start l = l .before .before
+
+abbrev turn : tie.After-larger4 Inv-loop μ-loop → tie.In-loop Inv-loop μ-loop
+turn c = c .before .before .before .before .before .before .before .before .before .before
 
 loop-holds : tie.Need-loop-holds Inv-loop μ-loop
 loop-holds c = folding-start
 
 loop-again : tie.Need-loop-again Inv-loop μ-loop
-loop-again c =
-    let turn = c .before .before .before .before .before .before .before .before .before .before in
-    folding-next (turn .before .loop .inv) (turn .loop-test .taken) (cc)
+loop-again c = folding-next (turn c .before .loop .inv) (turn c .loop-test .taken) (cc)
 
 -- at the end
 all : (c : tie.After-loop Inv-loop μ-loop) → let l = c .before .loop in
