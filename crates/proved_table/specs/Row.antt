@@ -13,7 +13,8 @@ use Rattle.poly.specs.Keys.{keys}
 use Rattle.poly.specs.Terms.{poly}
 use Rattle.poly.specs.ImageCall.{ImageCall, ImageAnswer}
 use Rattle.poly.specs.QuotientCall.{QuotientCall, quotient-call, QuotientResult, quotient-result, Quotient}
-use Rattle.poly.specs.Room.{work-room, written, cleared}
+use Rattle.field.specs.Lent.{written}
+use Rattle.poly.specs.Room.{work-room, cleared}
 use Rattle.divisor.specs.declared.CandidateRecord.{CandidateRecord}
 use Rattle.divisor.specs.Candidate.{Call, Result, Candidate}
 use Rattle.case_file.specs.declared.Contents.{Contents}

@@ -4,7 +4,7 @@ use mathlib.Core.Bool.{Bool, true, false, _&&_, _||_}
 use mathlib.Core.List.{List, [], _∷_, _++_}
 use Prim.Native.Nat.{ℕ}
 use lib.Dec.{eqb}
-use Rattle.poly.specs.Room.{written}
+use Rattle.field.specs.Lent.{written}
 use Rattle.case_file.specs.declared.Contents.{Contents}
 use Rattle.case_file.specs.Reading.{read}
 use Rattle.case_file.specs.Handed.{contents}

@@ -8,7 +8,8 @@ use native.Mathlib.Omega.{arith}
 use lib.Dec.{eqb}
 use lib.ListN.{length, getD, drop, replicate, take-append-drop}
 use borrow.Author.Tests.{eqb-false}
-use Rattle.poly.specs.Room.{work-room, written, zeroed, cleared}
+use Rattle.field.specs.Lent.{written}
+use Rattle.poly.specs.Room.{work-room, zeroed, cleared}
 use Rattle.poly.specs.declared.ImageRecord.{ImageRecord}
 use Rattle.poly.specs.QuotientCall.{QuotientResult}
 use Rattle.poly.specs.quotient.Laws.{quotient-determined}
