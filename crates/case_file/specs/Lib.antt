@@ -8,3 +8,4 @@ pub mod WriteCall
 pub mod RoundTrips
 pub mod «record»
 pub mod reader
+pub mod writer
