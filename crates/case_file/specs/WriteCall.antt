@@ -48,9 +48,12 @@ case-of modulus first second skeleton points =
     (added point-kind (triples points)
     (added end-kind ([] ∷ []) no-records)))))
 
--- the file that is to be written
+-- the case that a call writes, and its file
+abbrev pub call-case : WriteCall → Case
+call-case c = case-of (c .modulus) (c .first-list) (c .second-list) (c .skeleton) (c .points)
+
 abbrev pub file : WriteCall → List ℕ
-file c = file-of today (case-of (c .modulus) (c .first-list) (c .second-list) (c .skeleton) (c .points))
+file c = file-of today (call-case c)
 
 -- n numbers are more than the records of kind k may have together
 abbrev pub Over : ℕ → ℕ → Type 0

@@ -1,5 +1,7 @@
--- The model of what `src/writer.rt` asks and promises, and the laws of writing.
+-- The model of what `src/writer.rt` asks and promises, and the laws of the writer: the case of a call, its length, and the round trips.
+pub mod Cases
 pub mod Length
 pub mod Room
 pub mod Putting
 pub mod Turns
+pub mod RoundTrips

@@ -8,8 +8,9 @@ ghost use Rattle.case_file.specs.Format.{skeleton-kind, point-kind, toda
 ghost use Rattle.case_file.specs.Written.{bytes, packed, records};
 ghost use Rattle.case_file.specs.WriteCall.{write-call, singles, triples, of-lengths, file, write-result, Write};
 ghost use Rattle.case_file.specs.record.Room.{Puts};
+ghost use Rattle.case_file.specs.writer.Cases.{Writable};
 ghost use Rattle.case_file.specs.writer.Length.{file-length};
-ghost use Rattle.case_file.specs.writer.Room.{Few, TermsFit};
+ghost use Rattle.case_file.specs.writer.Room.{TermsFit};
 use crate::WriteRecord;
 use crate::record;
 use field::COORDINATES;
@@ -23,7 +24,7 @@ use field::Term;
 
 // The bytes of the file, by how many numbers each list has: of each record its kind byte and its body.
 fn file_length(first: usize, second: usize, skeleton: usize, points: usize) -> usize
-    requires { ⌜ Few first second skeleton points ⌝ }
+    requires { ⌜ Writable first second skeleton points ⌝ }
     ensures { λ r. ⌜ r ≡ file-length first second skeleton points ⌝ }
 {
     let ends = 1 + record::MODULUS_BODY + 1 + record::END_BODY;
@@ -56,7 +57,15 @@ fn write_fault(
     Fault::none()
 }
 
-// Numbers of two and of four bytes, the low byte first, go to the offset; the offset after them.
+// Numbers of one, two and four bytes, the low byte first, go to the offset; the offset after them.
+fn write1(byte: u8, at: usize, buffer: &mut [u8]) -> usize
+    requires { ⌜ at + 1 ≤ length (now buffer) ⌝ }
+    ensures { λ r. ⌜ Puts (byte ∷ []) at r (now (buffer .entry)) (now (buffer .exit)) ⌝ }
+{
+    buffer[at] = byte;
+    at + 1
+}
+
 fn write2(number: u16, at: usize, buffer: &mut [u8]) -> usize
     requires { ⌜ at + 2 ≤ length (now buffer) ⌝ }
     ensures { λ r. ⌜ Puts (bytes 2 number) at r (now (buffer .entry)) (now (buffer .exit)) ⌝ }
@@ -81,16 +90,16 @@ fn write_term(kind: u8, term: Term, at: usize, buffer: &mut [u8]) -> usize
     requires { ⌜ at + 5 ≤ length (now buffer) ⌝ }
     ensures { λ r. ⌜ Puts (kind ∷ bytes 4 term) at r (now (buffer .entry)) (now (buffer .exit)) ⌝ }
 {
-    buffer[at] = kind;
-    write4(term, at + 1, buffer)
+    let next = write1(kind, at, buffer);
+    write4(term, next, buffer)
 }
 
 fn write_key(kind: u8, key: KeyBits, at: usize, buffer: &mut [u8]) -> usize
     requires { ⌜ at + 3 ≤ length (now buffer) ⌝ }
     ensures { λ r. ⌜ Puts (kind ∷ bytes 2 key) at r (now (buffer .entry)) (now (buffer .exit)) ⌝ }
 {
-    buffer[at] = kind;
-    write2(key, at + 1, buffer)
+    let next = write1(kind, at, buffer);
+    write2(key, next, buffer)
 }
 
 fn write_point(y: Residue, z: Residue, w: Residue, at: usize, buffer: &mut [u8]) -> usize
@@ -160,8 +169,7 @@ fn write_case(
     let after_second = write_terms(record::SECOND, second, after_first, buffer);
     let after_skeleton = write_keys(skeleton, after_second, buffer);
     let end = write_points(points, after_skeleton, buffer);
-    buffer[end] = record::END;
-    end + 1
+    write1(record::END, end, buffer)
 }
 
 // The file of a modulus and four lists, or a refusal, which leaves the buffer unchanged. It checks counts only.

@@ -1,9 +1,8 @@
 -- Numbers that are put into a list part after part: how it begins, goes on and ends.
 use mathlib.Core.Path.{_≡_, refl, sym, ap, _∙_}
-use mathlib.Core.List.{List, [], _∷_, _++_}
+use mathlib.Core.List.{List, [], _∷_, _++_, append-nil}
 use Prim.Native.Nat.{ℕ, suc, _+_, _≤_}
 use native.Mathlib.Nat.{add-zero}
-use native.Mathlib.Numerals.{add-one}
 use native.Mathlib.Omega.{arith}
 use lib.ListN.{length, take, drop, set, length-append}
 use lib.Seq.{sets, length-sets, sets-eq}
@@ -42,9 +41,19 @@ module _ {all : List ℕ} {n : ℕ} {before : List ℕ} where
     pub putting-end : left ≡ [] → Puts all n k before now
     putting-end e = record { stored = sym (p .same ∙ ap (sets now k) e); counted = omega (arith, p .counted, ap length e) }
 
+-- two parts one after the other
+module _ {vs : List ℕ} {n k : ℕ} {before now : List ℕ} (p : Puts vs n k before now) where
+  pub puts-append : {ws : List ℕ} {r : ℕ} {after : List ℕ} → Puts ws k r now after → Puts (vs ++ ws) n r before after
+  puts-append {ws} q = putting-end (putting-next (putting-next putting-start refl p) (sym (append-nil ws)) q) refl
+
+  -- there is room for m more
+  pub puts-room : (m : ℕ) → n + (length vs + m) ≤ length before → k + m ≤ length now
+  puts-room m h = omega (arith, p .counted, ap length (p .stored), length-sets before n vs)
+
 -- a number and what is put behind it
-pub puts-behind : {v n : ℕ} {vs : List ℕ} {r : ℕ} {before after : List ℕ} → Puts vs (n + 1) r (set before n v) after → Puts (v ∷ vs) n r before after
-puts-behind {v} {n} {vs} {r} {before} p = record { stored = p .stored ∙ ap (λ (k : ℕ). sets (set before n v) k vs) (add-one n); counted = omega (arith, p .counted) }
+pub puts-behind : {v n k : ℕ} {before now : List ℕ} → Puts (v ∷ []) n k before now → {vs : List ℕ} {r : ℕ} {after : List ℕ} → Puts vs k r now after
+    → Puts (v ∷ vs) n r before after
+puts-behind p q = puts-append p q
 
 -- numbers that are put from the first place on are written first, and the rest is left
 pub puts-written : {all before after : List ℕ} {r : ℕ} → length all ≤ length before → Puts all 0 r before after → (r ≡ length all) × (after ≡ written all before)

@@ -1,19 +1,11 @@
--- What the functions of the writer ask: few enough numbers, and room in the buffer.
+-- What the functions of the writer ask: room in the buffer.
 use mathlib.Core.Path.{_≡_}
 use mathlib.Core.List.{List, [], _∷_}
 use lib.ListN.{length}
 use Prim.Native.Nat.{ℕ, _+_, _≤_}
-use Rattle.case_file.specs.Format.{first-term, second-term, key, point, widths, today}
+use Rattle.case_file.specs.Format.{widths, today}
 use Rattle.case_file.specs.Written.{records}
 use Rattle.case_file.specs.WriteCall.{singles}
-use Rattle.case_file.specs.record.Room.{most}
-
--- no list of these lengths is over its limit
-pub record Few (first second skeleton points : ℕ) : Type 0 where
-  pub first-few : first ≤ most first-term
-  pub second-few : second ≤ most second-term
-  pub skeleton-few : skeleton ≤ most key
-  pub points-few : points ≤ most point
 
 -- the buffer has room for the records of a list, of a kind with one number of four bytes
 pub record TermsFit (kind : ℕ) (list : List ℕ) (at : ℕ) (buffer : List ℕ) : Type 0 where

@@ -12,7 +12,7 @@ use Rattle.case_file.specs.Written.{bytes, packed, records, in-order, fi
 use Rattle.case_file.specs.WriteCall.{WriteCall, singles, triples, file}
 use Rattle.case_file.specs.record.Room.{Puts}
 use Rattle.case_file.specs.record.Packing.{length-bytes, length-packed}
-use Rattle.case_file.specs.writer.Putting.{Putting, putting-start, putting-next, putting-room, putting-end}
+use Rattle.case_file.specs.writer.Putting.{Putting, putting-start, putting-next, putting-room, putting-end, puts-append}
 
 -- two bytes of a number that has no more
 pub puts-two : (v n : ℕ) (before : List ℕ) → v < 65536 → Puts (bytes 2 v) n (n + 2) before (set (set before n (v % 256)) (n + 1) (v / 256))
@@ -38,13 +38,13 @@ four-bytes v =
 -- four bytes are twice two
 pub puts-four : (v : ℕ) {n k r : ℕ} {before now after : List ℕ} → Puts (bytes 2 (v % 65536)) n k before now → Puts (bytes 2 (v / 65536)) k r now after
     → Puts (bytes 4 v) n r before after
-puts-four v p q = putting-end (putting-next (putting-next putting-start (four-bytes v) p) (sym (append-nil (bytes 2 (v / 65536)))) q) refl
+puts-four v p q = rw (four-bytes v) (puts-append p q)
 
 -- three numbers of two bytes behind a kind
 pub puts-point : (x y z w : ℕ) {n i j r : ℕ} {before now next after : List ℕ} → Puts (x ∷ bytes 2 y) n i before now → Puts (bytes 2 z) i j now next
     → Puts (bytes 2 w) j r next after → Puts (x ∷ packed (2 ∷ 2 ∷ 2 ∷ []) (y ∷ z ∷ w ∷ [])) n r before after
 unfolding packed
-puts-point x y z w p q s = putting-end (putting-next (putting-next (putting-next putting-start refl p) refl q) refl s) refl
+puts-point x y z w p q s = rw (append-nil (bytes 2 w)) (puts-append p (puts-append q s))
 
 too-few : (ns : List ℕ) → length ns < 3 → triples ns ≡ []
 unfolding triples
@@ -55,10 +55,11 @@ too-few (y ∷ z ∷ w ∷ ns) h = absurd (omega arith)
 
 -- the loop over a list, whose records are put from the place n on: those of the numbers from i on are still to be put, at the place m
 pub record Listing (split : List ℕ → List (List ℕ)) (k : ℕ) (l : List ℕ) (n : ℕ) (before : List ℕ) (i m : ℕ) (now : List ℕ) : Type 0 where
+  pub within : i ≤ length l
   pub putting : Putting (records today k (split l)) n m before now (records today k (split (drop i l)))
 
 pub listing-start : {split : List ℕ → List (List ℕ)} {k : ℕ} {l : List ℕ} {n : ℕ} {before : List ℕ} → Listing split k l n before 0 n before
-listing-start = record { putting = putting-start }
+listing-start = record { within = omega arith; putting = putting-start }
 
 module _ {k : ℕ} {l : List ℕ} {n m i : ℕ} {before now : List ℕ} where
   -- records of one number of w bytes
@@ -68,10 +69,12 @@ module _ {k : ℕ} {l : List ℕ} {n m i : ℕ} {before now : List ℕ} where
     singles-turn h = rw (drop-cons l i 0 h, add-one, e, append-nil (bytes w (getD l i 0)))
 
     pub singles-room : i < length l → n + length (records today k (singles l)) ≤ length before → m + (1 + w) ≤ length now
-    singles-room h room = omega (arith, putting-room (p .putting) _ _ (singles-turn h) room, length-bytes w (getD l i 0))
+    singles-room h room =
+        omega (arith, putting-room (p .putting) (k ∷ bytes w (getD l i 0)) (records today k (singles (drop (i + 1) l))) (singles-turn h) room,
+        length-bytes w (getD l i 0))
 
     pub singles-next : i < length l → {r : ℕ} {after : List ℕ} → Puts (k ∷ bytes w (getD l i 0)) m r now after → Listing singles k l n before (i + 1) r after
-    singles-next h q = record { putting = putting-next (p .putting) (singles-turn h) q }
+    singles-next h q = record { within = omega arith; putting = putting-next (p .putting) (singles-turn h) q }
 
     pub singles-end : length l ≤ i → Puts (records today k (singles l)) n m before now
     unfolding records
@@ -90,19 +93,45 @@ module _ {k : ℕ} {l : List ℕ} {n m i : ℕ} {before now : List ℕ} where
         rw (drop-cons l i 0 a, drop-cons l (suc i) 0 b, drop-cons l (suc (suc i)) 0 c, add-one, add-two, j, e)
 
     pub triples-room : 3 ≡ length ws → i + 3 ≤ length l → n + length (records today k (triples l)) ≤ length before → m + (1 + sum ws) ≤ length now
-    triples-room s h room = omega (arith, putting-room (p .putting) _ _ (triples-turn h) room, length-packed ws _ s)
+    triples-room s h room =
+        let point : List ℕ = getD l i 0 ∷ getD l (i + 1) 0 ∷ getD l (i + 2) 0 ∷ [] in
+        omega (arith, putting-room (p .putting) (k ∷ packed ws point) (records today k (triples (drop (i + 3) l))) (triples-turn h) room,
+        length-packed ws point s)
 
     pub triples-next : i + 3 ≤ length l → {r : ℕ} {after : List ℕ}
         → Puts (k ∷ packed ws (getD l i 0 ∷ getD l (i + 1) 0 ∷ getD l (i + 2) 0 ∷ [])) m r now after → Listing triples k l n before (i + 3) r after
-    triples-next h q = record { putting = putting-next (p .putting) (triples-turn h) q }
+    triples-next h q = record { within = h; putting = putting-next (p .putting) (triples-turn h) q }
 
     pub triples-end : length l < i + 3 → Puts (records today k (triples l)) n m before now
     unfolding records
     triples-end h = putting-end (p .putting) (rw (too-few (drop i l) (rw length-drop (omega arith))))
 
--- the parts of a file in their order
-pub file-parts : (c : WriteCall) → file c ≡ (modulus-kind ∷ bytes 2 (c .modulus)) ++ (records today first-kind (singles (c .first-list))
-    ++ (records today second-kind (singles (c .second-list)) ++ (records today skeleton-kind (singles (c .skeleton))
-    ++ (records today point-kind (triples (c .points)) ++ end-kind ∷ []))))
-unfolding file-of in-order added records packed bytes kind-of
-file-parts c = refl
+-- the parts of a file, and what is left of it from each part on
+module _ (c : WriteCall) where
+  abbrev pub first-part : List ℕ
+  first-part = records today first-kind (singles (c .first-list))
+
+  abbrev pub second-part : List ℕ
+  second-part = records today second-kind (singles (c .second-list))
+
+  abbrev pub skeleton-part : List ℕ
+  skeleton-part = records today skeleton-kind (singles (c .skeleton))
+
+  abbrev pub points-part : List ℕ
+  points-part = records today point-kind (triples (c .points))
+
+  abbrev pub from-points : List ℕ
+  from-points = points-part ++ end-kind ∷ []
+
+  abbrev pub from-skeleton : List ℕ
+  from-skeleton = skeleton-part ++ from-points
+
+  abbrev pub from-second : List ℕ
+  from-second = second-part ++ from-skeleton
+
+  abbrev pub from-first : List ℕ
+  from-first = first-part ++ from-second
+
+  pub file-parts : file c ≡ (modulus-kind ∷ bytes 2 (c .modulus)) ++ from-first
+  unfolding file-of in-order added records packed bytes kind-of
+  file-parts = refl

@@ -1,32 +1,33 @@
+-- `write_point` puts the kind and three numbers one after another.
+use native.Mathlib.Omega.{arith}
 use borrow.Author.Needs.{needs}
-use borrow.Author.Needs.{needs}
+use Rattle.case_file.specs.Written.{bytes}
+use Rattle.case_file.specs.writer.Putting.{puts-room}
+use Rattle.case_file.specs.writer.Turns.{puts-point}
 use Rattle.case_file.proofs.writer.write_point.Statement.{statement}
 use Rattle.case_file.proofs.writer.write_point.Tie as tie
-use Rattle.case_file.proofs.writer.write_point.Reads as reads
-use Rattle.case_file.proofs.writer.write_point.Lts as lts
-use Rattle.case_file.proofs.writer.write2.Reads as write2-reads
-use Rattle.case_file.proofs.writer.write_key.Reads as write-key-reads
 
--- src/writer.rt:100:9
-write-key-requires : tie.Need-write-key-requires
-write-key-requires c κs = search needs
+-- where the first number is written, and the call
+abbrev first : tie.After-write2-arg → tie.After-write-key
+first c = c .before .before .before
 
--- src/writer.rt:101:9
+abbrev start : tie.After-write-key → tie.Start
+start d = d .before .before .before
+
+-- there is room for what is left of the record
 write2-requires : tie.Need-write2-requires
-write2-requires c κs = search needs
+unfolding bytes
+write2-requires c κs =
+    let d = first c in
+    puts-room (d .write-key .ensures) 2 (omega (arith, start d .pre))
 
--- src/writer.rt:102:5
 write2-requires-2 : tie.Need-write2-requires-2
-write2-requires-2 c κs = search needs
-
--- src/writer.rt:96:1
-same-length : tie.Need-same-length
-same-length c = search needs
-
--- src/writer.rt:96:1
-returns : tie.Need-returns
-returns c = search needs
+unfolding bytes
+write2-requires-2 c κs =
+    let e = c .before .before .before in
+    let d = first (e .before) in
+    puts-room (e .write2 .ensures) 2 (puts-room (d .write-key .ensures) 4 (start d .pre))
 
 pub write-point-spec : {M : Type 1} → statement M
 write-point-spec =
-    tie.close (tie.spec write-key-requires write2-requires write2-requires-2 same-length returns)
+    tie.close (tie.spec (λ c κs. search needs) write2-requires write2-requires-2 (λ c. search needs) (λ c. search (needs, puts-point)))

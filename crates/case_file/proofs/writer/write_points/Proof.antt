@@ -1,99 +1,47 @@
+-- The loop of `write_points`: of the records of the list those of the numbers from i on are still to be put (`Listing`).
+use mathlib.Core.Path.{_≡_, refl}
+use mathlib.Core.List.{[], _∷_}
+use Prim.Native.Nat.{_-_}
+use native.Mathlib.Omega.{arith}
 use borrow.Author.Needs.{needs}
+use lib.ListN.{length}
+use Rattle.case_file.specs.Format.{point-kind, kind-of, widths, today}
+use Rattle.case_file.specs.WriteCall.{triples}
+use Rattle.case_file.specs.writer.Turns.{Listing, listing-start, triples-room, triples-next, triples-end}
 use Rattle.case_file.proofs.writer.write_points.Statement.{statement}
 use Rattle.case_file.proofs.writer.write_points.Tie as tie
-use Rattle.case_file.proofs.writer.write_points.Reads as reads
-use Rattle.case_file.proofs.writer.write_points.Lts as lts
-use Rattle.case_file.proofs.writer.write_point.Reads as write-point-reads
 
 abbrev Inv-loop : tie.InvT-loop
-Inv-loop numbers at buffer₀ next₀ i₀ buffer next i = ?
+Inv-loop numbers at buffer₀ next₀ i₀ buffer next i = Listing triples point-kind numbers at buffer₀ i next buffer
 
 abbrev μ-loop : tie.MeasureT-loop
-μ-loop numbers at buffer₀ next₀ i₀ buffer next i = ?
+μ-loop numbers at buffer₀ next₀ i₀ buffer next i = length numbers - i
 
--- src/writer.rt:138:5
-loop-holds : tie.Need-loop-holds Inv-loop μ-loop
-loop-holds c = search needs
+-- a point has three numbers of two bytes
+of-points : widths today point-kind ≡ 2 ∷ 2 ∷ 2 ∷ []
+unfolding kind-of
+of-points = refl
 
--- src/writer.rt:138:11
-add-loop : tie.Need-add-loop Inv-loop μ-loop
-add-loop c = search needs
+-- the turn in which a record is put
+abbrev turn : tie.After-write-point-arg Inv-loop μ-loop → tie.In-loop Inv-loop μ-loop
+turn c = c .before .before .before .before
 
--- src/writer.rt:139:28
-mul-write-point : tie.Need-mul-write-point Inv-loop μ-loop
-mul-write-point c = search needs
-
--- src/writer.rt:139:28
-shared-slice-read-write-point : tie.Need-shared-slice-read-write-point Inv-loop μ-loop
-shared-slice-read-write-point c = search needs
-
--- src/writer.rt:139:48
-add-write-point : tie.Need-add-write-point Inv-loop μ-loop
-add-write-point c = search needs
-
--- src/writer.rt:139:40
-mul-write-point-2 : tie.Need-mul-write-point-2 Inv-loop μ-loop
-mul-write-point-2 c = search needs
-
--- src/writer.rt:139:40
-shared-slice-read-write-point-2 : tie.Need-shared-slice-read-write-point-2 Inv-loop μ-loop
-shared-slice-read-write-point-2 c = search needs
-
--- src/writer.rt:139:64
-add-write-point-2 : tie.Need-add-write-point-2 Inv-loop μ-loop
-add-write-point-2 c = search needs
-
--- src/writer.rt:139:56
-mul-write-point-3 : tie.Need-mul-write-point-3 Inv-loop μ-loop
-mul-write-point-3 c = search needs
-
--- src/writer.rt:139:56
-shared-slice-read-write-point-3 : tie.Need-shared-slice-read-write-point-3 Inv-loop μ-loop
-shared-slice-read-write-point-3 c = search needs
-
--- src/writer.rt:139:9
 write-point-requires : tie.Need-write-point-requires Inv-loop μ-loop
-write-point-requires c κs = search needs
+write-point-requires c κs =
+    let t = turn c in
+    triples-room of-points (t .before .loop .inv) refl (t .loop-test .taken) (t .before .before .before .before .pre)
 
--- src/writer.rt:140:9
-add-i : tie.Need-add-i Inv-loop μ-loop
-add-i c = search needs
-
--- src/writer.rt:138:5
-loop-less : tie.Need-loop-less Inv-loop μ-loop
-loop-less c = search needs
-
--- src/writer.rt:138:5
 loop-again : tie.Need-loop-again Inv-loop μ-loop
-loop-again c = search needs
+loop-again c =
+    let d = c .before .before in
+    let t = turn (d .before) in
+    triples-next of-points (t .before .loop .inv) (t .loop-test .taken) (d .write-point .ensures)
 
--- src/writer.rt:132:1
-same-length : tie.Need-same-length Inv-loop μ-loop
-same-length c = search needs
-
--- src/writer.rt:132:1
 returns : tie.Need-returns Inv-loop μ-loop
-returns c = search needs
+returns c = triples-end of-points (c .before .loop .inv) (c .loop-test .left)
 
 pub write-points-spec : {M : Type 1} → statement M
 write-points-spec =
-    tie.close
-    (tie.spec
-    Inv-loop
-    μ-loop
-    loop-holds
-    add-loop
-    mul-write-point
-    shared-slice-read-write-point
-    add-write-point
-    mul-write-point-2
-    shared-slice-read-write-point-2
-    add-write-point-2
-    mul-write-point-3
-    shared-slice-read-write-point-3
-    write-point-requires
-    add-i
-    loop-less
-    loop-again
-    same-length
-    returns)
+    tie.close (tie.spec Inv-loop μ-loop (λ c. listing-start) (λ c. search needs) (λ c. search needs) (λ c. search needs) (λ c. search needs)
+    (λ c. search needs) (λ c. search needs) (λ c. search needs) (λ c. search needs) (λ c. search needs) write-point-requires (λ c. search needs)
+    (λ c. search needs) loop-again (λ c. search needs) returns)
