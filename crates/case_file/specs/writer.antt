@@ -4,4 +4,6 @@ pub mod Length
 pub mod Room
 pub mod Putting
 pub mod Turns
+pub mod Check
+pub mod Determined
 pub mod RoundTrips

@@ -16,6 +16,7 @@ use Rattle.divisor.specs.Candidate.{candidate-result, Candidate}
 use Rattle.case_file.specs.declared.Contents.{Contents}
 use Rattle.case_file.specs.Reading.{read}
 use Rattle.case_file.specs.Handed.{contents}
+use Rattle.case_file.specs.WriteCall.{WriteCall, WriteResult, Write}
 use Rattle.proved_table.specs.Row.{Row, call, QuotientRow, quotient-call-of, ImageRow, FileRow}
 
 -- The record that is answered, the terms that are written first in the output, and whether the work room is cleared or left as lent.
@@ -59,3 +60,12 @@ ImageRefuted w = ¬ ImageAnswer (w .row .call) (w .found)
 -- of the reader
 abbrev pub FileRefuted : WrongRecord FileRow Contents → Type 0
 FileRefuted w = ¬ (w .found ≡ contents (read (w .row .bytes)))
+
+-- the buffer of the writer is a part of its call, and what is left in it a part of its result
+pub record WrongWrite : Type 0 where
+  pub call : WriteCall
+  pub result : WriteResult
+
+-- of the writer
+abbrev pub WriteRefuted : WrongWrite → Type 0
+WriteRefuted w = ¬ Write (w .call) (w .result)

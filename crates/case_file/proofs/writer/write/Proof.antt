@@ -1,32 +1,38 @@
+-- `write` refuses by its check, or writes the file into a buffer that the check found long enough.
+use native.Mathlib.Omega.{arith}
 use borrow.Author.Needs.{needs}
-use borrow.Author.Needs.{needs}
+use Rattle.case_file.specs.WriteCall.{WriteCall, write-call}
+use Rattle.case_file.specs.writer.Check.{write-refused, write-room, write-done}
 use Rattle.case_file.proofs.writer.write.Statement.{statement}
 use Rattle.case_file.proofs.writer.write.Tie as tie
-use Rattle.case_file.proofs.writer.write.Reads as reads
-use Rattle.case_file.proofs.writer.write.Lts as lts
-use Rattle.case_file.proofs.writer.write_case.Reads as write-case-reads
-use Rattle.case_file.proofs.writer.write_fault.Reads as write-fault-reads
 
--- src/writer.rt:187:9
-write-fault-requires : tie.Need-write-fault-requires
-write-fault-requires c κs = search needs
+-- the call, from where the check is made
+abbrev start : tie.After-write-fault → tie.Start
+start d = d .before .before .before .before .before .before
 
--- src/writer.rt:195:9
+abbrev lent : tie.Start → WriteCall
+lent z = write-call (z .args .modulus) (z .args .first .now) (z .args .second .now) (z .args .skeleton .now) (z .args .points .now) (z .args .buffer .now)
+
+-- where the check is passed
+abbrev passed : tie.After-write-case-arg → tie.Else1
+passed c = c .before
+
 returns : tie.Need-returns
-returns c = search needs
+returns c =
+    let d = c .before .before in
+    write-refused (lent (start d)) (d .write-fault .ensures) (c .if1 .taken)
 
--- src/writer.rt:197:9
 write-case-requires : tie.Need-write-case-requires
-write-case-requires c κs = search needs
+write-case-requires c κs =
+    let d = passed c .before .before in
+    write-room (lent (start d)) (d .write-fault .ensures) (passed c .if1 .left)
 
--- src/writer.rt:176:1
-same-length : tie.Need-same-length
-same-length c = search needs
-
--- src/writer.rt:176:1
 returns-2 : tie.Need-returns-2
-returns-2 c = search needs
+returns-2 c =
+    let e = c .before .before in
+    let d = passed (e .before) .before .before in
+    write-done (lent (start d)) (d .write-fault .ensures) (passed (e .before) .if1 .left) (e .write-case .ensures)
 
 pub write-spec : {M : Type 1} → statement M
 write-spec =
-    tie.close (tie.spec write-fault-requires returns write-case-requires same-length returns-2)
+    tie.close (tie.spec (λ c κs. search needs) returns write-case-requires (λ c. search needs) returns-2)
