@@ -14,6 +14,12 @@ mod writer;
 pub use reader::read;
 pub use reader::read_into;
 pub use reader::read_one_into;
+pub use record::END;
+pub use record::FIRST;
+pub use record::MODULUS;
+pub use record::POINT;
+pub use record::SECOND;
+pub use record::SKELETON;
 pub use writer::write;
 
 // An array for the most numbers of each list.

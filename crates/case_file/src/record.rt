@@ -21,17 +21,17 @@ use field::Residue;
 use field::Term;
 
 // The kinds.
-pub(crate) const MODULUS: u8 = 1;
+pub const MODULUS: u8 = 1;
 
-pub(crate) const FIRST: u8 = 2;
+pub const FIRST: u8 = 2;
 
-pub(crate) const SECOND: u8 = 3;
+pub const SECOND: u8 = 3;
 
-pub(crate) const SKELETON: u8 = 4;
+pub const SKELETON: u8 = 4;
 
-pub(crate) const POINT: u8 = 5;
+pub const POINT: u8 = 5;
 
-pub(crate) const END: u8 = 6;
+pub const END: u8 = 6;
 
 // The length of a body.
 pub(crate) const MODULUS_BODY: usize = 2;

@@ -34,13 +34,7 @@ fn file_length(first: usize, second: usize, skeleton: usize, points: usize) -> u
 }
 
 // The refusals 26 and 27: of what is lent only the lengths matter.
-fn write_fault(
-    first: usize,
-    second: usize,
-    skeleton: usize,
-    points: usize,
-    buffer: usize,
-) -> Fault
+fn write_fault(first: usize, second: usize, skeleton: usize, points: usize, buffer: usize) -> Fault
     ensures { λ r. ⌜ Tested (of-lengths first second skeleton points (file-length first second skeleton points) buffer) r ⌝ }
 {
     let few = (first <= MOST_TERMS)

@@ -70,8 +70,11 @@ module _ {k : ℕ} {l : List ℕ} {n m i : ℕ} {before now : List ℕ} where
 
     pub singles-room : i < length l → n + length (records today k (singles l)) ≤ length before → m + (1 + w) ≤ length now
     singles-room h room =
-        omega (arith, putting-room (p .putting) (k ∷ bytes w (getD l i 0)) (records today k (singles (drop (i + 1) l))) (singles-turn h) room,
-        length-bytes w (getD l i 0))
+        omega (
+          arith,
+          putting-room (p .putting) (k ∷ bytes w (getD l i 0)) (records today k (singles (drop (i + 1) l))) (singles-turn h) room,
+          length-bytes w (getD l i 0),
+        )
 
     pub singles-next : i < length l → {r : ℕ} {after : List ℕ} → Puts (k ∷ bytes w (getD l i 0)) m r now after → Listing singles k l n before (i + 1) r after
     singles-next h q = record { within = omega arith; putting = putting-next (p .putting) (singles-turn h) q }
@@ -95,8 +98,11 @@ module _ {k : ℕ} {l : List ℕ} {n m i : ℕ} {before now : List ℕ} where
     pub triples-room : 3 ≡ length ws → i + 3 ≤ length l → n + length (records today k (triples l)) ≤ length before → m + (1 + sum ws) ≤ length now
     triples-room s h room =
         let point : List ℕ = getD l i 0 ∷ getD l (i + 1) 0 ∷ getD l (i + 2) 0 ∷ [] in
-        omega (arith, putting-room (p .putting) (k ∷ packed ws point) (records today k (triples (drop (i + 3) l))) (triples-turn h) room,
-        length-packed ws point s)
+        omega (
+          arith,
+          putting-room (p .putting) (k ∷ packed ws point) (records today k (triples (drop (i + 3) l))) (triples-turn h) room,
+          length-packed ws point s,
+        )
 
     pub triples-next : i + 3 ≤ length l → {r : ℕ} {after : List ℕ}
         → Puts (k ∷ packed ws (getD l i 0 ∷ getD l (i + 1) 0 ∷ getD l (i + 2) 0 ∷ [])) m r now after → Listing triples k l n before (i + 3) r after
