@@ -14,7 +14,10 @@ write2-requires-2 c κs =
     let d = c .before .before .before in
     puts-room (d .write2 .ensures) 2 (d .before .before .before .pre)
 
+returns : tie.Need-returns
+returns c = search (needs, puts-four)
+
 pub write4-spec : {M : Type 1} → statement M
 write4-spec =
     tie.close (tie.spec (λ c. search needs) (λ c. search needs) (λ c. search needs) (λ c. search needs) (λ c κs. search needs) (λ c. search needs)
-    (λ c. search needs) write2-requires-2 (λ c. search needs) (λ c. search (needs, puts-four)))
+    (λ c. search needs) write2-requires-2 (λ c. search needs) returns)

@@ -28,6 +28,9 @@ write2-requires-2 c κs =
     let d = first (e .before) in
     puts-room (e .write2 .ensures) 2 (puts-room (d .write-key .ensures) 4 (start d .pre))
 
+returns : tie.Need-returns
+returns c = search (needs, puts-point)
+
 pub write-point-spec : {M : Type 1} → statement M
 write-point-spec =
-    tie.close (tie.spec (λ c κs. search needs) write2-requires write2-requires-2 (λ c. search needs) (λ c. search (needs, puts-point)))
+    tie.close (tie.spec (λ c κs. search needs) write2-requires write2-requires-2 (λ c. search needs) returns)
