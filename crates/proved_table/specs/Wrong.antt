@@ -16,8 +16,7 @@ use Rattle.divisor.specs.Candidate.{candidate-result, Candidate}
 use Rattle.case_file.specs.declared.Contents.{Contents}
 use Rattle.case_file.specs.Reading.{read}
 use Rattle.case_file.specs.Handed.{contents}
-use Rattle.case_file.specs.WriteCall.{WriteCall, WriteResult, Write}
-use Rattle.proved_table.specs.Row.{Row, call, QuotientRow, quotient-call-of, ImageRow, FileRow}
+use Rattle.proved_table.specs.Row.{Row, call, QuotientRow, quotient-call-of, ImageRow, FileRow, WriteRow, Writes}
 
 -- The record that is answered, the terms that are written first in the output, and whether the work room is cleared or left as lent.
 -- A lent room may already hold what is right. So it is said with what the output and the work room begin; [] says nothing of them.
@@ -61,11 +60,6 @@ ImageRefuted w = ¬ ImageAnswer (w .row .call) (w .found)
 abbrev pub FileRefuted : WrongRecord FileRow Contents → Type 0
 FileRefuted w = ¬ (w .found ≡ contents (read (w .row .bytes)))
 
--- the buffer of the writer is a part of its call, and what is left in it a part of its result
-pub record WrongWrite : Type 0 where
-  pub call : WriteCall
-  pub result : WriteResult
-
 -- of the writer
-abbrev pub WriteRefuted : WrongWrite → Type 0
-WriteRefuted w = ¬ Write (w .call) (w .result)
+abbrev pub WriteRefuted : WriteRow → Type 0
+WriteRefuted w = ¬ Writes w

@@ -9,9 +9,10 @@ use Rattle.case_file.specs.declared.Contents.{Contents}
 use Rattle.case_file.specs.Reading.{read}
 use Rattle.case_file.specs.Handed.{contents}
 use Rattle.case_file.specs.WriteCall.{WriteResult}
+use Rattle.proved_table.specs.Row.{WriteRow}
 use Rattle.proved_table.specs.test.Rows.{numbers, test, quotient-numbers, quotient-test, image-numbers, image-test}
 use Rattle.proved_table.specs.test.Writes.{right-write}
-use Rattle.proved_table.specs.Wrong.{Wrong, WrongWrite}
+use Rattle.proved_table.specs.Wrong.{Wrong}
 use Rattle.proved_table.specs.WrongResults.{WrongCandidate}
 use Rattle.proved_table.specs.WrongServices.{WrongQuotient, WrongImage, WrongFile}
 
@@ -56,5 +57,5 @@ wrong-file-test w = clash (file-numbers (w .found)) (file-numbers (contents (rea
 unfoldable pub write-numbers : WriteResult → List ℕ
 write-numbers r = r .found .fault .number ∷ r .found .fault .place ∷ r .found .length ∷ r .buffer
 
-unfoldable pub wrong-write-test : WrongWrite → Bool
+unfoldable pub wrong-write-test : WriteRow → Bool
 wrong-write-test w = clash (write-numbers (w .result)) (write-numbers (right-write (w .call)))

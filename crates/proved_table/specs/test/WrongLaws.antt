@@ -18,12 +18,12 @@ use Rattle.divisor.specs.Candidate.{Result}
 use Rattle.case_file.specs.Reading.{read}
 use Rattle.case_file.specs.Handed.{contents}
 use Rattle.case_file.specs.writer.Determined.{write-determined}
-use Rattle.proved_table.specs.Row.{quotient-call-of}
+use Rattle.proved_table.specs.Row.{quotient-call-of, WriteRow}
 use Rattle.proved_table.specs.test.Rows.{numbers, test, quotient-numbers, quotient-test, image-numbers, image-test}
 use Rattle.proved_table.specs.test.RowsLaws.{tested, holds-determined, quotient-tested, image-tested}
 use Rattle.proved_table.specs.test.Writes.{right-write}
 use Rattle.proved_table.specs.test.WritesLaws.{right-write-meets}
-use Rattle.proved_table.specs.Wrong.{Wrong, Begins, work-left, Refuted, QuotientRefuted, ImageRefuted, FileRefuted, WrongWrite, WriteRefuted}
+use Rattle.proved_table.specs.Wrong.{Wrong, Begins, work-left, Refuted, QuotientRefuted, ImageRefuted, FileRefuted, WriteRefuted}
 use Rattle.proved_table.specs.WrongResults.{WrongCandidate}
 use Rattle.proved_table.specs.WrongServices.{WrongQuotient, WrongImage, WrongFile}
 use Rattle.proved_table.specs.test.Wrong.{clash, left-full, differs, wrong-test, wrong-quotient-test, wrong-image-test, file-numbers, wrong-file-test}
@@ -123,7 +123,7 @@ pub file-refuted : (w : WrongFile) → wrong-file-test w ≡ true → FileRefute
 unfolding wrong-file-test
 file-refuted w h e = clash-differ (file-numbers (w .found)) (file-numbers (contents (read (w .row .bytes)))) h (ap file-numbers e)
 
-pub write-refuted : (w : WrongWrite) → wrong-write-test w ≡ true → WriteRefuted w
+pub write-refuted : (w : WriteRow) → wrong-write-test w ≡ true → WriteRefuted w
 unfolding wrong-write-test
 write-refuted w h meets =
     clash-differ (write-numbers (w .result)) (write-numbers (right-write (w .call))) h
