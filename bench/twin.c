@@ -260,17 +260,37 @@ static uint8_t *put(uint8_t *at, uint16_t number) {
     return at;
 }
 
-static uint8_t *put_record(uint8_t *at, uint8_t kind, uint16_t key) {
+static uint8_t *put_key(uint8_t *at, uint8_t kind, uint16_t key) {
     *at++ = kind;
     return put(at, key);
 }
 
 static uint8_t *put_term(uint8_t *at, uint8_t kind, uint32_t term) {
-    return put(put_record(at, kind, coefficient_of(term)), key_of(term));
+    *at++ = kind;
+    return put(put(at, coefficient_of(term)), key_of(term));
 }
 
 static uint8_t *put_point(uint8_t *at, uint16_t y, uint16_t z, uint16_t w) {
-    return put(put(put_record(at, POINT, y), z), w);
+    *at++ = POINT;
+    return put(put(put(at, y), z), w);
+}
+
+static uint8_t *put_terms(uint8_t *at, uint8_t kind, const uint32_t *terms, size_t n) {
+    for (size_t i = 0; i < n; i++)
+        at = put_term(at, kind, terms[i]);
+    return at;
+}
+
+static uint8_t *put_keys(uint8_t *at, const uint16_t *skeleton, size_t n) {
+    for (size_t i = 0; i < n; i++)
+        at = put_key(at, SKELETON, skeleton[i]);
+    return at;
+}
+
+static uint8_t *put_points(uint8_t *at, const uint16_t *points, size_t numbers) {
+    for (size_t i = 0; i < numbers; i += 3)
+        at = put_point(at, points[i], points[i + 1], points[i + 2]);
+    return at;
 }
 
 /* The calls. */
@@ -283,15 +303,11 @@ void twin_write(uint16_t p, const uint32_t *first, length n, const uint32_t *sec
     record[2] = 0;
     if (found.number)
         return;
-    uint8_t *at = put_record(buffer, MODULUS, p);
-    for (size_t i = 0; i < n; i++)
-        at = put_term(at, FIRST, first[i]);
-    for (size_t i = 0; i < m; i++)
-        at = put_term(at, SECOND, second[i]);
-    for (size_t i = 0; i < keys; i++)
-        at = put_record(at, SKELETON, skeleton[i]);
-    for (size_t i = 0; i < numbers; i += 3)
-        at = put_point(at, points[i], points[i + 1], points[i + 2]);
+    uint8_t *at = put_key(buffer, MODULUS, p);
+    at = put_terms(at, FIRST, first, n);
+    at = put_terms(at, SECOND, second, m);
+    at = put_keys(at, skeleton, keys);
+    at = put_points(at, points, numbers);
     *at++ = END;
     record[2] = (length)(at - buffer);
 }
