@@ -76,8 +76,8 @@ __attribute__((noinline)) static cost measured(void (*call)(void)) {
     return (cost){((before - after) & 0xffffff) * TICK, (uint32_t)(here - low)};
 }
 
-/* The bytes that a call is lent beside the stack: both lists, skeleton, points, output, work room and record. Of the buffer those of the file, which
-   the record of the call just made has. */
+/* The bytes that a call is lent beside the stack: both lists, skeleton, points, output, work room and record. Of the buffer only
+   the file's bytes: how many they are is in the record of the call just made. */
 static uint32_t candidate_room(void) {
     return (uint32_t)(4 * (now->first_terms + now->second_terms + now->keys) + 2 * (now->keys + now->numbers) + sizeof work + sizeof record);
 }
