@@ -2,14 +2,14 @@
 use mathlib.Core.Path.{_≡_}
 use mathlib.Core.List.{List}
 use lib.ListN.{length, take}
-use Prim.Native.Nat.{ℕ, _*_, _^_, _≤_, _<_}
+use Prim.Native.Nat.{ℕ, _^_, _≤_, _<_}
 use Rattle.field.specs.Refusal.{none}
 use Rattle.field.specs.Lent.{written}
 use Rattle.case_file.specs.declared.Contents.{Contents}
-use Rattle.case_file.specs.Format.{base, first-kind, second-kind, skeleton-kind, point-kind, count, limit, fullest, today}
+use Rattle.case_file.specs.Format.{base, first-kind, second-kind, skeleton-kind, point-kind, fullest, today}
 use Rattle.case_file.specs.Reading.{read}
 use Rattle.case_file.specs.Written.{Below}
-use Rattle.case_file.specs.Handed.{padded, contents}
+use Rattle.case_file.specs.Handed.{in-array, contents}
 use Rattle.case_file.specs.WriteCall.{WriteCall, write-call, WriteResult, write-result, Write}
 
 -- the numbers of a call are of their widths, as their types say: modulus, keys and point numbers of two bytes, terms of four
@@ -19,10 +19,6 @@ pub record OfWidth (c : WriteCall) : Type 0 where
   pub second : Below (base ^ 4) (c .second-list)
   pub skeleton : Below (base ^ 2) (c .skeleton)
   pub points : Below (base ^ 2) (c .points)
-
--- the array of kind k with a list in it
-abbrev in-array : ℕ → List ℕ → List ℕ
-in-array k ns = padded (limit today k * count today k) ns
 
 -- the modulus and the four lists of a call, as the reader hands back what it accepts
 abbrev pub lists-of : WriteCall → Contents

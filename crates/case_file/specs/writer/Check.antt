@@ -37,7 +37,7 @@ module _ (first second skeleton points : ℕ) where
   abbrev points-few : Bool
   points-few = keys-few && leb points (most point)
 
-  abbrev pub few : Bool
+  abbrev few : Bool
   few = points-few && eqb (points % 3) 0
 
   pub few-writable : few ≡ true → Writable first second skeleton points

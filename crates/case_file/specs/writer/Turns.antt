@@ -1,12 +1,12 @@
 -- The records of a list one after another, and the parts of a file: what is written next, and what is left.
 use mathlib.Core.Path.{_≡_, refl, sym, ap, _∙_}
 use mathlib.Core.List.{List, [], _∷_, _++_, append-nil}
-use Prim.Native.Nat.{ℕ, zero, suc, _+_, _*_, _%_, _/_, _≤_, _<_}
+use Prim.Native.Nat.{ℕ, suc, _+_, _*_, _%_, _/_, _≤_, _<_}
 use native.Mathlib.Numerals.{add-one, add-two}
 use native.Mathlib.Omega.{arith}
 use lib.ListN.{length, drop, set, getD, length-drop, drop-of-length-le}
 use lib.Seq.{drop-cons}
-use Rattle.case_file.specs.Format.{modulus-kind, first-kind, second-kind, skeleton-kind, point-kind, end-kind, kind-of, widths, sum, today}
+use Rattle.case_file.specs.Format.{base, modulus-kind, first-kind, second-kind, skeleton-kind, point-kind, end-kind, kind-of, widths, sum, today}
 use Rattle.case_file.specs.Case.{added}
 use Rattle.case_file.specs.Written.{bytes, packed, records, in-order, file-of}
 use Rattle.case_file.specs.WriteCall.{WriteCall, singles, triples, file}
@@ -15,29 +15,31 @@ use Rattle.case_file.specs.record.Packing.{length-bytes, length-packed}
 use Rattle.case_file.specs.writer.Putting.{Putting, putting-start, putting-next, putting-room, putting-end, puts-append}
 
 -- two bytes of a number that has no more
-pub puts-two : (v n : ℕ) (before : List ℕ) → v < 65536 → Puts (bytes 2 v) n (n + 2) before (set (set before n (v % 256)) (n + 1) (v / 256))
+pub puts-two : (v n : ℕ) (before : List ℕ) → v < base * base → Puts (bytes 2 v) n (n + 2) before (set (set before n (v % base)) (n + 1) (v / base))
 unfolding bytes
 puts-two v n before h =
-    let e : v / 256 ≡ v / 256 % 256 = omega arith in
+    let e : v / base ≡ v / base % base = omega arith in
     record { stored = rw (add-one, ← e); counted = refl }
 
 -- the next byte of a number does not see what stands above it
-byte-of : (x y : ℕ) → (x + 256 * y) % 256 ≡ x % 256
+byte-of : (x y : ℕ) → (x + base * y) % base ≡ x % base
 byte-of x y = omega arith
 
-four-bytes : (v : ℕ) → bytes 4 v ≡ bytes 2 (v % 65536) ++ bytes 2 (v / 65536)
+four-bytes : (v : ℕ) → bytes 4 v ≡ bytes 2 (v % (base * base)) ++ bytes 2 (v / (base * base))
 unfolding bytes
 four-bytes v =
-    let a : v % 65536 % 256 ≡ v % 256 = omega arith in
-    let q : v / 256 ≡ v % 65536 / 256 + 256 * (v / 65536) = omega arith in
-    let b : v % 65536 / 256 % 256 ≡ v / 256 % 256 = sym (ap (λ (n : ℕ). n % 256) q ∙ byte-of (v % 65536 / 256) (v / 65536)) in
-    let c : v / 65536 % 256 ≡ v / 256 / 256 % 256 = ap (λ (n : ℕ). n % 256) (omega arith) in
-    let d : v / 65536 / 256 % 256 ≡ v / 256 / 256 / 256 % 256 = ap (λ (n : ℕ). n % 256) (omega arith) in
+    let low : ℕ = v % (base * base) in
+    let high : ℕ = v / (base * base) in
+    let a : low % base ≡ v % base = omega arith in
+    let q : v / base ≡ low / base + base * high = omega arith in
+    let b : low / base % base ≡ v / base % base = sym (ap (λ (n : ℕ). n % base) q ∙ byte-of (low / base) high) in
+    let c : high % base ≡ v / base / base % base = ap (λ (n : ℕ). n % base) (omega arith) in
+    let d : high / base % base ≡ v / base / base / base % base = ap (λ (n : ℕ). n % base) (omega arith) in
     rw (a, b, c, d)
 
 -- four bytes are twice two
-pub puts-four : (v : ℕ) {n k r : ℕ} {before now after : List ℕ} → Puts (bytes 2 (v % 65536)) n k before now → Puts (bytes 2 (v / 65536)) k r now after
-    → Puts (bytes 4 v) n r before after
+pub puts-four : (v : ℕ) {n k r : ℕ} {before now after : List ℕ} → Puts (bytes 2 (v % (base * base))) n k before now
+    → Puts (bytes 2 (v / (base * base))) k r now after → Puts (bytes 4 v) n r before after
 puts-four v p q = rw (four-bytes v) (puts-append p q)
 
 -- three numbers of two bytes behind a kind

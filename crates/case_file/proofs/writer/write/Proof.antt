@@ -1,5 +1,4 @@
 -- `write` refuses by its check, or writes the file into a buffer that the check found long enough.
-use native.Mathlib.Omega.{arith}
 use borrow.Author.Needs.{needs}
 use Rattle.case_file.specs.WriteCall.{WriteCall, write-call}
 use Rattle.case_file.specs.writer.Check.{write-refused, write-room, write-done}

@@ -1,5 +1,4 @@
 -- `write4` puts the four bytes of a number as twice two.
-use native.Mathlib.Omega.{arith}
 use borrow.Author.Needs.{needs}
 use Rattle.case_file.specs.Written.{bytes}
 use Rattle.case_file.specs.writer.Putting.{puts-room}

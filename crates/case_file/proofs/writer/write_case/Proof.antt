@@ -1,5 +1,5 @@
 -- `write_case` puts the parts of the file one after another: at each place what is left of the file is known (`Putting`), and there is room for it.
-use mathlib.Core.Path.{_≡_, refl}
+use mathlib.Core.Path.{refl}
 use mathlib.Core.List.{List, [], _∷_}
 use Prim.Native.Nat.{ℕ, _+_, _≤_}
 use native.Mathlib.Omega.{arith}

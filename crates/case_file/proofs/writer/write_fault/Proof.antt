@@ -3,10 +3,7 @@ use mathlib.Core.Path.{refl}
 use native.Mathlib.Omega.{arith}
 use borrow.Author.Tests.{not-true, not-false}
 use borrow.Author.Needs.{needs}
-use Rattle.field.specs.declared.faults.Fault.{Fault}
-use Rattle.field.specs.Refusal.{Tested}
 use Rattle.field.specs.faults.Laws.{placed-never, tested-line, tested-past, tested-end}
-use Rattle.case_file.specs.WriteCall.{Unwritable}
 use Rattle.case_file.specs.writer.Cases.{Writable, not-unwritable}
 use Rattle.case_file.specs.writer.Check.{few-writable, many-unwritable}
 use Rattle.case_file.proofs.writer.write_fault.Statement.{statement}

@@ -1,6 +1,5 @@
 -- The loop of `write_terms`: of the records of the list those from i on are still to be put (`Listing`).
 use Prim.Native.Nat.{_-_}
-use native.Mathlib.Omega.{arith}
 use borrow.Author.Needs.{needs}
 use lib.ListN.{length}
 use Rattle.case_file.specs.WriteCall.{singles}
