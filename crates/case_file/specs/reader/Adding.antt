@@ -69,7 +69,7 @@ module _ {bytes : List ℕ} {k at : ℕ} {r : Counts} (ready : Ready bytes k at 
     unfolding kind-of added
     first-added e {v} t q c g fresh =
         let a = first-place e in
-        let m = one-more a (c first-kind) (rw (g .record-is)) (v ∷ []) (rw (of-four bytes at (a .whole), t)) (q .counted) (g .first-is) (q .stored) in
+        let m = one-more a (c first-kind) (rw (g .record-is)) (v ∷ []) (rw (of-four bytes at (a .whole), t)) (g .first-is) q in
         rw e (gives (rw (m .0, g .record-is)) (m .1) (g .second-is) (g .skeleton-is) (g .points-is))
 
     pub second-added : k ≡ second-kind → {v n : ℕ} {s′ : List ℕ} → v ≡ four bytes at → Puts (v ∷ []) (r .second) n s s′
@@ -77,7 +77,7 @@ module _ {bytes : List ℕ} {k at : ℕ} {r : Counts} (ready : Ready bytes k at 
     unfolding kind-of added
     second-added e {v} t q c g fresh =
         let a = second-place e in
-        let m = one-more a (c second-kind) (rw (g .record-is)) (v ∷ []) (rw (of-four bytes at (a .whole), t)) (q .counted) (g .second-is) (q .stored) in
+        let m = one-more a (c second-kind) (rw (g .record-is)) (v ∷ []) (rw (of-four bytes at (a .whole), t)) (g .second-is) q in
         rw e (gives (rw (m .0, g .record-is)) (g .first-is) (m .1) (g .skeleton-is) (g .points-is))
 
     pub key-added : k ≡ skeleton-kind → {v n : ℕ} {l′ : List ℕ} → v ≡ two bytes at → Puts (v ∷ []) (r .skeleton) n l l′
@@ -85,7 +85,7 @@ module _ {bytes : List ℕ} {k at : ℕ} {r : Counts} (ready : Ready bytes k at 
     unfolding kind-of added
     key-added e {v} t q c g fresh =
         let a = key-place e in
-        let m = one-more a (c skeleton-kind) (rw (g .record-is)) (v ∷ []) (rw (of-two bytes at (a .whole), t)) (q .counted) (g .skeleton-is) (q .stored) in
+        let m = one-more a (c skeleton-kind) (rw (g .record-is)) (v ∷ []) (rw (of-two bytes at (a .whole), t)) (g .skeleton-is) q in
         rw e (gives (rw (m .0, g .record-is)) (g .first-is) (g .second-is) (m .1) (g .points-is))
 
     pub point-added : k ≡ point-kind → {y z w n : ℕ} {p′ : List ℕ} → y ≡ two bytes at → z ≡ two bytes (at + 2) → w ≡ two bytes (at + 4)
@@ -94,5 +94,5 @@ module _ {bytes : List ℕ} {k at : ℕ} {r : Counts} (ready : Ready bytes k at 
     unfolding kind-of added
     point-added e {y} {z} {w} t u v q c g fresh =
         let a = point-place e in
-        let m = one-more a (c point-kind) (rw (g .record-is)) (y ∷ z ∷ w ∷ []) (rw (of-three bytes at (a .whole), t, u, v)) (q .counted) (g .points-is) (q .stored) in
+        let m = one-more a (c point-kind) (rw (g .record-is)) (y ∷ z ∷ w ∷ []) (rw (of-three bytes at (a .whole), t, u, v)) (g .points-is) q in
         rw e (gives (rw (m .0, g .record-is)) (g .first-is) (g .second-is) (g .skeleton-is) (m .1))

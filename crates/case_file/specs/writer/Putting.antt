@@ -56,7 +56,8 @@ pub puts-behind : {v n k : ℕ} {before now : List ℕ} → Puts (v ∷ []) n k 
 puts-behind p q = puts-append p q
 
 -- numbers that are put from the first place on are written first, and the rest is left
-pub puts-written : {all before after : List ℕ} {r : ℕ} → length all ≤ length before → Puts all 0 r before after → (r ≡ length all) × (after ≡ written all before)
+pub puts-written : {all before after : List ℕ} {r : ℕ} → length all ≤ length before → Puts all 0 r before after
+    → (r ≡ length all) × (after ≡ written all before)
 puts-written {all} {before} h p =
     let z : 0 + length all ≡ length all = omega arith in
     (p .counted ∙ z, p .stored ∙ sets-eq all before 0 (rw z h) ∙ ap (λ (k : ℕ). all ++ drop k before) z)

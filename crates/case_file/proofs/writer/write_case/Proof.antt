@@ -9,7 +9,8 @@ use Rattle.case_file.specs.Format.{modulus-kind, end-kind, kind-of}
 use Rattle.case_file.specs.Written.{bytes}
 use Rattle.case_file.specs.WriteCall.{WriteCall, write-call, file}
 use Rattle.case_file.specs.writer.Putting.{Putting, putting-start, putting-next, putting-room, putting-end}
-use Rattle.case_file.specs.writer.Turns.{first-part, second-part, skeleton-part, points-part, from-first, from-second, from-skeleton, from-points, file-parts}
+use Rattle.case_file.specs.writer.Turns.{first-part, second-part, skeleton-part, points-part, file-parts}
+use Rattle.case_file.specs.writer.Turns.{from-first, from-second, from-skeleton, from-points}
 use Rattle.case_file.proofs.writer.write_case.Statement.{statement}
 use Rattle.case_file.proofs.writer.write_case.Tie as tie
 
@@ -42,7 +43,8 @@ room z = omega (arith, z .pre)
 put-modulus : (d : tie.After-write-key) → At (start d) (d .write-key .result) (d .write-key .last .1 .1 .1 .0) (from-first (lent (start d)))
 put-modulus d = putting-next putting-start (file-parts (lent (start d))) (d .write-key .ensures)
 
-put-first : (d : tie.After-write-terms) → let z = start (modulus-of d) in At z (d .write-terms .result) (d .write-terms .last .1 .1 .1 .0) (from-second (lent z))
+put-first : (d : tie.After-write-terms) → let z = start (modulus-of d) in
+    At z (d .write-terms .result) (d .write-terms .last .1 .1 .1 .0) (from-second (lent z))
 put-first d = putting-next (put-modulus (modulus-of d)) refl (d .write-terms .ensures)
 
 put-second : (d : tie.After-write-terms2) → let z = start (modulus-of (first-of d)) in
