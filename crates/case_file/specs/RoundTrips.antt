@@ -1,16 +1,16 @@
--- The two round trips and the greatest length, stated over the promises of the calls alone: of `write`, and of `read` and `read_into`.
+-- The two round trips and the greatest length, stated over the promises of the calls alone: of `write`, and of `read`, `read_into` and `read_one_into`.
 use mathlib.Core.Path.{_≡_}
 use mathlib.Core.List.{List}
 use lib.ListN.{length, take}
 use Prim.Native.Nat.{ℕ, _^_, _≤_, _<_}
 use Rattle.field.specs.Refusal.{none}
-use Rattle.field.specs.Lent.{written}
+use Rattle.case_file.specs.declared.Counts.{Counts}
 use Rattle.case_file.specs.declared.Contents.{Contents}
 use Rattle.case_file.specs.Format.{base, first-kind, second-kind, skeleton-kind, point-kind, fullest, today}
-use Rattle.case_file.specs.Reading.{read}
+use Rattle.case_file.specs.Reading.{Reading, read-one, read}
 use Rattle.case_file.specs.Written.{Below}
-use Rattle.case_file.specs.Handed.{in-array, contents}
-use Rattle.case_file.specs.WriteCall.{WriteCall, write-call, WriteResult, write-result, Write}
+use Rattle.case_file.specs.Handed.{in-array, contents, Gives}
+use Rattle.case_file.specs.WriteCall.{WriteCall, write-call, WriteResult, wrote, Write}
 
 -- the numbers of a call are of their widths, as their types say: modulus, keys and point numbers of two bytes, terms of four
 pub record OfWidth (c : WriteCall) : Type 0 where
@@ -53,8 +53,56 @@ abbrev pub WrittenOfRead : Type 0
 WrittenOfRead =
     (bs : List ℕ) → Below base bs → (r : Contents) → r ≡ contents (read bs) → r .fault .number ≡ 0
     → (buffer : List ℕ) → length bs ≤ length buffer → (w : WriteResult) → Write (call-of r buffer) w
-    → w ≡ write-result (record { fault = none; length = length bs }) (written bs buffer)
+    → w ≡ wrote bs buffer
 
 -- no length is beyond that of the fullest file
 abbrev pub NeverLonger : Type 0
 NeverLonger = (c : WriteCall) (w : WriteResult) → Write c w → w .found .length ≤ fullest today
+
+-- the record and the lent arrays of `read_into` and `read_one_into`, as `read` hands them back
+abbrev pub together : Counts → (first second skeleton points : List ℕ) → Contents
+together r first second skeleton points =
+    record {
+      fault = r .fault;
+      modulus = r .modulus;
+      first = first;
+      «first_count» = r .first;
+      second = second;
+      «second_count» = r .second;
+      skeleton = skeleton;
+      «skeleton_count» = r .skeleton;
+      points = points;
+      «points_count» = r .points;
+    }
+
+-- the modulus and the lists of a call, and the length of its file, are handed back
+pub record HandsBack (c : WriteCall) (w : WriteResult) (r : Counts) (first second skeleton points : List ℕ) : Type 0 where
+  pub lists : together r first second skeleton points ≡ lists-of c
+  pub next : r .next ≡ w .found .length
+
+-- the first trip by a reader with lent arrays, where `reading` is what it is given to read of a result
+abbrev pub ReadBack : (WriteResult → Reading) → Type 0
+ReadBack reading =
+    (c : WriteCall) → OfWidth c → (w : WriteResult) → Write c w → w .found .fault .number ≡ 0
+    → (r : Counts) (first second skeleton points : List ℕ) → Gives (reading w) r first second skeleton points
+    → HandsBack c w r first second skeleton points
+
+-- `read_into` is given the bytes that were written, `read_one_into` the whole buffer: what stands after the file is left
+abbrev pub ReadIntoOfWritten : Type 0
+ReadIntoOfWritten = ReadBack (λ w. read (take (w .found .length) (w .buffer)))
+
+abbrev pub ReadOneIntoOfWritten : Type 0
+ReadOneIntoOfWritten = ReadBack (λ w. read-one (w .buffer))
+
+-- the second trip from `read_into`, which hands back the whole file, and from `read_one_into`, which hands back the bytes up to `next`
+abbrev pub WrittenOfReadInto : Type 0
+WrittenOfReadInto =
+    (bs : List ℕ) → Below base bs → (r : Counts) (first second skeleton points : List ℕ) → Gives (read bs) r first second skeleton points
+    → r .fault .number ≡ 0 → (buffer : List ℕ) → length bs ≤ length buffer
+    → (w : WriteResult) → Write (call-of (together r first second skeleton points) buffer) w → w ≡ wrote bs buffer
+
+abbrev pub WrittenOfReadOneInto : Type 0
+WrittenOfReadOneInto =
+    (bs : List ℕ) → Below base bs → (r : Counts) (first second skeleton points : List ℕ) → Gives (read-one bs) r first second skeleton points
+    → r .fault .number ≡ 0 → (buffer : List ℕ) → r .next ≤ length buffer
+    → (w : WriteResult) → Write (call-of (together r first second skeleton points) buffer) w → w ≡ wrote (take (r .next) bs) buffer

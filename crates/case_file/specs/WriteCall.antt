@@ -81,7 +81,11 @@ pub record WriteResult : Type 0 where
 abbrev pub write-result : WriteRecord → List ℕ → WriteResult
 write-result found buffer = record { found = found; buffer = buffer }
 
+-- these bytes are written first in the buffer
+abbrev pub wrote : List ℕ → List ℕ → WriteResult
+wrote bytes buffer = write-result (record { fault = none; length = length bytes }) (written bytes buffer)
+
 -- the promise of the writer
 pub data Write (c : WriteCall) : WriteResult → Type 0 where
   refused : (f : Fault) → Refuses (write-table c) f → Write c (write-result (record { fault = f; length = 0 }) (c .buffer))
-  accepted : Passes (write-table c) → Write c (write-result (record { fault = none; length = length (file c) }) (written (file c) (c .buffer)))
+  accepted : Passes (write-table c) → Write c (wrote (file c) (c .buffer))

@@ -2,7 +2,6 @@
 pub mod Cases
 pub mod Length
 pub mod Room
-pub mod Putting
 pub mod Turns
 pub mod Check
 pub mod Determined

@@ -7,7 +7,7 @@ ghost use Rattle.field.specs.Refusal.{Tested};
 ghost use Rattle.case_file.specs.Format.{skeleton-kind, point-kind, today};
 ghost use Rattle.case_file.specs.Written.{bytes, packed, records};
 ghost use Rattle.case_file.specs.WriteCall.{write-call, singles, triples, of-lengths, file, write-result, Write};
-ghost use Rattle.case_file.specs.record.Room.{Puts};
+ghost use Rattle.field.specs.loops.Putting.{Puts};
 ghost use Rattle.case_file.specs.writer.Cases.{Writable};
 ghost use Rattle.case_file.specs.writer.Length.{file-length};
 ghost use Rattle.case_file.specs.writer.Room.{TermsFit};

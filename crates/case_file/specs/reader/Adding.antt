@@ -10,7 +10,8 @@ use Rattle.case_file.specs.Case.{Case, added, flat}
 use Rattle.case_file.specs.Reading.{whole}
 use Rattle.case_file.specs.Handed.{Gives}
 use Rattle.case_file.specs.declared.Counts.{Counts}
-use Rattle.case_file.specs.record.Room.{held, Place, two, four, Puts}
+use Rattle.field.specs.loops.Putting.{Puts}
+use Rattle.case_file.specs.record.Room.{held, Place, two, four}
 use Rattle.case_file.specs.record.Packing.{of-two, of-four, of-three}
 use Rattle.case_file.specs.record.Arrays.{one-more, gives}
 

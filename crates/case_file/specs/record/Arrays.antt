@@ -10,7 +10,8 @@ use Rattle.case_file.specs.Case.{flat}
 use Rattle.case_file.specs.Reading.{Reading}
 use Rattle.case_file.specs.Handed.{padded, counts, array, Gives}
 use Rattle.case_file.specs.declared.Counts.{Counts}
-use Rattle.case_file.specs.record.Room.{most, Place, Puts}
+use Rattle.field.specs.loops.Putting.{Puts}
+use Rattle.case_file.specs.record.Room.{most, Place}
 use Rattle.case_file.specs.record.Packing.{length-numbers}
 
 padded-more : (n : ℕ) (xs : List ℕ) (v : ℕ) → length xs < n → set (padded n xs) (length xs) v ≡ padded n (xs ++ v ∷ [])

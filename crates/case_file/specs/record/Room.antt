@@ -3,7 +3,6 @@ use Prim.Native.Nat.{ℕ, _+_, _*_, _/_, _≤_}
 use mathlib.Core.Path.{_≡_}
 use mathlib.Core.List.{List, [], _∷_}
 use lib.ListN.{length, getD}
-use lib.Seq.{sets}
 use Rattle.case_file.specs.Format.{Kind, base, modulus-kind, end-kind, sum}
 use Rattle.case_file.specs.declared.Counts.{Counts}
 
@@ -30,8 +29,3 @@ two bytes at = getD bytes at 0 + base * getD bytes (at + 1) 0
 
 abbrev pub four : List ℕ → ℕ → ℕ
 four bytes at = two bytes at + base * base * two bytes (at + 2)
-
--- numbers are put into a list from place n on, one after another; r is the place after them
-pub record Puts (vs : List ℕ) (n r : ℕ) (before after : List ℕ) : Type 0 where
-  pub stored : after ≡ sets before n vs
-  pub counted : r ≡ n + length vs

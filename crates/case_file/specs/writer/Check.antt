@@ -13,12 +13,12 @@ use Rattle.field.specs.declared.faults.Fault.{Fault}
 use Rattle.field.specs.Refusal.{Passes, Tested}
 use Rattle.field.specs.faults.Decision.{either-decided}
 use Rattle.field.specs.faults.Laws.{never-placed, tested-passes, tested-refuses}
+use Rattle.field.specs.loops.Putting.{Puts, puts-count, puts-written}
 use Rattle.case_file.specs.Format.{first-term, second-term, key, point}
 use Rattle.case_file.specs.WriteCall.{WriteCall, file, Unwritable, of-lengths, write-table, write-result, Write, refused, accepted}
-use Rattle.case_file.specs.record.Room.{most, Puts}
+use Rattle.case_file.specs.record.Room.{most}
 use Rattle.case_file.specs.writer.Cases.{Writable, writable}
 use Rattle.case_file.specs.writer.Length.{file-length, length-file}
-use Rattle.case_file.specs.writer.Putting.{puts-written}
 
 -- line 26, computed
 unfoldable pub unwritable-decided : (first second skeleton points : ℕ) → Dec (Unwritable first second skeleton points)
@@ -87,5 +87,4 @@ module _ (c : WriteCall) {f : Fault} (t : Tested (of-lengths (length (c .first-l
 
     pub write-done : {r : ℕ} {after : List ℕ} → Puts (file c) 0 r (c .buffer) after → Write c (write-result (record { fault = f; length = r }) after)
     write-done p =
-        let w = puts-written write-room p in
-        rw (tested-passes (write-table c) tt f of-table z .1, w .0, w .1) (accepted passes)
+        rw (tested-passes (write-table c) tt f of-table z .1, puts-count p, puts-written p write-room) (accepted passes)

@@ -16,17 +16,14 @@ use Rattle.case_file.specs.Reading.{Reading, whole, read-one, read}
 use Rattle.case_file.specs.Reading as reading
 use Rattle.case_file.specs.Written.{file-of, Below, Storable}
 use Rattle.case_file.specs.Handed.{padded, contents, Gives}
-use Rattle.case_file.specs.WriteCall.{WriteCall, write-call, call-case, file, write-table, WriteResult, write-result, Write, refused, accepted}
+use Rattle.case_file.specs.WriteCall.{WriteCall, write-call, call-case, file, write-table, WriteResult, wrote, Write, refused, accepted}
 use Rattle.case_file.specs.RoundTrips.{OfWidth, lists-of, call-of, ReadOfWritten, WrittenOfRead, NeverLonger}
+use Rattle.case_file.specs.RoundTrips.{together, HandsBack, ReadIntoOfWritten, ReadOneIntoOfWritten, WrittenOfReadInto, WrittenOfReadOneInto}
 use Rattle.case_file.specs.reader.Alone.{Numbered, read-one-numbered}
 use Rattle.case_file.specs.reader.Today as reader
 use Rattle.case_file.specs.writer.Cases.{flat-singles, flat-triples, CanWrite, writable, not-unwritable, case-within, case-storable}
 use Rattle.case_file.specs.writer.Cases.{lists-writable, case-of-lists}
 use Rattle.case_file.specs.writer.Length.{case-has, at-most-fullest}
-
--- what an accepted call answers where bs is the file, and the buffer afterwards
-abbrev pub wrote : List ℕ → List ℕ → WriteResult
-wrote bs buffer = write-result (record { fault = none; length = length bs }) (written bs buffer)
 
 module _ (c : WriteCall) where
   can-write : Passes (write-table c) → CanWrite c
@@ -92,29 +89,8 @@ written-of-read bs b r e z buffer l w h =
     e ∙ ap (λ (bs : List ℕ). contents (read bs)) (a .2) ∙ ap contents (reader.read-of-written (a .0) (a .1)) in
     rw (a .2) (written-again (a .0) (length (file-of today (a .0))) (a .1) r back buffer (rw (a .2) at l) w h)
 
--- the record and the lent arrays of `read_into` and `read_one_into`, as `read` hands them back
-abbrev pub together : Counts → (first second skeleton points : List ℕ) → Contents
-together r first second skeleton points =
-    record {
-      fault = r .fault;
-      modulus = r .modulus;
-      first = first;
-      «first_count» = r .first;
-      second = second;
-      «second_count» = r .second;
-      skeleton = skeleton;
-      «skeleton_count» = r .skeleton;
-      points = points;
-      «points_count» = r .points;
-    }
-
 gives-contents : {o : Reading} {r : Counts} {f s k p : List ℕ} → Gives o r f s k p → together r f s k p ≡ contents o
 gives-contents g = rw (g .record-is, g .first-is, g .second-is, g .skeleton-is, g .points-is)
-
--- the modulus and the lists of a call, and the length of its file, are handed back
-pub record HandsBack (c : WriteCall) (w : WriteResult) (r : Counts) (first second skeleton points : List ℕ) : Type 0 where
-  pub lists : together r first second skeleton points ≡ lists-of c
-  pub next : r .next ≡ w .found .length
 
 hands-back : {c : WriteCall} {w : WriteResult} {o : Reading} {r : Counts} {f s k p : List ℕ} → CanWrite c → o ≡ whole (call-case c) (w .found .length)
     → Gives o r f s k p → HandsBack c w r f s k p
@@ -124,32 +100,23 @@ hands-back {c} {w} h e g =
       next = rw (g .record-is, e);
     }
 
-module _ {r : Counts} {f s k p : List ℕ} where
-  module _ (c : WriteCall) (o : OfWidth c) (w : WriteResult) (h : Write c w) (z : w .found .fault .number ≡ 0) where
-    -- `read_into` of the bytes that were written
-    pub read-into-of-written : Gives (read (take (w .found .length) (w .buffer))) r f s k p → HandsBack c w r f s k p
-    read-into-of-written g = let b = reads-back c o w h z in hands-back (b .can) (b .alone) g
+pub read-into-of-written : ReadIntoOfWritten
+read-into-of-written c o w h z r f s k p g = let b = reads-back c o w h z in hands-back (b .can) (b .alone) g
 
-    -- `read_one_into` of the whole buffer: what stands after the file is left
-    pub read-one-into-of-written : Gives (read-one (w .buffer)) r f s k p → HandsBack c w r f s k p
-    read-one-into-of-written g = let b = reads-back c o w h z in hands-back (b .can) (b .begins) g
+pub read-one-into-of-written : ReadOneIntoOfWritten
+read-one-into-of-written c o w h z r f s k p g = let b = reads-back c o w h z in hands-back (b .can) (b .begins) g
 
-  module _ (bs : List ℕ) (b : Below base bs) (z : r .fault .number ≡ 0) (buffer : List ℕ) where
-    -- what `read_into` handed back, written
-    pub written-of-read-into : Gives (read bs) r f s k p → length bs ≤ length buffer
-        → (w : WriteResult) → Write (call-of (together r f s k p) buffer) w → w ≡ wrote bs buffer
-    written-of-read-into g l w h = written-of-read bs b (together r f s k p) (gives-contents g) z buffer l w h
+pub written-of-read-into : WrittenOfReadInto
+written-of-read-into bs b r f s k p g z buffer l w h = written-of-read bs b (together r f s k p) (gives-contents g) z buffer l w h
 
-    -- what `read_one_into` handed back, written: the bytes up to `next`
-    pub written-of-read-one-into : Gives (read-one bs) r f s k p → r .next ≤ length buffer
-        → (w : WriteResult) → Write (call-of (together r f s k p) buffer) w → w ≡ wrote (take (r .next) bs) buffer
-    written-of-read-one-into g l w h = go (read-one bs) refl (read-one-numbered today bs) g
-      where
-        go : (o : Reading) → read-one bs ≡ o → Numbered o → Gives o r f s k p → w ≡ wrote (take (r .next) bs) buffer
-        go (reading.refused e i) q m g = absurd (m (rw (g .record-is) at z))
-        go (whole c n) q m g =
-            let t = reader.written-of-read-one bs c n b q in
-            let at : length (file-of today c) ≡ n = omega (arith, t .2, rw length-append at (ap length (t .1))) in
-            let next : r .next ≡ n = rw (g .record-is) in
-            let same : take n bs ≡ file-of today c = ap (take n) (t .1) ∙ take-at (file-of today c) (t .0) n at in
-            rw (next, same) (written-again c n (t .3) (together r f s k p) (gives-contents g) buffer (omega arith) w h)
+pub written-of-read-one-into : WrittenOfReadOneInto
+written-of-read-one-into bs b r f s k p g z buffer l w h = go (read-one bs) refl (read-one-numbered today bs) g
+  where
+    go : (o : Reading) → read-one bs ≡ o → Numbered o → Gives o r f s k p → w ≡ wrote (take (r .next) bs) buffer
+    go (reading.refused e i) q m g = absurd (m (rw (g .record-is) at z))
+    go (whole c n) q m g =
+        let t = reader.written-of-read-one bs c n b q in
+        let at : length (file-of today c) ≡ n = omega (arith, t .2, rw length-append at (ap length (t .1))) in
+        let next : r .next ≡ n = rw (g .record-is) in
+        let same : take n bs ≡ file-of today c = ap (take n) (t .1) ∙ take-at (file-of today c) (t .0) n at in
+        rw (next, same) (written-again c n (t .3) (together r f s k p) (gives-contents g) buffer (omega arith) w h)

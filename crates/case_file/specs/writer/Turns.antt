@@ -6,13 +6,12 @@ use native.Mathlib.Numerals.{add-one, add-two}
 use native.Mathlib.Omega.{arith}
 use lib.ListN.{length, drop, set, getD, length-drop, drop-of-length-le}
 use lib.Seq.{drop-cons}
+use Rattle.field.specs.loops.Putting.{Puts, Putting, putting-start, putting-next, putting-room, putting-end, puts-append}
 use Rattle.case_file.specs.Format.{base, modulus-kind, first-kind, second-kind, skeleton-kind, point-kind, end-kind, kind-of, widths, sum, today}
 use Rattle.case_file.specs.Case.{added}
 use Rattle.case_file.specs.Written.{bytes, packed, records, in-order, file-of}
 use Rattle.case_file.specs.WriteCall.{WriteCall, singles, triples, file}
-use Rattle.case_file.specs.record.Room.{Puts}
 use Rattle.case_file.specs.record.Packing.{length-bytes, length-packed}
-use Rattle.case_file.specs.writer.Putting.{Putting, putting-start, putting-next, putting-room, putting-end, puts-append}
 
 -- two bytes of a number that has no more
 pub puts-two : (v n : ℕ) (before : List ℕ) → v < base * base → Puts (bytes 2 v) n (n + 2) before (set (set before n (v % base)) (n + 1) (v / base))

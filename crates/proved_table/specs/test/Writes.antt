@@ -8,7 +8,7 @@ use Rattle.field.specs.Refusal.{none}
 use Rattle.field.specs.Lent.{written}
 use Rattle.field.specs.declared.faults.Fault.{Fault}
 use Rattle.field.specs.faults.Decision.{Checks, placed-check, decided}
-use Rattle.case_file.specs.WriteCall.{WriteCall, file, write-table, WriteResult, write-result}
+use Rattle.case_file.specs.WriteCall.{WriteCall, file, write-table, WriteResult, write-result, wrote}
 use Rattle.case_file.specs.writer.Check.{unwritable-decided}
 
 unfoldable pub write-checks : (c : WriteCall) → Checks (write-table c)
@@ -20,7 +20,7 @@ write-checks c = (
 -- by the fault that the lines give
 unfoldable pub by-fault : WriteCall → Fault → WriteResult
 by-fault c f = elim (eqb (f .number) 0) [
-  | true ↦ write-result (record { fault = none; length = length (file c) }) (written (file c) (c .buffer))
+  | true ↦ wrote (file c) (c .buffer)
   | false ↦ write-result (record { fault = f; length = 0 }) (c .buffer)
 ]
 

@@ -9,7 +9,7 @@ use Rattle.field.specs.Lent.{written}
 use Rattle.field.specs.declared.faults.Fault.{Fault}
 use Rattle.field.specs.faults.Laws.{tested-passes, tested-refuses}
 use Rattle.field.specs.faults.Decision.{decided, decided-tested}
-use Rattle.case_file.specs.WriteCall.{WriteCall, file, write-table, WriteResult, write-result, Write, refused, accepted}
+use Rattle.case_file.specs.WriteCall.{WriteCall, file, write-table, WriteResult, write-result, wrote, Write, refused, accepted}
 use Rattle.proved_table.specs.test.Writes.{write-checks, by-fault, right-write}
 
 by-fault-meets : (c : WriteCall) (f : Fault) → Tested (write-table c) f → Write c (by-fault c f)
@@ -17,7 +17,7 @@ unfolding by-fault
 by-fault-meets c f t = go (eqb (f .number) 0) refl
   where
     go : (b : Bool) → eqb (f .number) 0 ≡ b → Write c (elim b as (λ _. WriteResult) [
-      | true ↦ write-result (record { fault = none; length = length (file c) }) (written (file c) (c .buffer))
+      | true ↦ wrote (file c) (c .buffer)
       | false ↦ write-result (record { fault = f; length = 0 }) (c .buffer)
     ])
     go true e = accepted (tested-passes (write-table c) tt f t (eqb-true (f .number) 0 e) .0)

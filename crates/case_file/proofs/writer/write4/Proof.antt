@@ -1,7 +1,7 @@
 -- `write4` puts the four bytes of a number as twice two.
 use borrow.Author.Needs.{needs}
 use Rattle.case_file.specs.Written.{bytes}
-use Rattle.case_file.specs.writer.Putting.{puts-room}
+use Rattle.field.specs.loops.Putting.{puts-room}
 use Rattle.case_file.specs.writer.Turns.{puts-four}
 use Rattle.case_file.proofs.writer.write4.Statement.{statement}
 use Rattle.case_file.proofs.writer.write4.Tie as tie

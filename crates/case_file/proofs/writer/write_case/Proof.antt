@@ -8,7 +8,7 @@ use lib.ListN.{length}
 use Rattle.case_file.specs.Format.{modulus-kind, end-kind, kind-of}
 use Rattle.case_file.specs.Written.{bytes}
 use Rattle.case_file.specs.WriteCall.{WriteCall, write-call, file}
-use Rattle.case_file.specs.writer.Putting.{Putting, putting-start, putting-next, putting-room, putting-end}
+use Rattle.field.specs.loops.Putting.{Putting, putting-start, putting-next, putting-room, putting-end}
 use Rattle.case_file.specs.writer.Turns.{first-part, second-part, skeleton-part, points-part, file-parts}
 use Rattle.case_file.specs.writer.Turns.{from-first, from-second, from-skeleton, from-points}
 use Rattle.case_file.proofs.writer.write_case.Statement.{statement}

@@ -1,6 +1,6 @@
 -- `write_key` puts the kind, and the number's bytes behind it.
 use borrow.Author.Needs.{needs}
-use Rattle.case_file.specs.writer.Putting.{puts-behind}
+use Rattle.field.specs.loops.Putting.{puts-behind}
 use Rattle.case_file.proofs.writer.write_key.Statement.{statement}
 use Rattle.case_file.proofs.writer.write_key.Tie as tie
 

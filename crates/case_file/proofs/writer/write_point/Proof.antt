@@ -2,7 +2,7 @@
 use native.Mathlib.Omega.{arith}
 use borrow.Author.Needs.{needs}
 use Rattle.case_file.specs.Written.{bytes}
-use Rattle.case_file.specs.writer.Putting.{puts-room}
+use Rattle.field.specs.loops.Putting.{puts-room}
 use Rattle.case_file.specs.writer.Turns.{puts-point}
 use Rattle.case_file.proofs.writer.write_point.Statement.{statement}
 use Rattle.case_file.proofs.writer.write_point.Tie as tie

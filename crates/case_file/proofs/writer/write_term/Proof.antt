@@ -1,6 +1,6 @@
 -- `write_term` puts the kind, and the number's bytes behind it.
 use borrow.Author.Needs.{needs}
-use Rattle.case_file.specs.writer.Putting.{puts-behind}
+use Rattle.field.specs.loops.Putting.{puts-behind}
 use Rattle.case_file.proofs.writer.write_term.Statement.{statement}
 use Rattle.case_file.proofs.writer.write_term.Tie as tie
 

@@ -1,13 +1,18 @@
--- Numbers that are put into a list part after part: how it begins, goes on and ends.
+-- Numbers that are put into a list from a place on, one after another: how a loop that puts them begins, goes on and ends.
 use mathlib.Core.Path.{_≡_, refl, sym, ap, _∙_}
 use mathlib.Core.List.{List, [], _∷_, _++_, append-nil}
-use Prim.Native.Nat.{ℕ, suc, _+_, _≤_}
+use Prim.Native.Nat.{ℕ, suc, _+_, _≤_, _<_}
 use native.Mathlib.Nat.{add-zero}
+use native.Mathlib.Numerals.{add-one}
 use native.Mathlib.Omega.{arith}
-use lib.ListN.{length, drop, set, length-append}
-use lib.Seq.{sets, length-sets, sets-eq}
+use lib.ListN.{length, getD, take, drop, set, length-append, drop-of-length-le}
+use lib.Seq.{sets, length-sets, sets-eq, drop-cons, take-at}
 use Rattle.field.specs.Lent.{written}
-use Rattle.case_file.specs.record.Room.{Puts}
+
+-- the numbers vs stand from the place n on; r is the place after them
+pub record Puts (vs : List ℕ) (n r : ℕ) (before after : List ℕ) : Type 0 where
+  pub stored : after ≡ sets before n vs
+  pub counted : r ≡ n + length vs
 
 sets-append : (l : List ℕ) (i : ℕ) (vs ws : List ℕ) → sets l i (vs ++ ws) ≡ sets (sets l i vs) (i + length vs) ws
 sets-append l i [] ws = ap (λ (k : ℕ). sets l k ws) (sym (add-zero i))
@@ -26,6 +31,7 @@ module _ {all : List ℕ} {n : ℕ} {before : List ℕ} where
   putting-start = record { same = refl; counted = refl; as-long = refl }
 
   module _ {k : ℕ} {now left : List ℕ} (p : Putting all n k before now left) where
+    -- a part is put
     pub putting-next : {vs later : List ℕ} → left ≡ vs ++ later → {r : ℕ} {after : List ℕ} → Puts vs k r now after → Putting all n r before after later
     putting-next {vs} {later} e {r} {after} q =
         record {
@@ -33,6 +39,10 @@ module _ {all : List ℕ} {n : ℕ} {before : List ℕ} where
           counted = omega (arith, p .counted, q .counted, ap length e, length-append vs later);
           as-long = ap length (q .stored) ∙ length-sets now k vs ∙ p .as-long;
         }
+
+    -- one number is put
+    pub putting-one : {v : ℕ} {later : List ℕ} → left ≡ v ∷ later → Putting all n (k + 1) before (set now k v) later
+    putting-one {v} e = putting-next {vs = v ∷ []} e (record { stored = refl; counted = refl })
 
     -- there is room for the next part where there is room for all
     pub putting-room : (vs later : List ℕ) → left ≡ vs ++ later → n + length all ≤ length before → k + length vs ≤ length now
@@ -55,9 +65,24 @@ pub puts-behind : {v n k : ℕ} {before now : List ℕ} → Puts (v ∷ []) n k 
     → Puts (v ∷ vs) n r before after
 puts-behind p q = puts-append p q
 
--- numbers that are put from the first place on are written first, and the rest is left
-pub puts-written : {all before after : List ℕ} {r : ℕ} → length all ≤ length before → Puts all 0 r before after
-    → (r ≡ length all) × (after ≡ written all before)
-puts-written {all} {before} h p =
-    let z : 0 + length all ≡ length all = omega arith in
-    (p .counted ∙ z, p .stored ∙ sets-eq all before 0 (rw z h) ∙ ap (λ (k : ℕ). all ++ drop k before) z)
+-- numbers that are put from the first place on: how many they are, that they are written first and the rest is left, and where they stand
+module _ {all before after : List ℕ} {r : ℕ} (p : Puts all 0 r before after) where
+  pub puts-count : r ≡ length all
+  puts-count = omega (arith, p .counted)
+
+  module _ (h : length all ≤ length before) where
+    pub puts-written : after ≡ written all before
+    puts-written =
+        let z : 0 + length all ≡ length all = omega arith in
+        p .stored ∙ sets-eq all before 0 (rw z h) ∙ ap (λ (k : ℕ). all ++ drop k before) z
+
+    pub puts-first : take r after ≡ all
+    puts-first = ap (take r) puts-written ∙ take-at all (drop (length all) before) r (sym puts-count)
+
+-- a loop that puts one member of a list a turn
+module _ {all : List ℕ} {n k : ℕ} {before now : List ℕ} {i : ℕ} (p : Putting all n k before now (drop i all)) where
+  pub putting-member : i < length all → Putting all n (k + 1) before (set now k (getD all i 0)) (drop (i + 1) all)
+  putting-member h = putting-one p (drop-cons all i 0 h ∙ ap (λ (j : ℕ). getD all i 0 ∷ drop j all) (sym (add-one i)))
+
+  pub putting-all : length all ≤ i → Puts all n k before now
+  putting-all h = putting-end p (drop-of-length-le all h)
