@@ -1,6 +1,5 @@
 -- What the functions of a record ask and promise: room for its numbers, and the numbers in their list.
 use Prim.Native.Nat.{ℕ, _+_, _*_, _/_, _≤_}
-use mathlib.Core.Path.{_≡_}
 use mathlib.Core.List.{List, [], _∷_}
 use lib.ListN.{length, getD}
 use Rattle.case_file.specs.Format.{Kind, base, modulus-kind, end-kind, sum}

@@ -5,16 +5,15 @@ use mathlib.Core.List.{List}
 use native.Mathlib.Omega.{arith}
 use lib.ListN.{length, take, drop, getD, length-append}
 use lib.Seq.{take-at}
-use Rattle.field.specs.Refusal.{none, Passes}
-use Rattle.field.specs.Lent.{written}
+use Rattle.field.specs.Refusal.{Passes}
 use Rattle.field.specs.faults.Laws.{placed-never, never-placed, not-passes-and-refuses, refuses-numbered}
 use Rattle.case_file.specs.declared.Contents.{Contents}
 use Rattle.case_file.specs.declared.Counts.{Counts}
-use Rattle.case_file.specs.Format.{base, modulus-kind, first-kind, second-kind, skeleton-kind, point-kind, today}
+use Rattle.case_file.specs.Format.{modulus-kind, first-kind, second-kind, skeleton-kind, point-kind, today}
 use Rattle.case_file.specs.Case.{Case, added, flat}
 use Rattle.case_file.specs.Reading.{Reading, whole, read-one, read}
 use Rattle.case_file.specs.Reading as reading
-use Rattle.case_file.specs.Written.{file-of, Below, Storable}
+use Rattle.case_file.specs.Written.{file-of, Storable}
 use Rattle.case_file.specs.Handed.{padded, contents, Gives}
 use Rattle.case_file.specs.WriteCall.{WriteCall, write-call, call-case, file, write-table, WriteResult, wrote, Write, refused, accepted}
 use Rattle.case_file.specs.RoundTrips.{OfWidth, lists-of, call-of, ReadOfWritten, WrittenOfRead, NeverLonger}

@@ -4,8 +4,6 @@ use native.Mathlib.Decide.{decLt}
 use lib.Dec.{eqb}
 use lib.ListN.{length}
 use Rattle.field.specs.Numbers.{NOT_WRITABLE, BUFFER_SHORT}
-use Rattle.field.specs.Refusal.{none}
-use Rattle.field.specs.Lent.{written}
 use Rattle.field.specs.declared.faults.Fault.{Fault}
 use Rattle.field.specs.faults.Decision.{Checks, placed-check, decided}
 use Rattle.case_file.specs.WriteCall.{WriteCall, file, write-table, WriteResult, write-result, wrote}

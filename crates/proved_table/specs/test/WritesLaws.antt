@@ -4,8 +4,7 @@ use mathlib.Core.Bool.{Bool, true, false}
 use lib.Dec.{eqb}
 use lib.ListN.{length}
 use borrow.Author.Tests.{eqb-true, eqb-false}
-use Rattle.field.specs.Refusal.{none, Tested}
-use Rattle.field.specs.Lent.{written}
+use Rattle.field.specs.Refusal.{Tested}
 use Rattle.field.specs.declared.faults.Fault.{Fault}
 use Rattle.field.specs.faults.Laws.{tested-passes, tested-refuses}
 use Rattle.field.specs.faults.Decision.{decided, decided-tested}

@@ -1,5 +1,4 @@
 -- `divisor::verdict::write` meets its contract. The invariant: the first i terms are written, the rest is left.
-use mathlib.Core.Path.{refl}
 use mathlib.Core.List.{List}
 use Prim.Native.Nat.{ℕ, _-_, _≤_}
 use native.Mathlib.Omega.{arith}

@@ -1,5 +1,5 @@
 -- `poly::quotient::gather` meets its contract. The invariant: the terms of the cells from k on are put, and those of the cells below k are left.
-use mathlib.Core.Path.{refl, subst}
+use mathlib.Core.Path.{subst}
 use mathlib.Core.List.{List}
 use Prim.Native.Nat.{ℕ, _+_, _≤_, _<_}
 use native.Mathlib.Omega.{arith}
