@@ -80,7 +80,7 @@ pub record HandsBack (c : WriteCall) (w : WriteResult) (r : Counts) (first secon
   pub lists : together r first second skeleton points ≡ lists-of c
   pub next : r .next ≡ w .found .length
 
--- the first trip by a reader with lent arrays, where `reading` is what it is given to read of a result
+-- the first trip by a reader with lent arrays, where `reading` is what it reads of the writer's result
 abbrev pub ReadBack : (WriteResult → Reading) → Type 0
 ReadBack reading =
     (c : WriteCall) → OfWidth c → (w : WriteResult) → Write c w → w .found .fault .number ≡ 0
@@ -94,7 +94,7 @@ ReadIntoOfWritten = ReadBack (λ w. read (take (w .found .length) (w .buffer)))
 abbrev pub ReadOneIntoOfWritten : Type 0
 ReadOneIntoOfWritten = ReadBack (λ w. read-one (w .buffer))
 
--- the second trip from `read_into`, which hands back the whole file, and from `read_one_into`, which hands back the bytes up to `next`
+-- the second trip from `read_into`: all bytes are written again; and from `read_one_into`: the bytes up to `next`
 abbrev pub WrittenOfReadInto : Type 0
 WrittenOfReadInto =
     (bs : List ℕ) → Below base bs → (r : Counts) (first second skeleton points : List ℕ) → Gives (read bs) r first second skeleton points
