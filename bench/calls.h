@@ -1,4 +1,4 @@
-/* The library's three calls that are measured, by the types that their plain C twins have too. A length is 64 bits wide in the proved module,
+/* The library's four calls that are measured, by the types that their plain C twins have too. A length is 64 bits wide in the proved module,
    also where the module is compiled for a core whose own size_t has 32. */
 #ifndef CALLS_H
 #define CALLS_H
@@ -17,8 +17,13 @@ typedef void quotient_call(uint16_t modulus, const uint32_t *first, length first
 typedef void image_call(uint16_t modulus, const uint32_t *first, length first_terms, const uint32_t *second, length second_terms,
                         const uint16_t *point, length numbers, uint16_t coefficients[8], length record[3]);
 
+typedef void write_call(uint16_t modulus, const uint32_t *first, length first_terms, const uint32_t *second, length second_terms,
+                        const uint16_t *skeleton, length keys, const uint16_t *points, length numbers,
+                        uint8_t *buffer, length buffer_bytes, length record[3]);
+
 candidate_call balungkiro_candidate;
 quotient_call balungkiro_quotient;
 image_call balungkiro_image;
+write_call balungkiro_write;
 
 #endif

@@ -10,12 +10,13 @@
 #include "twin.h"
 #include "workloads.h"
 
-enum { KEYS = 4096, WORK_ROOM = 8192, ROUNDS = 101 };
+enum { KEYS = 4096, WORK_ROOM = 8192, MOST_BYTES = 2884, BUFFER = MOST_BYTES + 16, PAINT = 0x5a, ROUNDS = 101 };
 
 /* What a round of calls uses. */
 static uint32_t out[KEYS];
 static uint16_t work[WORK_ROOM];
 static uint16_t coefficients[8];
+static uint8_t buffer[BUFFER];
 static length record[7];
 static const workload *now;
 static nmod_mpoly_ctx_t ring;
@@ -31,6 +32,7 @@ static void fail(const char *what) {
 #define CANDIDATE(f) f(now->modulus, now->first, now->first_terms, now->second, now->second_terms, now->skeleton, now->keys, now->points, now->numbers, out, KEYS, work, WORK_ROOM, record)
 #define QUOTIENT(f, a, n) f(now->modulus, a, n, now->divisor, now->divisor_terms, out, KEYS, work, WORK_ROOM, record)
 #define IMAGE(f) f(now->modulus, now->first, now->first_terms, now->second, now->second_terms, now->at, now->at_numbers, coefficients, record)
+#define WRITE(f) f(now->modulus, now->first, now->first_terms, now->second, now->second_terms, now->skeleton, now->keys, now->points, now->numbers, buffer, BUFFER, record)
 
 static void library_candidate(void) { CANDIDATE(balungkiro_candidate); }
 static void twin_of_candidate(void) { CANDIDATE(twin_candidate); }
@@ -55,6 +57,9 @@ static void flint_divisions(void) {
 static void library_image(void) { IMAGE(balungkiro_image); }
 static void twin_of_image(void) { IMAGE(twin_image); }
 
+static void library_write(void) { WRITE(balungkiro_write); }
+static void twin_of_write(void) { WRITE(twin_write); }
+
 /* Agreement. */
 
 static void to_flint(nmod_mpoly_t f, const uint32_t *terms, length n) {
@@ -74,27 +79,34 @@ static void same_terms(const uint32_t *a, length n, nmod_mpoly_t f) {
     nmod_mpoly_clear(g, ring);
 }
 
-/* Calls the library, then the twin: the same record, the same numbers in the output. */
+static void forget(void) {
+    memset(out, 0, sizeof out);
+    memset(buffer, PAINT, sizeof buffer);
+    memset(record, 0, sizeof record);
+}
+
+/* Calls the library, then the twin: the same record, the same numbers in the output, the same bytes in the whole buffer. */
 static void same(void (*library)(void), void (*twin)(void), const char *what) {
     static uint32_t library_out[KEYS];
+    static uint8_t library_buffer[BUFFER];
     uint16_t library_coefficients[8];
     length library_record[7];
-    memset(out, 0, sizeof out);
-    memset(record, 0, sizeof record);
+    forget();
     library();
     if (record[0] != 0)
         fail("refused");
     memcpy(library_out, out, sizeof out);
     memcpy(library_coefficients, coefficients, sizeof coefficients);
+    memcpy(library_buffer, buffer, sizeof buffer);
     memcpy(library_record, record, sizeof record);
-    memset(out, 0, sizeof out);
-    memset(record, 0, sizeof record);
+    forget();
     twin();
-    if (memcmp(library_out, out, sizeof out) || memcmp(library_coefficients, coefficients, sizeof coefficients) || memcmp(library_record, record, sizeof record))
+    if (memcmp(library_out, out, sizeof out) || memcmp(library_coefficients, coefficients, sizeof coefficients) ||
+        memcmp(library_buffer, buffer, sizeof buffer) || memcmp(library_record, record, sizeof record))
         fail(what);
 }
 
-static void agree(void) {
+static void agree_on_algebra(void) {
     same(library_candidate, twin_of_candidate, "candidate: the twin's answer is not the library's");
     if (record[6] != now->divisor_terms || memcmp(out, now->divisor, record[6] * sizeof *out))
         fail("candidate: not the planted divisor");
@@ -106,15 +118,21 @@ static void agree(void) {
     same(library_image, twin_of_image, "image: the twin's answer is not the library's");
 }
 
+static void agree_on_file(void) {
+    same(library_write, twin_of_write, "write: the twin's answer is not the library's");
+}
+
 /* Cost. */
 
 typedef struct { const char *name; void (*calls[3])(void); } service;
 
-static const service services[] = {
+static const service algebra[] = {
     {"candidate", {library_candidate, twin_of_candidate, flint_gcd}},
     {"two divisions", {library_divisions, twin_divisions, flint_divisions}},
     {"image", {library_image, twin_of_image, NULL}},
 };
+
+static const service file = {"write", {library_write, twin_of_write, NULL}};
 
 static double processor_time(void) {
     struct timespec t;
@@ -168,24 +186,32 @@ static void measure(const service *s) {
         printf("           | %8.2f |           |\n", median(to_twin));
 }
 
+static void into_ring(void) {
+    nmod_mpoly_ctx_init(ring, 4, ORD_LEX, now->modulus);
+    nmod_mpoly_init(first, ring);
+    nmod_mpoly_init(second, ring);
+    nmod_mpoly_init(divisor, ring);
+    nmod_mpoly_init(found, ring);
+    to_flint(first, now->first, now->first_terms);
+    to_flint(second, now->second, now->second_terms);
+    to_flint(divisor, now->divisor, now->divisor_terms);
+}
+
+/* The candidate, the divisions and the image only where the divisor is known; the file always. */
 int main(void) {
     printf("| Workload  | Call          |   Library |    C twin |     FLINT | To twin  |  To FLINT |\n");
     printf("|-----------|---------------|-----------|-----------|-----------|----------|-----------|\n");
     for (int i = 0; i < WORKLOADS; i++) {
         now = &workloads[i];
-        if (now->number != 0)
-            continue;
-        nmod_mpoly_ctx_init(ring, 4, ORD_LEX, now->modulus);
-        nmod_mpoly_init(first, ring);
-        nmod_mpoly_init(second, ring);
-        nmod_mpoly_init(divisor, ring);
-        nmod_mpoly_init(found, ring);
-        to_flint(first, now->first, now->first_terms);
-        to_flint(second, now->second, now->second_terms);
-        to_flint(divisor, now->divisor, now->divisor_terms);
-        agree();
-        for (size_t s = 0; s < sizeof services / sizeof services[0]; s++)
-            measure(&services[s]);
+        bool known = now->number == 0;
+        if (known) {
+            into_ring();
+            agree_on_algebra();
+        }
+        agree_on_file();
+        for (size_t s = 0; known && s < sizeof algebra / sizeof algebra[0]; s++)
+            measure(&algebra[s]);
+        measure(&file);
         fflush(stdout);
     }
     return 0;

@@ -1,6 +1,6 @@
-/* The rule of the candidate, the quotient and the image in plain C: the library's algorithms on the library's data (the work room, the table of
-   64 rows, eight numbers for an image), with what C would have where the proved text has values: the table and its rows stand in one place and
-   are changed there. It is what the library's cost is held against; nothing else uses it. */
+/* The rule of the candidate, the quotient, the image and the writer in plain C: the library's algorithms on the library's data (the work room, the
+   table of 64 rows, eight numbers for an image), with what C would have where the proved text has values: the table and its rows stand in one
+   place and are changed there. It is what the library's cost is held against; nothing else uses it. */
 #include <stdbool.h>
 #include <stddef.h>
 
@@ -244,7 +244,73 @@ static bool divides(uint16_t p, const uint32_t *dividend, size_t n, const uint32
     return whole;
 }
 
+/* A case file: of each record its kind byte and its numbers, the low byte first. Each function gives what is behind the bytes that it puts. */
+
+enum { MODULUS = 1, FIRST, SECOND, SKELETON, POINT, END };
+
+static fault write_fault(size_t n, size_t m, size_t keys, size_t numbers, size_t bytes) {
+    if (n > MOST_TERMS || m > MOST_TERMS || keys > MOST_KEYS || numbers > 3 * MOST_POINTS || numbers % 3 != 0)
+        return (fault){26, 0};
+    return bytes < 4 + 5 * (n + m) + 3 * keys + 7 * (numbers / 3) ? (fault){27, 0} : (fault){0, 0};
+}
+
+static uint8_t *put(uint8_t *at, uint16_t number) {
+    *at++ = (uint8_t)number;
+    *at++ = (uint8_t)(number >> 8);
+    return at;
+}
+
+static uint8_t *put_key(uint8_t *at, uint8_t kind, uint16_t key) {
+    *at++ = kind;
+    return put(at, key);
+}
+
+static uint8_t *put_term(uint8_t *at, uint8_t kind, uint32_t term) {
+    *at++ = kind;
+    return put(put(at, coefficient_of(term)), key_of(term));
+}
+
+static uint8_t *put_point(uint8_t *at, uint16_t y, uint16_t z, uint16_t w) {
+    *at++ = POINT;
+    return put(put(put(at, y), z), w);
+}
+
+static uint8_t *put_terms(uint8_t *at, uint8_t kind, const uint32_t *terms, size_t n) {
+    for (size_t i = 0; i < n; i++)
+        at = put_term(at, kind, terms[i]);
+    return at;
+}
+
+static uint8_t *put_keys(uint8_t *at, const uint16_t *skeleton, size_t n) {
+    for (size_t i = 0; i < n; i++)
+        at = put_key(at, SKELETON, skeleton[i]);
+    return at;
+}
+
+static uint8_t *put_points(uint8_t *at, const uint16_t *points, size_t numbers) {
+    for (size_t i = 0; i < numbers; i += 3)
+        at = put_point(at, points[i], points[i + 1], points[i + 2]);
+    return at;
+}
+
 /* The calls. */
+
+void twin_write(uint16_t p, const uint32_t *first, length n, const uint32_t *second, length m, const uint16_t *skeleton, length keys,
+                const uint16_t *points, length numbers, uint8_t *buffer, length buffer_bytes, length record[3]) {
+    fault found = write_fault(n, m, keys, numbers, buffer_bytes);
+    record[0] = found.number;
+    record[1] = found.place;
+    record[2] = 0;
+    if (found.number)
+        return;
+    uint8_t *at = put_key(buffer, MODULUS, p);
+    at = put_terms(at, FIRST, first, n);
+    at = put_terms(at, SECOND, second, m);
+    at = put_keys(at, skeleton, keys);
+    at = put_points(at, points, numbers);
+    *at++ = END;
+    record[2] = (length)(at - buffer);
+}
 
 void twin_image(uint16_t p, const uint32_t *first, length n, const uint32_t *second, length m, const uint16_t *point, length numbers,
                 uint16_t u[8], length record[3]) {

@@ -3,7 +3,8 @@
 
 Each of the first four is a candidate call whose divisor is known. The first is P10; of the others the divisor is planted: the inputs are its products
 with two random polynomials, the skeleton is its monomials and the points are random. A seed fixes them. The divisor, made monic, is what library, twin and FLINT must all give. The quotient is
-the first input over it, the image is at the last point. The fifth is the dearest call of each of the three kinds that is known.
+the first input over it, the image is at the last point. What is written is the file of the candidate's lists. The fifth is the dearest call of
+each of the four kinds that is known.
 """
 
 import random
@@ -109,7 +110,8 @@ def long_candidate(rng, p, sizes, points):
 
 
 def worst():
-    """The dearest calls that are known: 32 keys and 32 kept points; a quotient of 625 steps with 256 terms each; an image of degree 0."""
+    """The dearest calls that are known: 32 keys and 32 kept points; a quotient of 625 steps with 256 terms each; an image of degree 0; and the
+    fullest file."""
     rng = random.Random(4)
     p, points = MODULUS, random_points(rng, MODULUS, 32)
     first, second, g = long_candidate(rng, p, (7, 2, 2, 1), points)
@@ -117,6 +119,7 @@ def worst():
     while len(keys) < 32:
         keys.add(rng.randrange(512))
     dividend, divisor = long_division(rng, p, (4, 4, 4, 4))
+    assert len(first) == len(second) == 256, "not the fullest file"
     return "worst", p, first, second, sorted(keys, reverse=True), points, 15, dividend, divisor, random_points(rng, p, 1)
 
 

@@ -4,9 +4,11 @@
  *   candidate MODULUS FIRST SECOND SKELETON POINTS OUTPUT WORK      quotient MODULUS FIRST SECOND OUTPUT WORK
  *   image MODULUS FIRST SECOND POINT                                list TERMS
  *   sum MODULUS VALUE MODULUS VALUE (difference, product)           inverse MODULUS VALUE
+ *   write MODULUS FIRST SECOND SKELETON POINTS BUFFER               copy BYTES BUFFER
  *
  * The answer is the record; behind '|' the terms, and how many numbers of the output behind them, of the work room's first 8192 and of the rest
- * of the work room are as before the call, and how many of the work room are 0; or the eight coefficients; or the length of the leading part.
+ * of the work room are as before the call, and how many of the work room are 0; or the eight coefficients; or the length of the leading part;
+ * or all bytes of the buffer. A copy is a case file read, and what was handed back written: its answer is both records, then the buffer.
  * Each number of a room is MARK before the call. A line that is not such a call is answered by 'not a call'. */
 #include "balungkiro.h"
 
@@ -15,12 +17,13 @@
 #include <string.h>
 
 /* More than any list that is accepted, and any room that is used. */
-enum { MOST_TERMS = 300, MOST_KEYS = 40, MOST_NUMBERS = 120, MOST_OUTPUT = 4200, MOST_WORK = 8300, MARK = 9, LONGEST = 16384 };
+enum { MOST_TERMS = 300, MOST_KEYS = 40, MOST_NUMBERS = 120, MOST_OUTPUT = 4200, MOST_WORK = 8300, MOST_BUFFER = 4200, MARK = 9, LONGEST = 20480 };
 
 static const char *rest;
 static int wrong;
 static uint32_t first[MOST_TERMS], second[MOST_TERMS], out[MOST_OUTPUT];
 static uint16_t skeleton[MOST_KEYS], points[MOST_NUMBERS], work[MOST_WORK];
+static uint8_t file[BALUNGKIRO_FILE], buffer[MOST_BUFFER];
 
 /* The next number of the line, which is at most `most`. */
 static unsigned long number(unsigned long most)
@@ -51,6 +54,21 @@ static size_t numbers(uint16_t *list, unsigned long most)
     for (i = 0; i < n; i++)
         list[i] = small();
     return n;
+}
+
+static size_t bytes(void)
+{
+    size_t n = number(BALUNGKIRO_FILE), i;
+    for (i = 0; i < n; i++)
+        file[i] = (uint8_t)number(UINT8_MAX);
+    return n;
+}
+
+/* The length of the buffer, and MARK in every byte of it. */
+static size_t lend_buffer(void)
+{
+    memset(buffer, MARK, sizeof buffer);
+    return number(MOST_BUFFER);
 }
 
 /* The lengths of the two rooms, and MARK in every number of them. */
@@ -97,6 +115,15 @@ static void print_rooms(size_t count, size_t output_count, size_t work_count)
         zeros += work[i] == 0;
     }
     printf(" | %zu %zu %zu %zu\n", output_left, used_left, work_left, zeros);
+}
+
+static void print_buffer(size_t count)
+{
+    size_t i;
+    printf(" |");
+    for (i = 0; i < count; i++)
+        printf(" %u", buffer[i]);
+    printf("\n");
 }
 
 static void ask_candidate(void)
@@ -171,6 +198,31 @@ static void ask_inverse(void)
     printf("\n");
 }
 
+static void ask_write(void)
+{
+    uint16_t p = small();
+    size_t a = terms(first), b = terms(second), keys = numbers(skeleton, MOST_KEYS), n = numbers(points, MOST_NUMBERS);
+    size_t count = lend_buffer(), record[3];
+    if (!is_call())
+        return;
+    balungkiro_write(p, first, a, second, b, skeleton, keys, points, n, buffer, count, record);
+    print_record(record, 3);
+    print_buffer(count);
+}
+
+static void ask_copy(void)
+{
+    size_t length = bytes(), count = lend_buffer(), read[7], record[3];
+    if (!is_call())
+        return;
+    balungkiro_read(file, length, first, second, skeleton, points, read);
+    balungkiro_write((uint16_t)read[2], first, read[3], second, read[4], skeleton, read[5], points, read[6], buffer, count, record);
+    print_record(read, 7);
+    printf(" | ");
+    print_record(record, 3);
+    print_buffer(count);
+}
+
 /* Whether the line begins with this service; then the rest of it is its arguments. */
 static int asks(const char *line, const char *service)
 {
@@ -200,6 +252,10 @@ static void answer(const char *line)
         ask_arithmetic(balungkiro_product);
     else if (asks(line, "inverse"))
         ask_inverse();
+    else if (asks(line, "write"))
+        ask_write();
+    else if (asks(line, "copy"))
+        ask_copy();
     else
         printf("not a call\n");
 }

@@ -112,6 +112,21 @@ static void file(const char *call, size_t count)
     printf("  first term %lu, %zu not 0 in the arrays\n", (unsigned long)first[0], nonzero);
 }
 
+/* Writes the file that `file` reads, with some point numbers, into the first bytes of a buffer whose bytes are 9 before the call. */
+static void writing(const char *call, size_t point_numbers, size_t room)
+{
+    static const uint32_t first[] = { TERM(2 * X, 1) }, second[] = { 0 };
+    static const uint16_t skeleton[] = { 0 }, points[] = { 1, 2, 65535 };
+    uint8_t buffer[17];
+    size_t record[3], i;
+    memset(buffer, 9, sizeof buffer);
+    balungkiro_write(P, first, COUNT(first), second, 0, skeleton, 0, points, point_numbers, buffer, room, record);
+    print_record(call, record, COUNT(record));
+    for (i = 0; i < COUNT(buffer); i++)
+        printf("%s%u", i == 0 ? "  bytes " : " ", buffer[i]);
+    printf("\n");
+}
+
 int main(void)
 {
     static const uint16_t good[] = { 1, 0, 0 }, bad[] = { 0, 0, 0 }, large[] = { 1, P, 0 };
@@ -139,5 +154,10 @@ int main(void)
     file("case file with a byte after the end", 10);
     file("case file without its end", 8);
     file("case file cut in the term", 7);
+    writing("written case file", 0, 9);
+    writing("written with a point", 3, 17);
+    writing("written into a short buffer", 3, 15);
+    writing("written with two point numbers", 2, 17);
+    writing("two point numbers and no buffer", 2, 0);
     return 0;
 }

@@ -33,6 +33,9 @@
  *    17      arithmetic operand at least p, or another modulus (before 16)       0 first operand, 1 second
  *    16      inverse of 0                                                        place 0
  *    20..25  the case file; see balungkiro_read
+ *    26      to be written: a list over 256, 256, 32 or 96 numbers, or point
+ *            numbers not a multiple of 3                                         place 0
+ *    27      to be written: the buffer is shorter than the file                  place 0
  */
 #ifndef BALUNGKIRO_H
 #define BALUNGKIRO_H
@@ -51,7 +54,8 @@ enum {
     BALUNGKIRO_COEFFICIENTS = 8,     /* of an image, x^0 to x^7 */
     BALUNGKIRO_QUOTIENT = 4096,      /* the terms that a quotient's output has room for */
     BALUNGKIRO_WORK = 8192,          /* the numbers of the work room */
-    BALUNGKIRO_FILE = 4096           /* no byte of a case file after these changes what is read */
+    BALUNGKIRO_FILE = 4096,          /* no byte of a case file after these changes what is read */
+    BALUNGKIRO_MOST_BYTES = 2884     /* the bytes of the fullest case file: no file that is written is longer */
 };
 
 /* The common divisor of first and second that the images at the points fix, in the monomials of the skeleton.
@@ -115,6 +119,19 @@ void balungkiro_read(const uint8_t *bytes, size_t count,
                      uint16_t skeleton[BALUNGKIRO_KEYS],
                      uint16_t points[BALUNGKIRO_POINT_NUMBERS],
                      size_t record[7]);
+
+/* Writes the case file of a modulus and four lists, for balungkiro_read to hand back. It checks counts only: any modulus and any numbers are
+ * written as they are, and a list may be empty.
+ * Record: number, place, how many bytes the file has (0 on refusal). Numbers 26, 27.
+ * buffer, at least as long as the file (27), for which BALUNGKIRO_MOST_BYTES are always enough: acceptance writes the file first in it and
+ * leaves the rest; a refusal leaves it unchanged. */
+void balungkiro_write(uint16_t modulus,
+                      const uint32_t *first, size_t first_count,
+                      const uint32_t *second, size_t second_count,
+                      const uint16_t *skeleton, size_t skeleton_count,
+                      const uint16_t *points, size_t points_count,
+                      uint8_t *buffer, size_t buffer_count,
+                      size_t record[3]);
 
 #ifdef __cplusplus
 }

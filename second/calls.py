@@ -8,16 +8,19 @@ from dataclasses import replace
 from typing import NamedTuple
 
 import bench
+import case_file
 import cases
 from arithmetic import arithmetic, list_check
 from candidate import candidate, image_at, quotient_terms
 from polynomials import POWERS, key, term_list
 from refusals import COEFFICIENTS, MODULI, QUOTIENT_TERMS, WORK_NUMBERS, Refusal
 
-NUMBERS = range(0, 18)
+NUMBERS = (*range(0, 18), *range(20, 28))
 X, ONE = key(1, 0, 0, 0), key(0, 0, 0, 0)
 X_POWER = X * COEFFICIENTS
 OPERATIONS = ("sum", "difference", "product")
+MARK = b"\x09"  # each byte of a buffer before the call
+MOST_READ = 4096  # no byte of a case file after these changes what is read
 
 
 class Call(NamedTuple):
@@ -80,6 +83,26 @@ def arithmetic_call(label, service, *operands):
     return Call(label, _line(service, *operands), _line(*arithmetic(service, *operands)))
 
 
+def write_call(label, case, room):
+    record, buffer = case_file.write_into(case, MARK * room)
+    asked = _line("write", case.modulus, case.first, case.second, case.skeleton, case.points, room)
+    return Call(label, asked, _line(*record, "|", *buffer))
+
+
+def copy_call(label, data, room):
+    """A file is read, and what was handed back is written: the same bytes, or after a refusal modulus 0 and no lists."""
+    number, place, case = 0, 0, case_file.Case()
+    try:
+        case = case_file.read(data)
+        record, buffer = (0, 0, len(data)), data + MARK * (room - len(data))
+    except Refusal as refusal:
+        number, place = refusal.number, refusal.place
+        record, buffer = case_file.write_into(case, MARK * room)
+    counts = map(len, (case.first, case.second, case.skeleton, case.points))
+    asked = _line("copy", list(data), room)
+    return Call(label, asked, _line(number, place, case.modulus, *counts, "|", *record, "|", *buffer))
+
+
 # The lines of the specification that are run only, on the inputs of the crate `bench_examples`.
 
 def falling(count):
@@ -127,6 +150,32 @@ def run_only():
     yield list_call("leading part of F", bench.case("p9").first)
     yield list_call("leading part, two equal keys", changed["two equal keys"].first)
     yield list_call("leading part, no terms", [])
+    yield from written()
+
+
+def written():
+    """The writer at each of its limits, and in buffers about as long as the file."""
+    p1 = bench.case("p1")
+    for room in (0, 41, 42, 43):
+        yield write_call(f"write, buffer {room}", p1, room)
+    fullest = case_file.Case(65535, [2**32 - 1] * 256, [2**32 - 1] * 256, [65535] * 32, [65535] * 96)
+    changed = {
+        "nothing but a modulus": case_file.Case(),
+        "all full": fullest,
+        "257 first terms": replace(fullest, first=[1] * 257),
+        "257 second terms": replace(fullest, second=[1] * 257),
+        "33 keys": replace(fullest, skeleton=[1] * 33),
+        "97 point numbers": replace(fullest, points=[1] * 97),
+        "98 point numbers": replace(fullest, points=[1] * 98),
+        "99 point numbers": replace(fullest, points=[1] * 99),
+        "95 point numbers": replace(fullest, points=[1] * 95),
+        "1 point number": replace(p1, points=[1]),
+        "2 point numbers": replace(p1, points=[1] * 2),
+    }
+    for label, case in changed.items():
+        yield write_call(f"write, {label}", case, 3000)
+    yield write_call("write, all full, buffer 2883", fullest, 2883)
+    yield write_call("write, 33 keys, no buffer", changed["33 keys"], 0)
 
 
 # Seeded calls: a case of the families of files, lent with any lengths.
@@ -205,4 +254,31 @@ def _seeded_inverse(rng):
     return arithmetic_call("inverse", "inverse", *_operand(rng))
 
 
-MAKERS = (_seeded_candidate, _seeded_candidate, _seeded_quotient, _seeded_image, _seeded_list, _seeded_arithmetic, _seeded_inverse)
+# Lengths of the four lists that a file has, lengths that none has, and what their numbers are below.
+WRITABLE = ((0, 1, 7, 255, 256), (0, 1, 7, 255, 256), (0, 1, 31, 32), (0, 3, 93, 96))
+UNWRITABLE = ((257, 300), (257, 300), (33, 40), (1, 2, 95, 97, 98, 99, 120))
+WIDTHS = (2**32, 2**32, 2**16, 2**16)
+
+
+def _seeded_write(rng):
+    """Any numbers; in some calls a list or two have a length that no file has."""
+    lengths = [rng.choice(choices) for choices in WRITABLE]
+    for place in rng.sample(range(len(lengths)), rng.choice((0, 0, 0, 1, 2))):
+        lengths[place] = rng.choice(UNWRITABLE[place])
+    lists = ([rng.randrange(width) for _ in range(length)] for length, width in zip(lengths, WIDTHS))
+    case = case_file.Case(rng.randrange(2**16), *lists)
+    needed = len(case_file.write(case))
+    return write_call("write", case, rng.choice((needed, needed + rng.randint(1, 100), needed - 1, rng.randrange(needed), 0)))
+
+
+MAKERS = (_seeded_candidate, _seeded_candidate, _seeded_quotient, _seeded_image, _seeded_list, _seeded_arithmetic, _seeded_inverse,
+          _seeded_write)
+
+
+# Seeded files, whole and damaged, each into a buffer longer than the file.
+
+def copies(seed, count):
+    for index in range(count):
+        family, data = cases.make_case(seed, index)
+        data = data[:MOST_READ]
+        yield copy_call(f"copy of case {index} ({family})", data, len(data) + 1 + index % 9)

@@ -1,8 +1,8 @@
 #!/usr/bin/env python3
 """The rule of the candidate, and what the programs print for a case file.
 
-Run as a program it takes the name of a service (candidate, quotient, image,
-answers), reads standard input and prints what that program should print.
+Run as a program it takes the name of a program (candidate, quotient, image,
+records, answers), reads standard input and prints what that program should print.
 """
 
 import sys
@@ -188,6 +188,15 @@ def _image_line(case, point):
     return _line(0, 0, len(u) - 1, *u, *[0] * (POWERS - len(u)))
 
 
+def records_text(data):
+    """What the program `records` prints for a case file: a line for each record."""
+    try:
+        case = case_file.read(data)
+    except Refusal as refusal:
+        return _line(refusal.number, refusal.place)
+    return "".join(_line(*numbers) for numbers in case_file.record_numbers(case))
+
+
 def _line(*numbers):
     return " ".join(map(str, numbers)) + "\n"
 
@@ -212,6 +221,7 @@ PROGRAMS = {
     "candidate": candidate_text,
     "quotient": quotient_text,
     "image": image_text,
+    "records": records_text,
     "answers": answers_text,
 }
 

@@ -1,8 +1,9 @@
-"""The case file: its reader, and a writer for making files."""
+"""The case file: its reader and its writer."""
 
+from collections import Counter
 from dataclasses import dataclass, field
 
-from refusals import Refusal
+from refusals import COEFFICIENTS, Refusal
 
 MODULUS, FIRST_TERM, SECOND_TERM, SKELETON_KEY, POINT, END = range(1, 7)
 BODY_LENGTH = {MODULUS: 2, FIRST_TERM: 4, SECOND_TERM: 4, SKELETON_KEY: 2, POINT: 6, END: 0}
@@ -72,24 +73,47 @@ def _number(body):
     return int.from_bytes(body, "little")
 
 
-def records(case):
-    """The records of a case, one bytes object each; the values are written as they come."""
-    points = [case.points[i:i + 3] for i in range(0, len(case.points), 3)]
+def record_numbers(case):
+    """The records of a case, each as its kind and its numbers: of a term its coefficient, then its key."""
     return [
-        record(MODULUS, case.modulus),
-        *(record(FIRST_TERM, term) for term in case.first),
-        *(record(SECOND_TERM, term) for term in case.second),
-        *(record(SKELETON_KEY, key) for key in case.skeleton),
-        *(record(POINT, *point) for point in points),
-        record(END),
+        (MODULUS, case.modulus),
+        *((FIRST_TERM, term % COEFFICIENTS, term // COEFFICIENTS) for term in case.first),
+        *((SECOND_TERM, term % COEFFICIENTS, term // COEFFICIENTS) for term in case.second),
+        *((SKELETON_KEY, key) for key in case.skeleton),
+        *((POINT, *case.points[i:i + 3]) for i in range(0, len(case.points), 3)),
+        (END,),
     ]
 
 
 def record(kind, *numbers):
-    """One record; its numbers share the length of the body equally."""
-    width = BODY_LENGTH[kind] // max(1, len(numbers))
-    return bytes([kind]) + b"".join(number.to_bytes(width, "little") for number in numbers)
+    """One record; each of its numbers has two bytes."""
+    return bytes([kind]) + b"".join(number.to_bytes(2, "little") for number in numbers)
+
+
+def records(case):
+    """The records of a case, one bytes object each; the values are written as they come."""
+    return [record(*numbers) for numbers in record_numbers(case)]
 
 
 def write(case):
+    """The file of any case, without a test."""
     return b"".join(records(case))
+
+
+def write_into(case, buffer):
+    """The writer: its record (number, place, length), and the lent buffer afterwards."""
+    try:
+        _check_counts(case)
+        file = write(case)
+        if len(buffer) < len(file):
+            raise Refusal(27)
+    except Refusal as refusal:
+        return (refusal.number, refusal.place, 0), buffer
+    return (0, 0, len(file)), file + buffer[len(file):]
+
+
+def _check_counts(case):
+    """Only how many records of each kind there are is tested, and that each point is whole."""
+    kinds = Counter(kind for kind, *_ in record_numbers(case))
+    if len(case.points) % 3 or any(kinds[kind] > most for kind, most in MOST_RECORDS.items()):
+        raise Refusal(26)

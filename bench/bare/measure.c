@@ -6,7 +6,7 @@
 #include "../workloads.h"
 #include "start.h"
 
-enum { KEYS = 4096, WORK_ROOM = 8192, PAINT = 0x5a, TICK = 40 };
+enum { KEYS = 4096, WORK_ROOM = 8192, MOST_BYTES = 2884, BUFFER = MOST_BYTES + 16, PAINT = 0x5a, TICK = 40 };
 
 /* SysTick: its clock has 25 MHz, so with an instruction for each nanosecond a tick is 40 instructions. */
 #define SYSTICK ((volatile uint32_t *)0xe000e010)
@@ -16,12 +16,14 @@ extern uint8_t stack_low[], library_start[], library_end[];
 static uint32_t out[KEYS];
 static uint16_t work[WORK_ROOM];
 static uint16_t coefficients[8];
+static uint8_t buffer[BUFFER], library_buffer[BUFFER];
 static length record[7];
 static const workload *now;
 
 #define CANDIDATE(f) f(now->modulus, now->first, now->first_terms, now->second, now->second_terms, now->skeleton, now->keys, now->points, now->numbers, out, now->keys, work, WORK_ROOM, record)
 #define QUOTIENT(f) f(now->modulus, now->dividend, now->dividend_terms, now->divisor, now->divisor_terms, out, KEYS, work, WORK_ROOM, record)
 #define IMAGE(f) f(now->modulus, now->first, now->first_terms, now->second, now->second_terms, now->at, now->at_numbers, coefficients, record)
+#define WRITE(f) f(now->modulus, now->first, now->first_terms, now->second, now->second_terms, now->skeleton, now->keys, now->points, now->numbers, buffer, BUFFER, record)
 
 static void library_candidate(void) { CANDIDATE(balungkiro_candidate); }
 static void twin_of_candidate(void) { CANDIDATE(twin_candidate); }
@@ -29,6 +31,8 @@ static void library_quotient(void) { QUOTIENT(balungkiro_quotient); }
 static void twin_of_quotient(void) { QUOTIENT(twin_quotient); }
 static void library_image(void) { IMAGE(balungkiro_image); }
 static void twin_of_image(void) { IMAGE(twin_image); }
+static void library_write(void) { WRITE(balungkiro_write); }
+static void twin_of_write(void) { WRITE(twin_write); }
 
 static void fail(const char *what) {
     print(now->name);
@@ -72,12 +76,16 @@ __attribute__((noinline)) static cost measured(void (*call)(void)) {
     return (cost){((before - after) & 0xffffff) * TICK, (uint32_t)(here - low)};
 }
 
-/* The bytes that a call is lent beside the stack: both lists, skeleton, points, output, work room and record. */
+/* The bytes that a call is lent beside the stack: both lists, skeleton, points, output, work room and record. Of the buffer only
+   the file's bytes: how many they are is in the record of the call just made. */
 static uint32_t candidate_room(void) {
     return (uint32_t)(4 * (now->first_terms + now->second_terms + now->keys) + 2 * (now->keys + now->numbers) + sizeof work + sizeof record);
 }
 static uint32_t quotient_room(void) { return (uint32_t)(4 * (now->dividend_terms + now->divisor_terms) + sizeof out + sizeof work + 3 * sizeof record[0]); }
 static uint32_t image_room(void) { return (uint32_t)(4 * (now->first_terms + now->second_terms) + 6 + sizeof coefficients + 3 * sizeof record[0]); }
+static uint32_t write_room(void) {
+    return (uint32_t)(4 * (now->first_terms + now->second_terms) + 2 * (now->keys + now->numbers) + record[2] + 3 * sizeof record[0]);
+}
 
 typedef struct { const char *name; void (*library)(void), (*twin)(void); uint32_t (*room)(void); } service;
 
@@ -85,6 +93,7 @@ static const service services[] = {
     {"candidate", library_candidate, twin_of_candidate, candidate_room},
     {"quotient", library_quotient, twin_of_quotient, quotient_room},
     {"image", library_image, twin_of_image, image_room},
+    {"write", library_write, twin_of_write, write_room},
 };
 
 /* What a call leaves behind, as one number: the record, the output, the coefficients and the work room. */
@@ -108,6 +117,21 @@ static void forget(void) {
         out[i] = 0;
     for (size_t i = 0; i < 8; i++)
         coefficients[i] = 0;
+    for (size_t i = 0; i < BUFFER; i++)
+        buffer[i] = PAINT;
+}
+
+/* The buffer that the library leaves is kept, and every byte of the twin's held against it. */
+static void keep_buffer(void) {
+    for (size_t i = 0; i < BUFFER; i++)
+        library_buffer[i] = buffer[i];
+}
+
+static bool same_buffer(void) {
+    for (size_t i = 0; i < BUFFER; i++)
+        if (buffer[i] != library_buffer[i])
+            return false;
+    return true;
 }
 
 static void report(const service *s) {
@@ -116,9 +140,10 @@ static void report(const service *s) {
     if (record[0] != (s->library == library_candidate ? now->number : 0))
         fail(": another number\n");
     uint32_t left = left_behind();
+    keep_buffer();
     forget();
     cost twin = measured(s->twin);
-    if (left != left_behind())
+    if (left != left_behind() || !same_buffer())
         fail(": the twin's answer is not the module's\n");
     uint32_t microseconds = (uint32_t)((uint64_t)library.instructions * 10 / 960);
     print("| ");

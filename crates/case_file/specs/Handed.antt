@@ -33,9 +33,12 @@ list o k = flat (case o k)
 unfoldable pub padded : ℕ → List ℕ → List ℕ
 padded n xs = xs ++ replicate (n - length xs) 0
 
--- the array of kind k, which has room for the most records of that kind
+-- a list in the array of kind k, which has room for the most records of that kind
+abbrev pub in-array : ℕ → List ℕ → List ℕ
+in-array k xs = padded (limit today k * count today k) xs
+
 abbrev pub array : Reading → ℕ → List ℕ
-array o k = padded (limit today k * count today k) (list o k)
+array o k = in-array k (list o k)
 
 abbrev pub counts : Reading → Counts
 counts o =

@@ -1,4 +1,4 @@
-// The case file's reader: from bytes to the modulus and the four lists, or a refusal.
+// Case files. The reader: from bytes to the modulus and the four lists, or a refusal. The writer: the way back.
 use field::Fault;
 use field::KeyBits;
 use field::MOST_KEYS;
@@ -9,10 +9,18 @@ use field::Term;
 
 mod reader;
 mod record;
+mod writer;
 
 pub use reader::read;
 pub use reader::read_into;
 pub use reader::read_one_into;
+pub use record::END;
+pub use record::FIRST;
+pub use record::MODULUS;
+pub use record::POINT;
+pub use record::SECOND;
+pub use record::SKELETON;
+pub use writer::write;
 
 // An array for the most numbers of each list.
 pub type Terms = [Term; MOST_TERMS];
@@ -43,4 +51,10 @@ pub struct Contents {
     pub skeleton_count: usize,
     pub points: PointNumbers,
     pub points_count: usize,
+}
+
+// What the writer answers: how many bytes the file has (0 on refusal).
+pub struct WriteRecord {
+    pub fault: Fault,
+    pub length: usize,
 }

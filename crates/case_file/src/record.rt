@@ -1,10 +1,12 @@
 // One record of a case file: its kind, its tests, and its numbers into their list.
 ghost use mathlib.Core.Path.{_≡_};
+ghost use mathlib.Core.List.{[], _∷_};
 ghost use Prim.Native.Nat.{_+_, _<_, _≤_};
 ghost use lib.ListN.{length};
+ghost use Rattle.field.specs.loops.Putting.{Puts};
 ghost use Rattle.case_file.specs.Format.{body as body-of, follows as follows-of, first-term, key as key-kind, point, today};
 ghost use Rattle.case_file.specs.Reading.{fault-number};
-ghost use Rattle.case_file.specs.record.Room.{Known, held as held-of, two, four, most, Put, PutThree};
+ghost use Rattle.case_file.specs.record.Room.{Known, held as held-of, two, four, most};
 use crate::Counts;
 use crate::Keys;
 use crate::PointNumbers;
@@ -20,25 +22,44 @@ use field::Residue;
 use field::Term;
 
 // The kinds.
-pub(crate) const MODULUS: u8 = 1;
+pub const MODULUS: u8 = 1;
 
-pub(crate) const FIRST: u8 = 2;
+pub const FIRST: u8 = 2;
 
-pub(crate) const SECOND: u8 = 3;
+pub const SECOND: u8 = 3;
 
-pub(crate) const SKELETON: u8 = 4;
+pub const SKELETON: u8 = 4;
 
-pub(crate) const POINT: u8 = 5;
+pub const POINT: u8 = 5;
 
-pub(crate) const END: u8 = 6;
+pub const END: u8 = 6;
+
+// The length of a body.
+pub(crate) const MODULUS_BODY: usize = 2;
+
+pub(crate) const TERM_BODY: usize = 4;
+
+pub(crate) const KEY_BODY: usize = 2;
+
+pub(crate) const POINT_BODY: usize = 6;
+
+pub(crate) const END_BODY: usize = 0;
 
 // By kind, the length of a body and the most records.
-const BODIES: [usize; 7] = [0, 2, 4, 4, 2, 6, 0];
+const BODIES: [usize; 7] = [
+    0,
+    MODULUS_BODY,
+    TERM_BODY,
+    TERM_BODY,
+    KEY_BODY,
+    POINT_BODY,
+    END_BODY,
+];
 
 const LIMITS: [usize; 7] = [0, 1, MOST_TERMS, MOST_TERMS, MOST_KEYS, MOST_POINTS, 1];
 
 // How many values a byte has.
-const BASE: u16 = 256;
+pub(crate) const BASE: u16 = 256;
 
 pub(crate) fn body(kind: u8) -> usize
     requires { ⌜ Known kind ⌝ }
@@ -121,7 +142,7 @@ pub(crate) fn number4(bytes: &[u8], at: usize) -> u32
 // Numbers go behind the n numbers of the list; how many it has then.
 pub(crate) fn put_term(term: Term, list: &mut Terms, n: usize) -> usize
     requires { ⌜ n + 1 ≤ most first-term ⌝ }
-    ensures { λ r. ⌜ Put term n r (now (list .entry)) (now (list .exit)) ⌝ }
+    ensures { λ r. ⌜ Puts (term ∷ []) n r (now (list .entry)) (now (list .exit)) ⌝ }
 {
     list[n] = term;
     n + 1
@@ -129,7 +150,7 @@ pub(crate) fn put_term(term: Term, list: &mut Terms, n: usize) -> usize
 
 pub(crate) fn put_key(key: KeyBits, list: &mut Keys, n: usize) -> usize
     requires { ⌜ n + 1 ≤ most key-kind ⌝ }
-    ensures { λ r. ⌜ Put key n r (now (list .entry)) (now (list .exit)) ⌝ }
+    ensures { λ r. ⌜ Puts (key ∷ []) n r (now (list .entry)) (now (list .exit)) ⌝ }
 {
     list[n] = key;
     n + 1
@@ -143,7 +164,7 @@ pub(crate) fn put_point(
     n: usize,
 ) -> usize
     requires { ⌜ n + 3 ≤ most point ⌝ }
-    ensures { λ r. ⌜ PutThree y z w n r (now (list .entry)) (now (list .exit)) ⌝ }
+    ensures { λ r. ⌜ Puts (y ∷ z ∷ w ∷ []) n r (now (list .entry)) (now (list .exit)) ⌝ }
 {
     list[n] = y;
     list[n + 1] = z;

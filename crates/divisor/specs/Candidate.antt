@@ -18,7 +18,8 @@ use Rattle.poly.specs.Keys.{exponents}
 use Rattle.poly.specs.Terms.{Polynomial, terms-of, numbers-of}
 use Rattle.poly.specs.PointValue.{Point}
 use Rattle.poly.specs.Lists.{Count, WrongKey, WrongNumber, of-lists}
-use Rattle.poly.specs.Room.{of-rooms, written, cleared}
+use Rattle.field.specs.Lent.{written}
+use Rattle.poly.specs.Room.{of-rooms, cleared}
 use Rattle.divisor.specs.declared.CandidateRecord.{CandidateRecord}
 use Rattle.divisor.specs.Rule.{RuleAnswer}
 

@@ -2,7 +2,8 @@
 ghost use mathlib.Core.Path.{_≡_};
 ghost use Prim.Native.Nat.{_≤_};
 ghost use lib.ListN.{length};
-ghost use Rattle.poly.specs.Room.{work-room, written};
+ghost use Rattle.field.specs.Lent.{written};
+ghost use Rattle.poly.specs.Room.{work-room};
 ghost use Rattle.divisor.specs.verdict.Model.{CanDivideBoth, BothDivided, Refused, only, VerdictReady, Settled};
 use crate::table::Cells;
 use crate::table::Kind;

@@ -7,6 +7,7 @@ pub mod Residues
 pub mod Modulo
 pub mod Numbers
 pub mod Refusal
+pub mod Lent
 pub mod Contract
 pub mod Arithmetic
 pub mod modulus

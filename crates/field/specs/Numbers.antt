@@ -1,4 +1,4 @@
--- The refusal numbers by name: those of the table, and the reader's. 0 is no refusal.
+-- The refusal numbers by name: those of the table, the reader's and the writer's. 0 is no refusal.
 use Prim.Native.Nat.{ℕ}
 
 abbrev pub MODULUS : ℕ
@@ -70,3 +70,10 @@ NO_END = 24
 
 abbrev pub TOO_MANY : ℕ
 TOO_MANY = 25
+
+-- the writer's: lists that no file holds, and a buffer that is too short
+abbrev pub NOT_WRITABLE : ℕ
+NOT_WRITABLE = 26
+
+abbrev pub BUFFER_SHORT : ℕ
+BUFFER_SHORT = 27

@@ -2,5 +2,5 @@
 pub mod Filled
 pub mod Fold
 pub mod Cells
-pub mod Collected
+pub mod Putting
 pub mod Places

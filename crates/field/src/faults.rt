@@ -9,7 +9,7 @@ pub struct Fault {
     pub place: usize,
 }
 
-// The refusal numbers: those of the table, and from 20 on the reader's.
+// The refusal numbers: those of the table, from 20 on the reader's, and from 26 on the writer's.
 impl Fault {
     pub const MODULUS: RefusalNumber = 1;
 
@@ -56,6 +56,10 @@ impl Fault {
     pub const NO_END: RefusalNumber = 24;
 
     pub const TOO_MANY: RefusalNumber = 25;
+
+    pub const NOT_WRITABLE: RefusalNumber = 26;
+
+    pub const BUFFER_SHORT: RefusalNumber = 27;
 
     pub fn none() -> Fault
         ensures { λ r. ⌜ r ≡ none ⌝ }

@@ -7,6 +7,7 @@ use Rattle.poly.specs.declared.ImageRecord.{ImageRecord}
 use Rattle.poly.specs.QuotientCall.{QuotientResult}
 use Rattle.divisor.specs.Candidate.{Result}
 use Rattle.case_file.specs.declared.Contents.{Contents}
+use Rattle.case_file.specs.WriteCall.{WriteResult}
 
 -- the promise of a call: what is left is an answer that the service promises, laid out
 pub data Laid {Found Left : Type 0} (layout : Found → Left) (Promise : Found → Type 0) : Left → Type 0 where
@@ -65,3 +66,11 @@ of-contents r =
       skeleton = r .skeleton;
       points = r .points;
     }
+
+-- what the writer leaves
+pub record InBuffer : Type 0 where
+  pub numbers : List ℕ
+  pub buffer : List ℕ
+
+abbrev pub of-write : WriteResult → InBuffer
+of-write r = record { numbers = after-fault (r .found .fault) (r .found .length ∷ []); buffer = r .buffer }

@@ -12,7 +12,8 @@ ghost use Rattle.poly.specs.ImageCall.{image-call, ImageAnswer};
 ghost use Rattle.divisor.specs.Candidate.{candidate-call, Candidate};
 ghost use Rattle.case_file.specs.Reading.{read};
 ghost use Rattle.case_file.specs.Handed.{contents};
-ghost use Rattle.handheld.specs.Layout.{Laid, of-fault, of-answer, of-quotient, of-image, of-candidate, of-contents};
+ghost use Rattle.case_file.specs.WriteCall.{write-call, Write};
+ghost use Rattle.handheld.specs.Layout.{Laid, of-fault, of-answer, of-quotient, of-image, of-candidate, of-contents, of-write};
 use case_file::Keys;
 use case_file::PointNumbers;
 use case_file::Terms;
@@ -208,4 +209,22 @@ pub extern "C" fn balungkiro_read(
         counts.skeleton,
         counts.points,
     ];
+}
+
+// Numbers: number, place, length.
+#[no_mangle]
+pub extern "C" fn balungkiro_write(
+    modulus: Residue,
+    first: &[Term],
+    second: &[Term],
+    skeleton: &[KeyBits],
+    points: &[Residue],
+    buffer: &mut [u8],
+    numbers: &mut [usize; 3],
+)
+    ensures { λ _. ⌜ Laid of-write (Write (write-call modulus (now (first .entry)) (now (second .entry)) (now (skeleton .entry))
+        (now (points .entry)) (now (buffer .entry)))) (record { numbers = now (numbers .exit); buffer = now (buffer .exit) }) ⌝ }
+{
+    let found = case_file::write(modulus, first, second, skeleton, points, buffer);
+    *numbers = [found.fault.number as usize, found.fault.place, found.length];
 }

@@ -16,7 +16,8 @@ use Rattle.poly.specs.Keys.{keys}
 use Rattle.poly.specs.Terms.{poly}
 use Rattle.poly.specs.Divides.{Divides}
 use Rattle.poly.specs.Lists.{WrongModulo, of-lists}
-use Rattle.poly.specs.Room.{of-rooms, written, cleared}
+use Rattle.field.specs.Lent.{written}
+use Rattle.poly.specs.Room.{of-rooms, cleared}
 
 -- what the service is lent
 pub record QuotientCall : Type 0 where

@@ -1,8 +1,7 @@
--- What is lent: an output that is written first and left beyond, and a work room of which the first 8,192 numbers are cleared; the lines 10 and 11 of
--- the table.
+-- The rooms that are lent: the lines 10 and 11 of the table, and a work room of which the first 8,192 numbers are cleared.
 use mathlib.Core.List.{List, [], _∷_, _++_}
 use Prim.Native.Nat.{ℕ, _<_}
-use lib.ListN.{length, drop, replicate}
+use lib.ListN.{drop, replicate}
 use Rattle.field.specs.Numbers.{OUTPUT_SHORT, WORK_SHORT}
 use Rattle.field.specs.Refusal.{Line, line, whole}
 
@@ -12,10 +11,6 @@ work-room = 8192
 -- the lines of the two rooms, by their lengths and what the output needs
 abbrev pub of-rooms : ℕ → ℕ → ℕ → List Line
 of-rooms output needed work = line OUTPUT_SHORT (whole (output < needed)) ∷ line WORK_SHORT (whole (work < work-room)) ∷ []
-
--- numbers written first in a list, which leaves the rest
-abbrev pub written : List ℕ → List ℕ → List ℕ
-written ns out = ns ++ drop (length ns) out
 
 -- n numbers that are 0, and the rest left
 unfoldable pub zeroed : ℕ → List ℕ → List ℕ

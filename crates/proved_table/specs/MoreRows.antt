@@ -1,9 +1,9 @@
--- Rows beside P1 to P12, for wrong versions that P1 to P12 do not tell from the right one; and rows of the quotient, the image and the
--- reader. Modulo 17 unless said, z = w = 0.
+-- Rows beside P1 to P12, for wrong versions that P1 to P12 do not tell from the right one; and rows of the quotient, the image, the
+-- reader and the writer. Modulo 17 unless said, z = w = 0.
 use mathlib.Core.List.{List, [], _∷_, _++_}
 use Prim.Native.Nat.{ℕ}
 use lib.ListN.{length, replicate}
-use Rattle.field.specs.Numbers.{DOES_NOT_DIVIDE, NO_GOOD_POINT}
+use Rattle.field.specs.Numbers.{DOES_NOT_DIVIDE, NO_GOOD_POINT, NOT_WRITABLE, BUFFER_SHORT}
 use Rattle.field.specs.Refusal.{fault, none}
 use Rattle.poly.specs.ImageCall.{image-call, refused-image}
 use Rattle.divisor.specs.Rule.{report}
@@ -11,8 +11,9 @@ use Rattle.case_file.specs.declared.Contents.{Contents}
 use Rattle.case_file.specs.Handed.{padded}
 use Rattle.case_file.specs.Format.{today}
 use Rattle.case_file.specs.Written.{records}
+use Rattle.case_file.specs.WriteCall.{WriteCall, write-call, write-result}
 use Rattle.case_file.specs.reader.Examples.{example}
-use Rattle.proved_table.specs.Row.{Row, QuotientRow, ImageRow, FileRow}
+use Rattle.proved_table.specs.Row.{Row, QuotientRow, ImageRow, FileRow, WriteRow}
 use Rattle.proved_table.specs.Table.{key-xy, term-xy, at, row, E, F, K, A₂, B₂, A₁₁, image}
 
 -- x and x + y, y = 0, skeleton x: the image is x, which divides the first and not the second: 15
@@ -135,3 +136,37 @@ file-empty = record { bytes = []; found = reader-refuses 24 0 }
 
 abbrev pub files : List FileRow
 files = file-example ∷ file-short ∷ file-byte-more ∷ file-cut-key ∷ file-empty ∷ []
+
+-- a call of the writer, and number, length and the buffer left; the place is 0
+abbrev pub write-row : WriteCall → ℕ → ℕ → List ℕ → WriteRow
+write-row c number length buffer = record { call = c; result = write-result (record { fault = fault number 0; length = length }) buffer }
+
+-- a buffer of n bytes 9
+abbrev pub nines : ℕ → List ℕ
+nines n = replicate n 9
+
+-- the lists of the example file
+abbrev pub example-call : List ℕ → WriteCall
+example-call buffer = write-call 17 example-first example-second example-skeleton (at (0 ∷ [])) buffer
+
+-- in a buffer of two bytes more: the example file, and the two bytes as they were
+abbrev pub write-example : WriteRow
+write-example = write-row (example-call (nines 44)) 0 42 (example ++ (9 ∷ 9 ∷ []))
+
+-- in one of a byte less: 27, and the buffer as it was
+abbrev pub write-short : WriteRow
+write-short = write-row (example-call (nines 41)) BUFFER_SHORT 0 (nines 41)
+
+-- no lists, and a modulus that is not listed: a modulus and an end
+abbrev pub write-bare : WriteRow
+write-bare = write-row (write-call 15 [] [] [] [] (nines 4)) 0 4 (1 ∷ 15 ∷ 0 ∷ 6 ∷ [])
+
+-- 33 keys, and two numbers of points, in no buffer: 26
+abbrev pub write-keys : WriteRow
+write-keys = write-row (write-call 17 [] [] (replicate 33 0) [] []) NOT_WRITABLE 0 []
+
+abbrev pub write-half : WriteRow
+write-half = write-row (write-call 17 [] [] [] (1 ∷ 2 ∷ []) []) NOT_WRITABLE 0 []
+
+abbrev pub writes : List WriteRow
+writes = write-example ∷ write-short ∷ write-bare ∷ write-keys ∷ write-half ∷ []

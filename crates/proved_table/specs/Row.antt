@@ -13,12 +13,14 @@ use Rattle.poly.specs.Keys.{keys}
 use Rattle.poly.specs.Terms.{poly}
 use Rattle.poly.specs.ImageCall.{ImageCall, ImageAnswer}
 use Rattle.poly.specs.QuotientCall.{QuotientCall, quotient-call, QuotientResult, quotient-result, Quotient}
-use Rattle.poly.specs.Room.{work-room, written, cleared}
+use Rattle.field.specs.Lent.{written}
+use Rattle.poly.specs.Room.{work-room, cleared}
 use Rattle.divisor.specs.declared.CandidateRecord.{CandidateRecord}
 use Rattle.divisor.specs.Candidate.{Call, Result, Candidate}
 use Rattle.case_file.specs.declared.Contents.{Contents}
 use Rattle.case_file.specs.Reading.{read}
 use Rattle.case_file.specs.Handed.{contents}
+use Rattle.case_file.specs.WriteCall.{WriteCall, WriteResult, Write}
 
 pub record Row : Type 0 where
   pub modulus : ℕ
@@ -81,6 +83,14 @@ pub record FileRow : Type 0 where
 
 abbrev pub Reads : FileRow → Type 0
 Reads r = r .found ≡ contents (read (r .bytes))
+
+-- a call of the writer, its buffer included, and its result
+pub record WriteRow : Type 0 where
+  pub call : WriteCall
+  pub result : WriteResult
+
+abbrev pub Writes : WriteRow → Type 0
+Writes r = Write (r .call) (r .result)
 
 -- an image that a row names
 pub record ImageRow : Type 0 where

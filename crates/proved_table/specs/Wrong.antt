@@ -9,13 +9,14 @@ use Rattle.poly.specs.declared.QuotientRecord.{QuotientRecord}
 use Rattle.poly.specs.Keys.{keys}
 use Rattle.poly.specs.ImageCall.{ImageAnswer}
 use Rattle.poly.specs.QuotientCall.{quotient-result, Quotient}
-use Rattle.poly.specs.Room.{work-room, written, cleared}
+use Rattle.field.specs.Lent.{written}
+use Rattle.poly.specs.Room.{work-room, cleared}
 use Rattle.divisor.specs.declared.CandidateRecord.{CandidateRecord}
 use Rattle.divisor.specs.Candidate.{candidate-result, Candidate}
 use Rattle.case_file.specs.declared.Contents.{Contents}
 use Rattle.case_file.specs.Reading.{read}
 use Rattle.case_file.specs.Handed.{contents}
-use Rattle.proved_table.specs.Row.{Row, call, QuotientRow, quotient-call-of, ImageRow, FileRow}
+use Rattle.proved_table.specs.Row.{Row, call, QuotientRow, quotient-call-of, ImageRow, FileRow, WriteRow, Writes}
 
 -- The record that is answered, the terms that are written first in the output, and whether the work room is cleared or left as lent.
 -- A lent room may already hold what is right. So it is said with what the output and the work room begin; [] says nothing of them.
@@ -58,3 +59,7 @@ ImageRefuted w = ¬ ImageAnswer (w .row .call) (w .found)
 -- of the reader
 abbrev pub FileRefuted : WrongRecord FileRow Contents → Type 0
 FileRefuted w = ¬ (w .found ≡ contents (read (w .row .bytes)))
+
+-- of the writer
+abbrev pub WriteRefuted : WriteRow → Type 0
+WriteRefuted w = ¬ Writes w

@@ -6,5 +6,7 @@ pub mod TermDivision
 pub mod TermDivisionLaws
 pub mod Rows
 pub mod RowsLaws
+pub mod Writes
+pub mod WritesLaws
 pub mod WrongLaws
 pub mod Wrong

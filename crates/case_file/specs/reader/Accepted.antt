@@ -23,7 +23,7 @@ module _ (f : Format) where
     pub all : n ≡ length bs
 
 module _ (f : Format) (w : WellFormed f) where
-  read-of-written : (c : Case) → Storable f c → read-in f (file-of f c) ≡ whole c (length (file-of f c))
+  pub read-of-written : (c : Case) → Storable f c → read-in f (file-of f c) ≡ whole c (length (file-of f c))
   unfolding read-in
   read-of-written c s =
       let e : read-one-in f (file-of f c) ≡ whole c (length (file-of f c)) = rw append-nil at (read-one-of-written f w c s []) in

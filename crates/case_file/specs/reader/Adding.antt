@@ -2,7 +2,6 @@
 use Prim.Native.Nat.{ℕ, _+_, _%_, _≤_, _<_}
 use mathlib.Core.Path.{_≡_}
 use mathlib.Core.List.{List, [], _∷_}
-use native.Mathlib.Numerals.{add-one, add-two}
 use native.Mathlib.Omega.{arith}
 use lib.ListN.{length, drop}
 use Rattle.case_file.specs.Format.{modulus-kind, first-kind, second-kind, skeleton-kind, point-kind, end-kind}
@@ -11,7 +10,8 @@ use Rattle.case_file.specs.Case.{Case, added, flat}
 use Rattle.case_file.specs.Reading.{whole}
 use Rattle.case_file.specs.Handed.{Gives}
 use Rattle.case_file.specs.declared.Counts.{Counts}
-use Rattle.case_file.specs.record.Room.{held, Place, two, four, Put, PutThree}
+use Rattle.field.specs.loops.Putting.{Puts}
+use Rattle.case_file.specs.record.Room.{held, Place, two, four}
 use Rattle.case_file.specs.record.Packing.{of-two, of-four, of-three}
 use Rattle.case_file.specs.record.Arrays.{one-more, gives}
 
@@ -65,36 +65,35 @@ module _ {bytes : List ℕ} {k at : ℕ} {r : Counts} (ready : Ready bytes k at 
         let b = of-two bytes at (modulus-whole e) in
         rw e (gives (rw (g .record-is, rw e at (fresh e), v, b)) (g .first-is) (g .second-is) (g .skeleton-is) (g .points-is))
 
-    pub first-added : k ≡ first-kind → {v n : ℕ} {f′ : List ℕ} → v ≡ four bytes at → Put v (r .first) n f f′
+    pub first-added : k ≡ first-kind → {v n : ℕ} {f′ : List ℕ} → v ≡ four bytes at → Puts (v ∷ []) (r .first) n f f′
         → Adds bytes k at r (counts-of r (r .modulus) n (r .second) (r .skeleton) (r .points)) f s l p f′ s l p
     unfolding kind-of added
     first-added e {v} t q c g fresh =
         let a = first-place e in
-        let m = one-more a (c first-kind) (rw (g .record-is)) (v ∷ []) (rw (of-four bytes at (a .whole), t)) (q .counted) (g .first-is) (q .stored) in
+        let m = one-more a (c first-kind) (rw (g .record-is)) (v ∷ []) (rw (of-four bytes at (a .whole), t)) (g .first-is) q in
         rw e (gives (rw (m .0, g .record-is)) (m .1) (g .second-is) (g .skeleton-is) (g .points-is))
 
-    pub second-added : k ≡ second-kind → {v n : ℕ} {s′ : List ℕ} → v ≡ four bytes at → Put v (r .second) n s s′
+    pub second-added : k ≡ second-kind → {v n : ℕ} {s′ : List ℕ} → v ≡ four bytes at → Puts (v ∷ []) (r .second) n s s′
         → Adds bytes k at r (counts-of r (r .modulus) (r .first) n (r .skeleton) (r .points)) f s l p f s′ l p
     unfolding kind-of added
     second-added e {v} t q c g fresh =
         let a = second-place e in
-        let m = one-more a (c second-kind) (rw (g .record-is)) (v ∷ []) (rw (of-four bytes at (a .whole), t)) (q .counted) (g .second-is) (q .stored) in
+        let m = one-more a (c second-kind) (rw (g .record-is)) (v ∷ []) (rw (of-four bytes at (a .whole), t)) (g .second-is) q in
         rw e (gives (rw (m .0, g .record-is)) (g .first-is) (m .1) (g .skeleton-is) (g .points-is))
 
-    pub key-added : k ≡ skeleton-kind → {v n : ℕ} {l′ : List ℕ} → v ≡ two bytes at → Put v (r .skeleton) n l l′
+    pub key-added : k ≡ skeleton-kind → {v n : ℕ} {l′ : List ℕ} → v ≡ two bytes at → Puts (v ∷ []) (r .skeleton) n l l′
         → Adds bytes k at r (counts-of r (r .modulus) (r .first) (r .second) n (r .points)) f s l p f s l′ p
     unfolding kind-of added
     key-added e {v} t q c g fresh =
         let a = key-place e in
-        let m = one-more a (c skeleton-kind) (rw (g .record-is)) (v ∷ []) (rw (of-two bytes at (a .whole), t)) (q .counted) (g .skeleton-is) (q .stored) in
+        let m = one-more a (c skeleton-kind) (rw (g .record-is)) (v ∷ []) (rw (of-two bytes at (a .whole), t)) (g .skeleton-is) q in
         rw e (gives (rw (m .0, g .record-is)) (g .first-is) (g .second-is) (m .1) (g .points-is))
 
     pub point-added : k ≡ point-kind → {y z w n : ℕ} {p′ : List ℕ} → y ≡ two bytes at → z ≡ two bytes (at + 2) → w ≡ two bytes (at + 4)
-        → PutThree y z w (r .points) n p p′
+        → Puts (y ∷ z ∷ w ∷ []) (r .points) n p p′
         → Adds bytes k at r (counts-of r (r .modulus) (r .first) (r .second) (r .skeleton) n) f s l p f s l p′
     unfolding kind-of added
     point-added e {y} {z} {w} t u v q c g fresh =
         let a = point-place e in
-        let b = rw (add-one (r .points), add-two (r .points)) at (q .stored) in
-        let m = one-more a (c point-kind) (rw (g .record-is)) (y ∷ z ∷ w ∷ []) (rw (of-three bytes at (a .whole), t, u, v)) (q .counted) (g .points-is) b in
+        let m = one-more a (c point-kind) (rw (g .record-is)) (y ∷ z ∷ w ∷ []) (rw (of-three bytes at (a .whole), t, u, v)) (g .points-is) q in
         rw e (gives (rw (m .0, g .record-is)) (g .first-is) (g .second-is) (g .skeleton-is) (m .1))

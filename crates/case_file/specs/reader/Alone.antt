@@ -66,7 +66,7 @@ module _ (f : Format) where
       by-record f at before c k bs Numbered (λ e h z. z) (λ h q. tt)
       (λ h q. numbered (body f k) (at + 1) k (added k (content f k bs ∷ []) c) bs)
 
-  read-one-numbered : (bs : List ℕ) → Numbered (read-one-in f bs)
+  pub read-one-numbered : (bs : List ℕ) → Numbered (read-one-in f bs)
   unfolding read-one-in
   read-one-numbered bs = numbered 0 0 0 no-records bs
 

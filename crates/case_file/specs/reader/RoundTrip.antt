@@ -14,7 +14,7 @@ use Rattle.case_file.specs.Case.{Case, no-records, added}
 use Rattle.case_file.specs.Reading.{Reading, whole, reading, read-one-in}
 use Rattle.case_file.specs.Written.{packed, records, in-order, file-of, Fits, EachFits, Storable}
 use Rattle.case_file.specs.record.Tests.{risen, unknown-kind, room-known, may-follow, may-begin, passes}
-use Rattle.case_file.specs.record.Packing.{length-packed, numbers-packed}
+use Rattle.case_file.specs.record.Packing.{length-packed, fits-length, numbers-packed}
 use Rattle.case_file.specs.reader.Steps.{passed-over, goes-on, ends}
 use Rattle.case_file.specs.reader.Added.{added-own, added-other, added-each, added-none, added-twice}
 
@@ -35,6 +35,10 @@ module _ (f : Format) where
       let t = risen n (k .byte) (with-last ks) r in
       omega (arith, t .0, below-last (k .byte) ks (t .1))
 
+  -- a case that can be stored has no records of a kind that is not known
+  pub none-unknown : (c : Case) → Storable f c → (j : ℕ) → known f j ≡ false → c j ≡ []
+  none-unknown c s j h = drop-of-length-le (c j) {i = 0} (omega (arith, s .within j, ap (λ (k : Kind). k .limit) (unknown-kind f j h)))
+
   one-record : (k : ℕ) {rs : List (List ℕ)} (ns rest : List ℕ) → rs ≡ ns ∷ [] → records f k rs ++ rest ≡ k ∷ packed (widths f k) ns ++ rest
   unfolding records
   one-record k ns rest e = rw e (ap (λ (l : List ℕ). k ∷ l ++ rest) (append-nil (packed (widths f k) ns)))
@@ -43,7 +47,7 @@ module _ (f : Format) where
   module _ (k before : ℕ) (o : follows f before k ≡ true) (at : ℕ) (d : Case) (ns rest : List ℕ)
       (room : length (d k) < limit f k) (small : Fits (widths f k) ns) where
     length-body : length (packed (widths f k) ns) ≡ body f k
-    length-body = length-packed (widths f k) ns small
+    length-body = length-packed (widths f k) ns (fits-length (widths f k) ns small)
 
     record-whole : body f k ≤ length (packed (widths f k) ns ++ rest)
     record-whole = rw (length-append, length-body) (omega arith)
@@ -92,7 +96,7 @@ module _ (f : Format) (w : WellFormed f) (c : Case) (s : Storable f c) where
   unfolding known
   partly-start =
       record {
-        same = λ j h. sym (drop-of-length-le (c j) {i = 0} (omega (arith, s .within j, ap (λ (k : Kind). k .limit) (unknown-kind f j h))));
+        same = λ j h. sym (none-unknown f c s j h);
         later = λ j h. refl;
       }
 

@@ -19,6 +19,9 @@ use Rattle.case_file.specs.reader.Settled as cut
 pub read-one-of-written : (c : Case) → Storable today c → (rest : List ℕ) → read-one (file-of today c ++ rest) ≡ whole c (length (file-of today c))
 read-one-of-written = trip.read-one-of-written today well-formed
 
+pub read-of-written : (c : Case) → Storable today c → read (file-of today c) ≡ whole c (length (file-of today c))
+read-of-written = exact.read-of-written today well-formed
+
 module _ (bs : List ℕ) where
   pub written-of-read-one : (c : Case) (n : ℕ) → Below base bs → read-one bs ≡ whole c n
       → (rest : List ℕ) × (bs ≡ file-of today c ++ rest) × (n + length rest ≡ length bs) × Storable today c

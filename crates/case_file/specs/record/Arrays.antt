@@ -10,6 +10,7 @@ use Rattle.case_file.specs.Case.{flat}
 use Rattle.case_file.specs.Reading.{Reading}
 use Rattle.case_file.specs.Handed.{padded, counts, array, Gives}
 use Rattle.case_file.specs.declared.Counts.{Counts}
+use Rattle.field.specs.loops.Putting.{Puts}
 use Rattle.case_file.specs.record.Room.{most, Place}
 use Rattle.case_file.specs.record.Packing.{length-numbers}
 
@@ -34,12 +35,12 @@ flat-more (r ∷ rs) ns = rw (flat-more rs ns) (sym (append-assoc r (flat rs) ns
 
 -- the list of the records rs of kind k, with one more: its count, and the array that holds it
 pub one-more : {k : Kind} {bytes : List ℕ} {at n : ℕ} → Place k bytes at n → (rs : List (List ℕ)) → n ≡ length (flat rs)
-    → (vs : List ℕ) → numbers (k .widths) (drop at bytes) ≡ vs → {m : ℕ} → m ≡ n + length (k .widths)
-    → {before after : List ℕ} → before ≡ padded (most k) (flat rs) → after ≡ sets before n vs
+    → (vs : List ℕ) → numbers (k .widths) (drop at bytes) ≡ vs
+    → {m : ℕ} {before after : List ℕ} → before ≡ padded (most k) (flat rs) → Puts vs n m before after
     → (m ≡ length (flat (rs ++ numbers (k .widths) (drop at bytes) ∷ []))) × (after ≡ padded (most k) (flat (rs ++ numbers (k .widths) (drop at bytes) ∷ [])))
-one-more {k} {bytes} {at} {n} p rs e vs v c b a = (
-  rw (c, flat-more, length-append, length-numbers, e),
-  rw (a, flat-more, ← v, b) (padded-sets (most k) n (flat rs) (numbers (k .widths) (drop at bytes)) e (rw length-numbers (p .room))),
+one-more {k} {bytes} {at} {n} p rs e vs v b q = (
+  rw (q .counted, ← v, flat-more, length-append, e),
+  rw (q .stored, flat-more, ← v, b) (padded-sets (most k) n (flat rs) (numbers (k .widths) (drop at bytes)) e (rw length-numbers (p .room))),
 )
 
 -- what is handed back, from its parts

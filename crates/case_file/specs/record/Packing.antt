@@ -11,17 +11,23 @@ use Rattle.case_file.specs.Format.{base, sum, little, numbers}
 use Rattle.case_file.specs.Written.{bytes, packed, Below, Fits}
 use Rattle.case_file.specs.record.Room.{two, four}
 
-length-bytes : (w v : ℕ) → length (bytes w v) ≡ w
+pub length-bytes : (w v : ℕ) → length (bytes w v) ≡ w
 unfolding bytes
 length-bytes zero v = refl
 length-bytes (suc w) v = ap suc (length-bytes w (v / base))
 
-pub length-packed : (ws vs : List ℕ) → Fits ws vs → length (packed ws vs) ≡ sum ws
+pub length-packed : (ws vs : List ℕ) → length vs ≡ length ws → length (packed ws vs) ≡ sum ws
 unfolding packed
 length-packed [] [] h = refl
-length-packed [] (v ∷ vs) h = absurd h
-length-packed (w ∷ ws) [] h = absurd h
-length-packed (w ∷ ws) (v ∷ vs) h = rw (length-append, length-bytes, length-packed ws vs (h .1))
+length-packed [] (v ∷ vs) h = absurd (omega arith)
+length-packed (w ∷ ws) [] h = absurd (omega arith)
+length-packed (w ∷ ws) (v ∷ vs) h = rw (length-append, length-bytes, length-packed ws vs (omega arith))
+
+pub fits-length : (ws vs : List ℕ) → Fits ws vs → length vs ≡ length ws
+fits-length [] [] h = refl
+fits-length [] (v ∷ vs) h = absurd h
+fits-length (w ∷ ws) [] h = absurd h
+fits-length (w ∷ ws) (v ∷ vs) h = ap suc (fits-length ws vs (h .1))
 
 pub length-numbers : (ws bs : List ℕ) → length (numbers ws bs) ≡ length ws
 length-numbers [] bs = refl

@@ -1,8 +1,7 @@
 -- What the functions of a record ask and promise: room for its numbers, and the numbers in their list.
 use Prim.Native.Nat.{ℕ, _+_, _*_, _/_, _≤_}
-use mathlib.Core.Path.{_≡_}
 use mathlib.Core.List.{List, [], _∷_}
-use lib.ListN.{length, getD, set}
+use lib.ListN.{length, getD}
 use Rattle.case_file.specs.Format.{Kind, base, modulus-kind, end-kind, sum}
 use Rattle.case_file.specs.declared.Counts.{Counts}
 
@@ -29,12 +28,3 @@ two bytes at = getD bytes at 0 + base * getD bytes (at + 1) 0
 
 abbrev pub four : List ℕ → ℕ → ℕ
 four bytes at = two bytes at + base * base * two bytes (at + 2)
-
--- a number is put behind the n numbers of the list, which then has r; and so are three
-pub record Put (v n r : ℕ) (before after : List ℕ) : Type 0 where
-  pub stored : after ≡ set before n v
-  pub counted : r ≡ n + 1
-
-pub record PutThree (u v w n r : ℕ) (before after : List ℕ) : Type 0 where
-  pub stored : after ≡ set (set (set before n u) (n + 1) v) (n + 2) w
-  pub counted : r ≡ n + 3

@@ -5,7 +5,7 @@ use mathlib.Core.Path.{refl}
 use mathlib.Core.List.{List}
 use lib.ListN.{length, length-append, length-map, length-take}
 use Rattle.io.specs.Counts.{Counts}
-use Rattle.poly.specs.Room.{written}
+use Rattle.field.specs.Lent.{written}
 use Rattle.poly.specs.Terms.{number-of, numbers-of}
 use Rattle.poly.specs.QuotientCall.{QuotientCall, QuotientResult, Quotient, refused as refused-quotient, no-quotient, quotient}
 use Rattle.divisor.specs.Rule.{all-bad, some-good}

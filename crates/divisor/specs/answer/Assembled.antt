@@ -21,7 +21,8 @@ use Rattle.poly.specs.Keys.{exponents}
 use Rattle.poly.specs.Terms.{Polynomial, numbers-of, poly, coefficient-limit}
 use Rattle.poly.specs.Divides.{Divides}
 use Rattle.poly.specs.PointImage.{Image}
-use Rattle.poly.specs.Room.{written, cleared}
+use Rattle.field.specs.Lent.{written}
+use Rattle.poly.specs.Room.{cleared}
 use Rattle.poly.specs.image.Laws.{image-within}
 use Rattle.divisor.specs.Rule.{Counts, none-good, report, Kept, Sorted, Unknowns, Solution, OnlySolution, without-zeros, made-monic, divisor}
 use Rattle.divisor.specs.Rule.{Verdict, unsolvable, several, rejected, accepted, all-bad, some-good}

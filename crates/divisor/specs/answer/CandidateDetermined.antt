@@ -7,7 +7,8 @@ use Rattle.field.specs.modulus.Laws.{listed-unique}
 use Rattle.field.specs.faults.Laws.{OnePlaceEach, whole-one-place, first-one-place, one-place-append, refuses-determined, not-passes-and-refuses}
 use Rattle.poly.specs.Terms.{Polynomial, numbers-of}
 use Rattle.poly.specs.Lists.{of-lists}
-use Rattle.poly.specs.Room.{of-rooms, written, cleared}
+use Rattle.field.specs.Lent.{written}
+use Rattle.poly.specs.Room.{of-rooms, cleared}
 use Rattle.poly.specs.list.Check.{lists-one-place}
 use Rattle.divisor.specs.declared.CandidateRecord.{CandidateRecord}
 use Rattle.divisor.specs.Rule.{RuleAnswer}

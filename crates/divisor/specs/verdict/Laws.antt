@@ -9,7 +9,8 @@ use lib.Seq.{length-take-le}
 use borrow.Author.Tests.{not-true, not-false}
 use Rattle.field.specs.Prime.{Prime}
 use Rattle.field.specs.Numbers.{DOES_NOT_DIVIDE}
-use Rattle.poly.specs.Room.{work-room, written, cleared}
+use Rattle.field.specs.Lent.{written}
+use Rattle.poly.specs.Room.{work-room, cleared}
 use Rattle.poly.specs.TrialDivision.{CanDivide, TrialDivision}
 use Rattle.poly.specs.division.Trial.{trial-says}
 use Rattle.poly.specs.list.Right.{RightList}

@@ -10,7 +10,8 @@ use Rattle.field.specs.Modulo.{Modulo}
 use Rattle.field.specs.Numbers.{NO_GOOD_POINT, NO_SOLUTION, SEVERAL_SOLUTIONS, DOES_NOT_DIVIDE}
 use Rattle.poly.specs.Keys.{keys}
 use Rattle.poly.specs.Terms.{terms-of}
-use Rattle.poly.specs.Room.{work-room, written, cleared}
+use Rattle.field.specs.Lent.{written}
+use Rattle.poly.specs.Room.{work-room, cleared}
 use Rattle.poly.specs.TrialDivision.{CanDivide}
 use Rattle.poly.specs.Lists.{Falling}
 use Rattle.poly.specs.list.Right.{RightLists}

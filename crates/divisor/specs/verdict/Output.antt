@@ -16,7 +16,7 @@ use Rattle.field.specs.modulus.Laws.{listed-below}
 use Rattle.field.specs.Modulo.{Modulo}
 use Rattle.poly.specs.Keys.{key, exponents}
 use Rattle.poly.specs.Terms.{Polynomial, terms-of, numbers-of, coefficient-limit}
-use Rattle.poly.specs.Room.{written}
+use Rattle.field.specs.Lent.{written}
 use Rattle.poly.specs.key.Laws.{Digits, digits-of, exponents-of-key}
 use Rattle.poly.specs.key.Terms.{key-of-term, coefficient-of-term}
 use Rattle.divisor.specs.declared.CandidateRecord.{CandidateRecord}

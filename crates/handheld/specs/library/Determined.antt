@@ -18,7 +18,9 @@ use Rattle.divisor.specs.Candidate.{Call, Candidate}
 use Rattle.divisor.specs.answer.CandidateDetermined.{candidate-determined}
 use Rattle.case_file.specs.Reading.{read}
 use Rattle.case_file.specs.Handed.{contents}
-use Rattle.handheld.specs.Layout.{Laid, laid, of-fault, of-answer, of-quotient, of-candidate, of-image, of-contents}
+use Rattle.case_file.specs.WriteCall.{WriteCall, Write}
+use Rattle.case_file.specs.writer.Determined.{write-determined}
+use Rattle.handheld.specs.Layout.{Laid, laid, of-fault, of-answer, of-quotient, of-candidate, of-image, of-contents, of-write}
 
 -- two results that meet one contract are equal
 abbrev pub Determined : {Found Left : Type 0} → (Found → Left) → (Found → Type 0) → Type 0
@@ -57,3 +59,6 @@ inverse-numbers-determined a = laid-determined of-answer (AskInverse a) (inverse
 
 pub read-left-determined : (bytes : List ℕ) → Determined of-contents (λ r. r ≡ contents (read bytes))
 read-left-determined bytes = laid-determined of-contents (λ r. r ≡ contents (read bytes)) (λ x y h k. h ∙ sym k)
+
+pub write-left-determined : (c : WriteCall) → Determined of-write (Write c)
+write-left-determined c = laid-determined of-write (Write c) (write-determined c)

@@ -8,7 +8,8 @@ use lib.ListN.{length, getD, take, drop}
 use Rattle.field.specs.Refusal.{whole}
 use Rattle.poly.specs.Keys.{keys}
 use Rattle.poly.specs.Terms.{key-of}
-use Rattle.poly.specs.Room.{work-room, written}
+use Rattle.field.specs.Lent.{written}
+use Rattle.poly.specs.Room.{work-room}
 use Rattle.poly.specs.TrialDivision.{CanDivide}
 use Rattle.poly.specs.division.SpreadModel.{gathered}
 use Rattle.poly.specs.division.Model.{KeysBelow, Setting, divide-from, divided}

@@ -11,7 +11,8 @@ use Rattle.field.specs.Refusal.{fault, none, Passes}
 use Rattle.field.specs.declared.faults.Fault.{Fault}
 use Rattle.poly.specs.Keys.{keys}
 use Rattle.poly.specs.Terms.{terms-of}
-use Rattle.poly.specs.Room.{work-room, zeroed, written, cleared}
+use Rattle.field.specs.Lent.{written}
+use Rattle.poly.specs.Room.{work-room, zeroed, cleared}
 use Rattle.poly.specs.QuotientCall.{QuotientCall, quotient-table, Quotient, no-quotient, quotient}
 use Rattle.poly.specs.TrialDivision.{CanDivide}
 use Rattle.poly.specs.rooms.Laws.{zeroed-at}

@@ -19,7 +19,8 @@ use Rattle.poly.specs.Keys.{exponents, keys}
 use Rattle.poly.specs.Terms.{key-of, poly}
 use Rattle.poly.specs.Divides.{Divides}
 use Rattle.poly.specs.Lists.{of-lists, Falling}
-use Rattle.poly.specs.Room.{of-rooms, written, cleared}
+use Rattle.field.specs.Lent.{written}
+use Rattle.poly.specs.Room.{of-rooms, cleared}
 use Rattle.poly.specs.QuotientCall.{QuotientCall, quotient-table, IsQuotient, QuotientResult, Quotient, refused, no-quotient, quotient}
 use Rattle.poly.specs.TrialDivision.{CanDivide}
 use Rattle.poly.specs.list.Check.{lists-one-place}

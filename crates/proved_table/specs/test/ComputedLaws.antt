@@ -17,7 +17,8 @@ use Rattle.field.specs.Refusal.{Passes}
 use Rattle.poly.specs.declared.PointImage.{PointImage}
 use Rattle.poly.specs.Keys.{keys}
 use Rattle.poly.specs.Terms.{term-of, terms-of, poly}
-use Rattle.poly.specs.Room.{written, cleared}
+use Rattle.field.specs.Lent.{written}
+use Rattle.poly.specs.Room.{cleared}
 use Rattle.poly.specs.Lists.{Falling}
 use Rattle.poly.specs.key.Terms.{poly-lead}
 use Rattle.divisor.specs.Rule.{report, Kept}

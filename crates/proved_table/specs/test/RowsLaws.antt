@@ -22,7 +22,8 @@ use Rattle.poly.specs.Terms.{Polynomial, terms-of, poly}
 use Rattle.poly.specs.Lists.{of-lists}
 use Rattle.poly.specs.QuotientCall.{QuotientCall, quotient-table, quotient-result, Quotient, no-quotient, quotient}
 use Rattle.poly.specs.ImageCall.{image-table}
-use Rattle.poly.specs.Room.{of-rooms, work-room, written, cleared}
+use Rattle.field.specs.Lent.{written}
+use Rattle.poly.specs.Room.{of-rooms, work-room, cleared}
 use Rattle.poly.specs.image.Model.{image-of}
 use Rattle.poly.specs.image.Call.{image-fine, image-passes as image-in-order, image-answered, model-answers}
 use Rattle.poly.specs.list.Right.{lists-are-right}

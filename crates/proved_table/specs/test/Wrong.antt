@@ -1,14 +1,17 @@
 -- The test of a wrong result, computed: its row passes the row's test, and somewhere the wrong result has another number than the row's.
--- Of the reader: than what the file gives.
+-- Of the reader: than what the file gives. Of the writer: than the right result, computed.
 use mathlib.Core.Bool.{Bool, true, false, _&&_, _||_}
 use mathlib.Core.List.{List, [], _∷_, _++_}
 use Prim.Native.Nat.{ℕ}
 use lib.Dec.{eqb}
-use Rattle.poly.specs.Room.{written}
+use Rattle.field.specs.Lent.{written}
 use Rattle.case_file.specs.declared.Contents.{Contents}
 use Rattle.case_file.specs.Reading.{read}
 use Rattle.case_file.specs.Handed.{contents}
+use Rattle.case_file.specs.WriteCall.{WriteResult}
+use Rattle.proved_table.specs.Row.{WriteRow}
 use Rattle.proved_table.specs.test.Rows.{numbers, test, quotient-numbers, quotient-test, image-numbers, image-test}
+use Rattle.proved_table.specs.test.Writes.{right-write}
 use Rattle.proved_table.specs.Wrong.{Wrong}
 use Rattle.proved_table.specs.WrongResults.{WrongCandidate}
 use Rattle.proved_table.specs.WrongServices.{WrongQuotient, WrongImage, WrongFile}
@@ -49,3 +52,10 @@ file-numbers r =
 
 unfoldable pub wrong-file-test : WrongFile → Bool
 wrong-file-test w = clash (file-numbers (w .found)) (file-numbers (contents (read (w .row .bytes))))
+
+-- the numbers of the writer's record, and the buffer left behind them
+unfoldable pub write-numbers : WriteResult → List ℕ
+write-numbers r = r .found .fault .number ∷ r .found .fault .place ∷ r .found .length ∷ r .buffer
+
+unfoldable pub wrong-write-test : WriteRow → Bool
+wrong-write-test w = clash (write-numbers (w .result)) (write-numbers (right-write (w .call)))

@@ -8,7 +8,8 @@ use native.Mathlib.Omega.{arith}
 use lib.Dec.{eqb}
 use lib.ListN.{length, getD, drop, replicate, take-append-drop}
 use borrow.Author.Tests.{eqb-false}
-use Rattle.poly.specs.Room.{work-room, written, zeroed, cleared}
+use Rattle.field.specs.Lent.{written}
+use Rattle.poly.specs.Room.{work-room, zeroed, cleared}
 use Rattle.poly.specs.declared.ImageRecord.{ImageRecord}
 use Rattle.poly.specs.QuotientCall.{QuotientResult}
 use Rattle.poly.specs.quotient.Laws.{quotient-determined}
@@ -16,13 +17,17 @@ use Rattle.poly.specs.image.Call.{image-determined}
 use Rattle.divisor.specs.Candidate.{Result}
 use Rattle.case_file.specs.Reading.{read}
 use Rattle.case_file.specs.Handed.{contents}
-use Rattle.proved_table.specs.Row.{quotient-call-of}
+use Rattle.case_file.specs.writer.Determined.{write-determined}
+use Rattle.proved_table.specs.Row.{quotient-call-of, WriteRow}
 use Rattle.proved_table.specs.test.Rows.{numbers, test, quotient-numbers, quotient-test, image-numbers, image-test}
 use Rattle.proved_table.specs.test.RowsLaws.{tested, holds-determined, quotient-tested, image-tested}
-use Rattle.proved_table.specs.Wrong.{Wrong, Begins, work-left, Refuted, QuotientRefuted, ImageRefuted, FileRefuted}
+use Rattle.proved_table.specs.test.Writes.{right-write}
+use Rattle.proved_table.specs.test.WritesLaws.{right-write-meets}
+use Rattle.proved_table.specs.Wrong.{Wrong, Begins, work-left, Refuted, QuotientRefuted, ImageRefuted, FileRefuted, WriteRefuted}
 use Rattle.proved_table.specs.WrongResults.{WrongCandidate}
 use Rattle.proved_table.specs.WrongServices.{WrongQuotient, WrongImage, WrongFile}
 use Rattle.proved_table.specs.test.Wrong.{clash, left-full, differs, wrong-test, wrong-quotient-test, wrong-image-test, file-numbers, wrong-file-test}
+use Rattle.proved_table.specs.test.Wrong.{write-numbers, wrong-write-test}
 
 -- lists that begin with lists that clash are not equal
 clash-means : (xs ys more rest : List ℕ) → clash xs ys ≡ true → xs ++ more ≡ ys ++ rest → ⊥
@@ -117,3 +122,9 @@ image-refuted w h meets =
 pub file-refuted : (w : WrongFile) → wrong-file-test w ≡ true → FileRefuted w
 unfolding wrong-file-test
 file-refuted w h e = clash-differ (file-numbers (w .found)) (file-numbers (contents (read (w .row .bytes)))) h (ap file-numbers e)
+
+pub write-refuted : (w : WriteRow) → wrong-write-test w ≡ true → WriteRefuted w
+unfolding wrong-write-test
+write-refuted w h meets =
+    clash-differ (write-numbers (w .result)) (write-numbers (right-write (w .call))) h
+    (ap write-numbers (write-determined (w .call) (w .result) (right-write (w .call)) meets (right-write-meets (w .call))))

@@ -1,6 +1,6 @@
 -- P1 to P12 hold, and so do the rows beside them: they pass their test, by computing. No other result meets the contract of a row's call.
 -- P1 is also what the bytes of the example file are answered; and beside the table stand the images that its rows name and the products that give its
--- polynomials, and rows of the quotient, the image and the reader.
+-- polynomials, and rows of the quotient, the image, the reader and the writer.
 use mathlib.Core.Path.{_≡_, refl}
 use mathlib.Core.Bool.{true}
 use mathlib.Core.Logic.{Dec·not, Dec·and}
@@ -30,19 +30,23 @@ use Rattle.divisor.specs.monic.Model.{leading, scaled-terms}
 use Rattle.case_file.specs.Format.{known, kind-of, follows, little}
 use Rattle.case_file.specs.Case.{added, flat}
 use Rattle.case_file.specs.Reading.{fault-number, reading, read-one-in, alone, read-in}
-use Rattle.case_file.specs.Written.{records, packed, bytes}
+use Rattle.case_file.specs.Written.{records, packed, bytes, in-order, file-of}
+use Rattle.case_file.specs.WriteCall.{triples}
+use Rattle.case_file.specs.writer.Check.{unwritable-decided}
 use Rattle.case_file.specs.reader.Examples.{example}
 use Rattle.console.specs.OfFile.{asked}
 use Rattle.console.specs.CandidateOfFile.{CandidateOfFile}
-use Rattle.proved_table.specs.Row.{result, Holds, Determined, QuotientHolds, Reads, Shows, Multiplies, Each}
+use Rattle.proved_table.specs.Row.{result, Holds, Determined, QuotientHolds, Reads, Writes, Shows, Multiplies, Each}
 use Rattle.proved_table.specs.test.TermDivision.{each-at-most, plus, less, less-all, before-all, leads, divided, division}
 use Rattle.proved_table.specs.test.Computed.{tried, divided-by, by-answer, with-counts, by-kept, by-least, by-looks, computed}
 use Rattle.proved_table.specs.test.Decisions.{count-decided, not-below-decided, key-decided, term-decided, number-decided, checks-append}
 use Rattle.proved_table.specs.test.Decisions.{list-checks, skeleton-checks, points-checks, point-checks, checks, image-checks}
 use Rattle.proved_table.specs.test.Rows.{same-numbers, agrees, passes, answers, test, image-passes, image-agrees, image-test}
 use Rattle.proved_table.specs.test.Rows.{multiplies, right-lists, quotient-agrees, quotient-test}
+use Rattle.proved_table.specs.test.Writes.{write-checks, by-fault, right-write}
+use Rattle.proved_table.specs.test.WritesLaws.{right-write-meets}
 use Rattle.proved_table.specs.test.RowsLaws.{tested, holds-determined, quotient-tested, image-tested, multiplied, each-tested, each-follows}
-use Rattle.proved_table.specs.MoreRows.{more-rows, quotients, more-images, files}
+use Rattle.proved_table.specs.MoreRows.{more-rows, quotients, more-images, files, writes}
 use Rattle.proved_table.specs.Table.{images, products, p1, table}
 
 pub table-passes : (every test table ≡ true) × (every test more-rows ≡ true)
@@ -89,6 +93,13 @@ quotients-hold = each-tested quotient-test QuotientHolds quotient-tested quotien
 pub files-hold : Each Reads files
 unfolding read-in read-one-in reading alone fault-number added flat known kind-of follows little records packed bytes
 files-hold = (refl, (refl, (refl, (refl, (refl, tt)))))
+
+-- the files are written so
+pub writes-hold : Each Writes writes
+unfolding decLt ℕ-discrete Dec·not placed-check decided added kind-of triples file-of in-order records packed bytes unwritable-decided write-checks by-fault
+    right-write
+writes-hold =
+    (right-write-meets _, (right-write-meets _, (right-write-meets _, (right-write-meets _, (right-write-meets _, tt)))))
 
 -- P11: as values y⁷ and y agree everywhere modulo 7
 pub agree-as-values : map (λ y. power 7 y 7) (0 ∷ 1 ∷ 2 ∷ 3 ∷ 4 ∷ 5 ∷ 6 ∷ []) ≡ (0 ∷ 1 ∷ 2 ∷ 3 ∷ 4 ∷ 5 ∷ 6 ∷ [])

@@ -26,17 +26,22 @@ use Rattle.proved_table.specs.test.Decisions.{list-checks, skeleton-chec
 use Rattle.case_file.specs.Format.{known, kind-of, follows, little}
 use Rattle.case_file.specs.Case.{added, flat}
 use Rattle.case_file.specs.Reading.{fault-number, reading, read-one-in, alone, read-in}
-use Rattle.case_file.specs.Written.{records, packed, bytes}
+use Rattle.case_file.specs.Written.{records, packed, bytes, in-order, file-of}
 use Rattle.case_file.specs.Handed.{padded}
+use Rattle.case_file.specs.WriteCall.{triples}
+use Rattle.case_file.specs.writer.Check.{unwritable-decided}
 use Rattle.proved_table.specs.Row.{Each}
 use Rattle.proved_table.specs.test.Rows.{same-numbers, agrees, passes, answers, test, image-passes, image-agrees, image-test}
 use Rattle.proved_table.specs.test.Rows.{multiplies, right-lists, quotient-agrees, quotient-test}
 use Rattle.proved_table.specs.test.RowsLaws.{each-tested}
-use Rattle.proved_table.specs.Wrong.{Refuted, QuotientRefuted, ImageRefuted, FileRefuted}
+use Rattle.proved_table.specs.test.Writes.{write-checks, by-fault, right-write}
+use Rattle.proved_table.specs.Wrong.{Refuted, QuotientRefuted, ImageRefuted, FileRefuted, WriteRefuted}
 use Rattle.proved_table.specs.WrongResults.{wrong-results}
 use Rattle.proved_table.specs.WrongServices.{wrong-quotients, wrong-images, wrong-files}
+use Rattle.proved_table.specs.WrongWrites.{wrong-writes}
 use Rattle.proved_table.specs.test.Wrong.{clash, left-full, differs, wrong-test, wrong-quotient-test, wrong-image-test, file-numbers, wrong-file-test}
-use Rattle.proved_table.specs.test.WrongLaws.{refuted, quotient-refuted, image-refuted, file-refuted}
+use Rattle.proved_table.specs.test.Wrong.{write-numbers, wrong-write-test}
+use Rattle.proved_table.specs.test.WrongLaws.{refuted, quotient-refuted, image-refuted, file-refuted, write-refuted}
 
 -- the contract of the candidate refutes each of its wrong results
 pub wrong-results-refuted : Each Refuted wrong-results
@@ -67,3 +72,9 @@ wrong-images-refuted = each-tested wrong-image-test ImageRefuted image-refuted w
 pub wrong-files-refuted : Each FileRefuted wrong-files
 unfolding read-in read-one-in reading alone fault-number added flat known kind-of follows little padded records packed bytes clash file-numbers wrong-file-test
 wrong-files-refuted = each-tested wrong-file-test FileRefuted file-refuted wrong-files refl
+
+-- of the writer
+pub wrong-writes-refuted : Each WriteRefuted wrong-writes
+unfolding ℕ-discrete decLt Dec·not placed-check decided kind-of added records packed bytes in-order file-of triples unwritable-decided write-checks
+    by-fault right-write clash write-numbers wrong-write-test
+wrong-writes-refuted = each-tested wrong-write-test WriteRefuted write-refuted wrong-writes refl

@@ -6,7 +6,7 @@ use mathlib.Core.List.{List}
 use Prim.Native.Nat.{ℕ, _-_, _≤_}
 use native.Mathlib.Omega.{arith}
 use lib.ListN.{length, take, drop, getD, replicate, length-replicate}
-use Rattle.field.specs.loops.Collected.{Collecting, collecting-start, collecting-next, collecting-first}
+use Rattle.field.specs.loops.Putting.{Putting, putting-start, putting-one, putting-end, puts-count, puts-first}
 use Rattle.field.specs.elements.Link.{inverse-val}
 use Rattle.field.specs.modulus.Laws.{listed-prime, listed-positive}
 use Rattle.field.specs.Contract.{element, product-of, Invertible, Inverse}
@@ -20,7 +20,7 @@ use Rattle.divisor.proofs.monic.made_monic.Tie as tie
 
 -- the divisor's terms, but those that are left
 abbrev Made : ℕ → ℕ → List ℕ → List ℕ → List ℕ → ℕ → List ℕ → Type 0
-Made p f ks values terms count left = Collecting (scaled-terms p f ks (take (length ks) values)) most-keys (replicate most-keys 0) terms count left
+Made p f ks values terms count left = Putting (scaled-terms p f ks (take (length ks) values)) 0 count (replicate most-keys 0) terms left
 
 record Reached (p f : ℕ) (ks values terms : List ℕ) (count i : ℕ) : Type 0 where
   within : i ≤ length ks
@@ -53,7 +53,7 @@ inverse-requires c κs =
     }
 
 loop-holds : tie.Need-loop-holds Inv-loop μ-loop
-loop-holds c = record { within = omega arith; few = omega arith; made = collecting-start (length-replicate {A = ℕ} most-keys 0) }
+loop-holds c = record { within = omega arith; few = omega arith; made = putting-start }
 
 product-requires : tie.Need-product-requires Inv-loop μ-loop
 product-requires c κs =
@@ -78,7 +78,7 @@ loop-again c =
       few = omega (arith, more, l .inv .few);
       made =
           rw (more, w .5, w .4 .ensures ∙ ap (λ e. keyed (getD (a .skeleton .now) (l .i) 0) (e .value)) made)
-          (collecting-next (l .inv .made) (omega (arith, s .pre .few, l .inv .few))
+          (putting-one (l .inv .made)
           (left-taken (a .p) f (a .skeleton .now) (a .t3) (l .i) (s .pre .long) i (w .0 .taken)));
     })
     (λ w.
@@ -100,11 +100,13 @@ returns c =
     let l = c .before .loop in
     let a = s .args in
     let none = left-none (a .p) (inverse .inverse .result .value) (a .skeleton .now) (a .t3) (l .i) (s .pre .long) (c .loop-test .left) in
+    let all = putting-end (l .inv .made) none in
+    let most = length-replicate {A = ℕ} most-keys 0 in
     record {
-      sized = l .inv .made .filled .long;
+      sized = l .inv .made .as-long ∙ most;
       fits = omega arith;
       terms =
-          collecting-first (l .inv .made) (length-replicate {A = ℕ} most-keys 0) none
+          puts-first all (omega (arith, most, puts-count all, l .inv .few, l .inv .within, s .pre .few))
           ∙ ap (λ (f : ℕ). scaled-terms (a .p) f (a .skeleton .now) (take (length (a .skeleton .now)) (a .t3)))
           (inverse-val _ _ (listed-prime (s .pre .listed))
           (subst (λ e. Inverse e (inverse .inverse .result)) (lead-is (inverse .before)) (inverse .inverse .ensures)));

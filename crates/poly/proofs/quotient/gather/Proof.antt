@@ -1,10 +1,10 @@
--- `poly::quotient::gather` meets its contract. The invariant: the terms of the cells from k on are collected, and those of the cells below k are left.
-use mathlib.Core.Path.{refl, subst}
+-- `poly::quotient::gather` meets its contract. The invariant: the terms of the cells from k on are put, and those of the cells below k are left.
+use mathlib.Core.Path.{subst}
 use mathlib.Core.List.{List}
 use Prim.Native.Nat.{ℕ, _+_, _≤_, _<_}
 use native.Mathlib.Omega.{arith}
 use lib.ListN.{length}
-use Rattle.field.specs.loops.Collected.{Collecting, collecting-start, collecting-next, collecting-end, collecting-all}
+use Rattle.field.specs.loops.Putting.{Putting, putting-start, putting-one, putting-end, puts-count, puts-written}
 use Rattle.poly.specs.division.Spread.{gather-passed, gather-taken}
 use Rattle.poly.specs.division.SpreadModel.{gathered}
 use Rattle.poly.specs.division.Turns.{gather-none}
@@ -14,7 +14,7 @@ use Rattle.poly.proofs.quotient.gather.Tie as tie
 
 record Gathering (cells before out : List ℕ) (k n : ℕ) : Type 0 where
   few : n + k ≤ length cells
-  terms : Collecting (gathered (length cells) cells) (length before) before out n (gathered k cells)
+  terms : Putting (gathered (length cells) cells) 0 n before out (gathered k cells)
 
 abbrev Inv-loop : tie.InvT-loop
 Inv-loop cells out₀ k₀ n₀ out k n = Gathering cells out₀ out k n
@@ -33,15 +33,15 @@ start a = a .before .before .before
 room : (c : tie.After-term Inv-loop μ-loop) → let l = turn c .before .loop in l .n < length (l .out)
 room c =
     let a = turn c .before in
-    omega (arith, a .loop .inv .few, a .loop .inv .terms .filled .long, start a .pre .room, turn c .loop-test .taken)
+    omega (arith, a .loop .inv .few, a .loop .inv .terms .as-long, start a .pre .room, turn c .loop-test .taken)
 
 loop-holds : tie.Need-loop-holds Inv-loop μ-loop
-loop-holds c = record { few = omega arith; terms = collecting-start refl }
+loop-holds c = record { few = omega arith; terms = putting-start }
 
 mul-out : tie.Need-mul-out Inv-loop μ-loop
 mul-out c =
     let a = turn c .before in
-    omega (arith, room c, start a .good .1 .0 .0, a .loop .inv .terms .filled .long)
+    omega (arith, room c, start a .good .1 .0 .0, a .loop .inv .terms .as-long)
 
 loop-again : tie.Need-loop-again Inv-loop μ-loop
 loop-again c =
@@ -51,7 +51,7 @@ loop-again c =
       few = omega (arith, a .loop .inv .few, turn c .loop-test .taken);
       terms =
           rw (c .term .ensures)
-          (collecting-next terms (omega (arith, room c, terms .filled .long)) (gather-taken (omega arith) (start a .args .cells .now) (c .before .if1 .taken)));
+          (putting-one terms (gather-taken (omega arith) (start a .args .cells .now) (c .before .if1 .taken)));
     }
 
 loop-again-2 : tie.Need-loop-again-2 Inv-loop μ-loop
@@ -61,15 +61,16 @@ loop-again-2 c =
     record {
       few = omega (arith, a .loop .inv .few);
       terms =
-          subst (Collecting (gathered (length cells) cells) (length (start a .args .out .now)) (start a .args .out .now) (a .loop .out) (a .loop .n))
+          subst (Putting (gathered (length cells) cells) 0 (a .loop .n) (start a .args .out .now) (a .loop .out))
           (gather-passed (omega arith) cells (c .if1 .left)) (a .loop .inv .terms);
     }
 
 returns : tie.Need-returns Inv-loop μ-loop
 returns c =
     let l = c .before .loop in
-    let none = gather-none (l .k) (start (c .before) .args .cells .now) (c .loop-test .left) in
-    record { count = collecting-end (l .inv .terms) none; output = collecting-all (l .inv .terms) refl none }
+    let s = start (c .before) in
+    let all = putting-end (l .inv .terms) (gather-none (l .k) (s .args .cells .now) (c .loop-test .left)) in
+    record { count = puts-count all; output = puts-written all (omega (arith, puts-count all, l .inv .few, s .pre .room)) }
 
 pub gather-spec : {M : Type 1} → statement M
 gather-spec =
