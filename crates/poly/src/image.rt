@@ -2,6 +2,10 @@
 ghost use mathlib.Core.Path.{_≡_};
 ghost use Rattle.field.specs.Refusal.{Tested};
 ghost use Rattle.poly.specs.ImageCall.{image-call, refused-image, image-table, Fine, AnswersPoint, ImageAnswer};
+ghost use Rattle.poly.specs.euclid.Model.{gcd as gcd-of};
+ghost use Rattle.poly.specs.euclid.Steps.{Pair};
+ghost use Rattle.poly.specs.image.Model.{HasLeading, leading-number, sized};
+use crate::Eight;
 use crate::ImageRecord;
 use crate::POWERS;
 use crate::PointImage;
@@ -27,8 +31,28 @@ fn refused(fault: Fault) -> ImageRecord
     }
 }
 
-// The image at a point, of inputs that are in order: for the service below, and for the layer above. The point is bad if A's value has 0 at
-// A's highest power of x; then B's value is not worked.
+// What a value has at its list's highest power of x: the x-leading coefficient at the point.
+fn leading(terms: &[Term], value: Eight) -> Residue
+    requires { ⌜ HasLeading (now terms) ⌝ }
+    ensures { λ r. ⌜ r ≡ leading-number (now (terms .entry)) value ⌝ }
+{
+    value[Key::of(terms[0]).x() as usize]
+}
+
+// What two values have in common, the first of which is not 0.
+fn common(p: Residue, a: Eight, b: Eight) -> PointImage
+    requires { ⌜ Pair p a b ⌝ }
+    ensures { λ r. ⌜ r ≡ sized (gcd-of p a b) ⌝ }
+{
+    let u = euclid::gcd(p, a, b);
+    PointImage {
+        size: euclid::size(u) as Size,
+        coefficients: u,
+    }
+}
+
+// The image at a point, of inputs that are in order: for the service below, and for the layer above. The value that keeps its degree goes
+// first: the other may be 0. The point is bad if neither keeps it.
 pub fn image_at(p: Residue, first: &[Term], second: &[Term], point: &[Residue]) -> PointImage
     requires { ⌜ Fine p (now first) (now second) (now point) ⌝ }
     ensures { λ r. ⌜ AnswersPoint p (now (first .entry)) (now (second .entry)) (now (point .entry)) r ⌝ }
@@ -37,18 +61,16 @@ pub fn image_at(p: Residue, first: &[Term], second: &[Term], point: &[Residue]) 
     let zs = value::powers(Element::of(p, point[1]));
     let ws = value::powers(Element::of(p, point[2]));
     let a = value::value(p, ys, zs, ws, first);
-    let x = Key::of(first[0]).x() as usize;
-    if a[x] == 0 {
-        return PointImage {
-            size: 0,
-            coefficients: [Element::ZERO; POWERS],
-        };
-    }
     let b = value::value(p, ys, zs, ws, second);
-    let u = euclid::gcd(p, a, b);
+    if leading(first, a) != 0 {
+        return common(p, a, b);
+    }
+    if leading(second, b) != 0 {
+        return common(p, b, a);
+    }
     PointImage {
-        size: euclid::size(u) as Size,
-        coefficients: u,
+        size: 0,
+        coefficients: [Element::ZERO; POWERS],
     }
 }
 

@@ -15,13 +15,15 @@ use Rattle.poly.specs.Keys.{keys}
 use Rattle.poly.specs.Terms.{key-of, terms-of}
 use Rattle.poly.specs.PointValue.{value, x-degree}
 use Rattle.poly.specs.PointImage.{Image}
+use Rattle.poly.specs.declared.PointImage.{PointImage}
 use Rattle.poly.specs.LeadingPart.{x-of}
 use Rattle.poly.specs.Coefficients.{Eight, series}
 use Rattle.poly.specs.ImageCall.{point-of, PointAnswer, bad, good}
 use Rattle.poly.specs.value.PowersModel.{powers}
 use Rattle.poly.specs.value.Model.{CanEvaluate, value-of}
 use Rattle.poly.specs.euclid.Model.{size, gcd}
-use Rattle.poly.specs.image.Model.{value-at, no-image, sized, image-of-values, image-of}
+use Rattle.poly.specs.image.Model.{value-at, no-image, sized, leading-number, HasLeading, image-of-values, image-of}
+use Rattle.poly.specs.image.Laws.{bad-swap, image-swap}
 use Rattle.poly.specs.value.PowersLaws.{powers-eight}
 use Rattle.poly.specs.euclid.Numbers.{eight-clear, size-clear}
 use Rattle.poly.specs.euclid.Meaning.{clear-ends}
@@ -31,14 +33,19 @@ use Rattle.poly.specs.value.Meaning.{value-of-series}
 use Rattle.poly.specs.list.Falling.{falling-key, falling-coefficient}
 use Rattle.poly.specs.list.Right.{RightList}
 
--- what the code's test of a's number at x settles
-pub values-bad : (p x : ℕ) (a b : List ℕ) → getD a x 0 ≡ 0 → image-of-values p x a b ≡ no-image
-unfolding image-of-values
-values-bad p x a b e = rw (eq-eqb (getD a x 0) 0 e, image-of-values)
+-- what the code's tests of the leading numbers settle
+module _ (p m n : ℕ) (a b : List ℕ) where
+  pub first-keeps : ¬ (m ≡ 0) → image-of-values p m n a b ≡ sized (gcd p a b)
+  unfolding image-of-values
+  first-keeps q = rw (ne-eqb m 0 q, image-of-values)
 
-pub values-good : (p x : ℕ) (a b : List ℕ) → ¬ (getD a x 0 ≡ 0) → image-of-values p x a b ≡ sized (gcd p a b)
-unfolding image-of-values
-values-good p x a b n = rw (ne-eqb (getD a x 0) 0 n, image-of-values)
+  pub second-keeps : m ≡ 0 → ¬ (n ≡ 0) → image-of-values p m n a b ≡ sized (gcd p b a)
+  unfolding image-of-values
+  second-keeps e q = rw (eq-eqb m 0 e, ne-eqb n 0 q, image-of-values)
+
+  pub none-keeps : m ≡ 0 → n ≡ 0 → image-of-values p m n a b ≡ no-image
+  unfolding image-of-values
+  none-keeps e d = rw (eq-eqb m 0 e, eq-eqb n 0 d, image-of-values)
 
 -- a number that is not 0 gives a size
 pub size-positive : (p x : ℕ) (a : List ℕ) → Eight p a → ¬ (getD a x 0 ≡ 0) → 0 < size a
@@ -62,8 +69,11 @@ module _ (p : ℕ) (point ys zs ws : List ℕ) (y : ys ≡ powers p (getD point 
   unfolding value-at
   value-by-tables ts = λ i. value-of p (y i) (z i) (w i) ts
 
-pub first-power-small : (p : ℕ) (ts : List ℕ) → RightList p ts → x-of (getD ts 0 0) < 8
-first-power-small p ts h = let k : key-of (getD ts 0 0) < keys = falling-key p keys ts (h .falls) 0 (h .some) in omega arith
+pub right-has-leading : (p : ℕ) (ts : List ℕ) → RightList p ts → HasLeading ts
+right-has-leading p ts h = record {
+  some = h .some;
+  power = let k : key-of (getD ts 0 0) < keys = falling-key p keys ts (h .falls) 0 (h .some) in omega arith;
+}
 
 module _ {p : ℕ} (P : Prime p) (point : List ℕ) where
   -- the value of a list at the point
@@ -84,6 +94,11 @@ module _ {p : ℕ} (P : Prime p) (point : List ℕ) where
   first-power [] l = absurd (omega arith)
   first-power (t ∷ ts) l = refl
 
+  -- the number that the code tests is the x-leading coefficient at the point
+  leading : (ts : List ℕ) → RightList p ts → el p (leading-number ts (value-at p point ts)) ≡ value-there ts (x-degree (Modulo p P .ring) (terms-of p P ts))
+  leading ts h = ap (λ (f : ℕ → Fp p). f (x-of (getD ts 0 0))) (value-at-series ts h) ∙ ap (value-there ts) (sym (first-power ts (h .some)))
+
+  -- the value that keeps its degree goes first
   module _ (A B : List ℕ) (hA : RightList p A) (hB : RightList p B) where
     abbrev a : List ℕ
     a = value-at p point A
@@ -91,19 +106,12 @@ module _ {p : ℕ} (P : Prime p) (point : List ℕ) where
     abbrev b : List ℕ
     b = value-at p point B
 
-    abbrev x : ℕ
-    x = x-of (getD A 0 0)
-
     abbrev u : List ℕ
     u = gcd p a b
 
-    -- the number that the code tests is the x-leading coefficient of A at the point
-    leading : el p (getD a x 0) ≡ value-there A (x-degree (Modulo p P .ring) (terms-of p P A))
-    leading = ap (λ (f : ℕ → Fp p). f x) (value-at-series A hA) ∙ ap (value-there A) (sym (first-power A (hA .some)))
-
-    module _ (n : ¬ (getD a x 0 ≡ 0)) where
+    module _ (n : ¬ (leading-number A a ≡ 0)) where
       filled : ¬ (size a ≡ 0)
-      filled e = omega (arith, size-positive p x a (value-at-eight A) n)
+      filled e = omega (arith, size-positive p (x-of (getD A 0 0)) a (value-at-eight A) n)
 
       greatest : IsGcd P (value-there A) (value-there B) u (size u - 1)
       greatest =
@@ -114,7 +122,7 @@ module _ {p : ℕ} (P : Prime p) (point : List ℕ) where
       model-is-image : Image (Modulo p P) (terms-of p P A) (terms-of p P B) (point-of p P point) (size u - 1) (series p u)
       model-is-image =
           record {
-            good = λ z. el-nonzero p (getD a x 0) (value-at-eight A .below x) n (leading ∙ z);
+            good = λ z. el-nonzero p (leading-number A a) (value-at-eight A .below (x-of (getD A 0 0))) n (leading A hA ∙ z .0);
             monic =
                 record {
                   leads = ap (el p) (greatest .monic .one);
@@ -131,11 +139,27 @@ module _ {p : ℕ} (P : Prime p) (point : List ℕ) where
           subst (λ (s : ℕ). PointAnswer p P (terms-of p P A) (terms-of p P B) (point-of p P point) (record { size = s; coefficients = u })) one-more
           (good (size u - 1) u (greatest .eight) model-is-image)
 
-    -- the model answers as the rule says
-    pub image-of-answers : PointAnswer p P (terms-of p P A) (terms-of p P B) (point-of p P point) (image-of p A B point)
-    unfolding image-of
-    image-of-answers = go (ℕ-discrete (getD a x 0) 0)
-      where
-        go : Dec (getD a x 0 ≡ 0) → PointAnswer p P (terms-of p P A) (terms-of p P B) (point-of p P point) (image-of-values p x a b)
-        go (yes e) = rw (values-bad p x a b e) (bad (sym leading ∙ ap (el p) e))
-        go (no n) = rw (values-good p x a b n) (model-good n)
+  -- the order of the lists does not matter
+  answer-swap : (A B : List ℕ) {r : PointImage} → PointAnswer p P (terms-of p P B) (terms-of p P A) (point-of p P point) r
+      → PointAnswer p P (terms-of p P A) (terms-of p P B) (point-of p P point) r
+  answer-swap A B (bad x) = bad (bad-swap (Modulo p P) _ _ _ x)
+  answer-swap A B (good degree cs e i) = good degree cs e (image-swap (Modulo p P) _ _ _ degree _ i)
+
+  -- the model answers as the rule says
+  pub image-of-answers : (A B : List ℕ) → RightList p A → RightList p B
+      → PointAnswer p P (terms-of p P A) (terms-of p P B) (point-of p P point) (image-of p A B point)
+  unfolding image-of
+  image-of-answers A B hA hB = go (ℕ-discrete m 0) (ℕ-discrete n 0)
+    where
+      m : ℕ
+      m = leading-number A (value-at p point A)
+
+      n : ℕ
+      n = leading-number B (value-at p point B)
+
+      go : Dec (m ≡ 0) → Dec (n ≡ 0)
+          → PointAnswer p P (terms-of p P A) (terms-of p P B) (point-of p P point) (image-of-values p m n (value-at p point A) (value-at p point B))
+      go (no q) _ = rw (first-keeps p m n (value-at p point A) (value-at p point B) q) (model-good A B hA hB q)
+      go (yes e) (no q) = rw (second-keeps p m n (value-at p point A) (value-at p point B) e q) (answer-swap A B (model-good B A hB hA q))
+      go (yes e) (yes d) =
+          rw (none-keeps p m n (value-at p point A) (value-at p point B) e d) (bad (sym (leading A hA) ∙ ap (el p) e, sym (leading B hB) ∙ ap (el p) d))
