@@ -1,8 +1,8 @@
--- The image of two polynomials at a point, over any field: it has the degree that it says, which is not above the powers of x in both; there is
--- one at most; the order of the two does not matter; not both values are 0, and where one is, the image is the other made monic.
+-- The image of two polynomials at a point, over any field: it has the degree that it says, which is below 8 where both have no higher powers of x;
+-- there is one at most; the order of the two does not matter; not both values are 0, and where one is, the image is the other made monic.
 use mathlib.Core.Path.{_≡_, ap}
 use mathlib.Core.Logic.{_⊎_, inl, inr}
-use Prim.Native.Nat.{ℕ, suc, _≤_}
+use Prim.Native.Nat.{ℕ, suc, _≤_, _<_}
 use native.Mathlib.Omega.{arith}
 use Rattle.algebra.specs.Series.{Seq}
 use Rattle.algebra.specs.SeriesRing.{SeriesR}
@@ -18,7 +18,7 @@ use Rattle.poly.specs.Terms.{Polynomial}
 use Rattle.poly.specs.PointValue.{Point, value, x-degree}
 use Rattle.poly.specs.Divides.{DividesX}
 use Rattle.poly.specs.PointImage.{LeadVanishes, Bad, Image}
-use Rattle.poly.specs.value.Laws.{value-finite, WithinX, value-ends}
+use Rattle.poly.specs.value.Laws.{value-finite, Bounded, value-ends}
 
 -- one polynomial whose x-leading coefficient is not 0 at the point
 module _ (K : Field) (f : Polynomial K) (at : Point (K .ring)) (keeps : ¬ LeadVanishes K f at) where
@@ -29,17 +29,17 @@ module _ (K : Field) (f : Polynomial K) (at : Point (K .ring)) (keeps : ¬ LeadV
   value-nonzero z = keeps (ap (λ (u : Seq R). u (x-degree R f)) z)
 
   -- a divisor of it has no higher degree than f's powers of x
-  divisor-within : (e : ℕ) (U : Seq R) (n : ℕ) → WithinX K n f → Top R e U → DividesX K U (value R f at) → e ≤ n
-  divisor-within e U n w top d =
+  divisor-small : (e : ℕ) (U : Seq R) → Bounded K f → Top R e U → DividesX K U (value R f at) → e < 8
+  divisor-small e U w top d =
       let v = value R f at in
       let above = series-top R (domain K) v (value-finite K f at) value-nonzero in
       let q = quotient-top R (domain K) (above .0) U v (ends-fin K (suc e) U (top .ends)) d (above .1) e top in
-      let not-above : ¬ (suc n ≤ above .0) = λ l. above .1 .nonzero (value-ends K n f at w (above .0) l) in
+      let not-above : ¬ (8 ≤ above .0) = λ l. above .1 .nonzero (value-ends K 7 f at (w .by-seven) (above .0) l) in
       omega (arith, q .1)
 
   -- it keeps the degree of f
-  keeps-top : WithinX K (x-degree R f) f → Top R (x-degree R f) (value R f at)
-  keeps-top w = record { nonzero = keeps; ends = value-ends K (x-degree R f) f at w }
+  keeps-top : Bounded K f → Top R (x-degree R f) (value R f at)
+  keeps-top w = record { nonzero = keeps; ends = value-ends K (x-degree R f) f at (w .by-first) }
 
 -- at a good point one of the two x-leading coefficients is not 0
 pub good-keeps : (K : Field) (A B : Polynomial K) (at : Point (K .ring)) → ¬ Bad K A B at → (¬ LeadVanishes K A at) ⊎ (¬ LeadVanishes K B at)
@@ -73,11 +73,11 @@ module _ (K : Field) (A B : Polynomial K) where
   pub image-top : (at : Point R) (e : ℕ) (U : Seq R) → Image K A B at e U → Top R e U
   image-top at e U i = monic-top K e U (i .monic)
 
-  -- an image divides a value that is not 0, so its degree is not above the powers of x in A and in B
-  pub image-within : (at : Point R) (e : ℕ) (U : Seq R) (n : ℕ) → WithinX K n A → WithinX K n B → Image K A B at e U → e ≤ n
-  image-within at e U n v w i = elim (good-keeps K A B at (i .good)) [
-    | inl a ↦ divisor-within K A at a e U n v (image-top at e U i) (i .greatest .left)
-    | inr b ↦ divisor-within K B at b e U n w (image-top at e U i) (i .greatest .right)
+  -- an image divides a value that is not 0, so its degree is not above that one's powers of x
+  pub image-small : (at : Point R) (e : ℕ) (U : Seq R) → Bounded K A → Bounded K B → Image K A B at e U → e < 8
+  image-small at e U v w i = elim (good-keeps K A B at (i .good)) [
+    | inl a ↦ divisor-small K A at a e U v (image-top at e U i) (i .greatest .left)
+    | inr b ↦ divisor-small K B at b e U w (image-top at e U i) (i .greatest .right)
   ]
 
   -- a point has one image
@@ -85,7 +85,7 @@ module _ (K : Field) (A B : Polynomial K) where
   image-unique at e f U W i j = monic-greatest-unique K e f _ _ U W (i .monic) (j .monic) (i .greatest) (j .greatest)
 
   -- if B is 0 there, the image is A's value made monic
-  pub image-of-zero : (at : Point R) (e : ℕ) (U : Seq R) → WithinX K (x-degree R A) A → Image K A B at e U → value R B at ≡ SeriesR R .𝟘
+  pub image-of-zero : (at : Point R) (e : ℕ) (U : Seq R) → Bounded K A → Image K A B at e U → value R B at ≡ SeriesR R .𝟘
       → (e ≡ x-degree R A) × (U ≡ over-lead K (x-degree R A) (value R A at))
   image-of-zero at e U w i z =
       let n = x-degree R A in
@@ -97,6 +97,6 @@ module _ (K : Field) (A B : Polynomial K) where
 
 -- if A is 0 there, it is B's value made monic
 pub image-of-zero-first : (K : Field) (A B : Polynomial K) (at : Point (K .ring)) (e : ℕ) (U : Seq (K .ring))
-    → WithinX K (x-degree (K .ring) B) B → Image K A B at e U → value (K .ring) A at ≡ SeriesR (K .ring) .𝟘
+    → Bounded K B → Image K A B at e U → value (K .ring) A at ≡ SeriesR (K .ring) .𝟘
     → (e ≡ x-degree (K .ring) B) × (U ≡ over-lead K (x-degree (K .ring) B) (value (K .ring) B at))
 image-of-zero-first K A B at e U w i z = image-of-zero K B A at e U w (image-swap K A B at e U i) z

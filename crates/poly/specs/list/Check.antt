@@ -5,7 +5,7 @@ use mathlib.Core.List.{List, map}
 use Prim.Native.Nat.{ℕ, zero, suc, _≤_, _<_}
 use native.Mathlib.Omega.{arith}
 use lib.ListN.{length, getD, length-map, List·getD-map}
-use Rattle.field.specs.Refusal.{Tested, refused, passed}
+use Rattle.field.specs.Refusal.{Passes, Tested, refused, passed}
 use Rattle.field.specs.faults.Laws.{OnePlaceEach, whole-one-place, first-one-place, tested-determined}
 use Rattle.field.specs.declared.faults.Fault.{Fault}
 use Rattle.poly.specs.Keys.{keys}
@@ -63,6 +63,10 @@ module _ (ts : List ℕ) where
   tested-without-modulus (refused (inr (n, inr h))) = absurd (h .1)
   tested-without-modulus (passed h e) =
       passed (h .0, ((λ i w. h .1 .0 i (wrong-term (w .0), λ j l v. w .1 j l (small-coefficient j v))), tt)) e
+
+-- two lists that pass do so in either order
+pub lists-swap : (p : ℕ) (A B : List ℕ) → Passes (of-lists p A B) → Passes (of-lists p B A)
+lists-swap p A B h = (h .0, (h .1 .1 .1 .0, (h .1 .1 .1 .1 .0, (h .1 .0, (h .1 .1 .0, tt)))))
 
 -- each line has one place
 pub lists-one-place : (p : ℕ) (A B : List ℕ) → OnePlaceEach (of-lists p A B)
