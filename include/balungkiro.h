@@ -100,6 +100,19 @@ size_t balungkiro_leading_part(const uint32_t *terms, size_t count);
  * Record: number, place. Numbers 2, 3 (of a coefficient only that it is not 0). */
 void balungkiro_check_list(const uint32_t *terms, size_t count, size_t record[2]);
 
+/* The shorter of the leading parts of first and second, first's where both have as many terms: the head of the caller's own list.
+ * part: how many terms it has, then which list it is the head of, 1 or 2.
+ * 0 and 1 where balungkiro_check_lists refuses the lists; 0 only there. */
+void balungkiro_shorter_part(const uint32_t *first, size_t first_count,
+                             const uint32_t *second, size_t second_count,
+                             size_t part[2]);
+
+/* The check of two lists without a modulus.
+ * Record: number, place. Numbers 2 to 5 (of a coefficient only that it is not 0). */
+void balungkiro_check_lists(const uint32_t *first, size_t first_count,
+                            const uint32_t *second, size_t second_count,
+                            size_t record[2]);
+
 /* Arithmetic. An operand is a modulus and a value.
  * Record: number, place, modulus, value; on refusal the first operand's modulus as it came, and 0.
  * Numbers 1 (the first operand's modulus), 17; the inverse 1, 17, 16. */

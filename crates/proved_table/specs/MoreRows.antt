@@ -1,5 +1,5 @@
 -- Rows beside P1 to P12, for wrong versions that P1 to P12 do not tell from the right one; and rows of the quotient, the image, the
--- reader and the writer. Modulo 17 unless said, z = w = 0.
+-- reader, the writer and the picker. Modulo 17 unless said, z = w = 0.
 use mathlib.Core.List.{List, [], _∷_, _++_}
 use Prim.Native.Nat.{ℕ}
 use lib.ListN.{length, replicate}
@@ -13,7 +13,7 @@ use Rattle.case_file.specs.Format.{today}
 use Rattle.case_file.specs.Written.{records}
 use Rattle.case_file.specs.WriteCall.{WriteCall, write-call, write-result}
 use Rattle.case_file.specs.reader.Examples.{example}
-use Rattle.proved_table.specs.Row.{Row, QuotientRow, ImageRow, FileRow, WriteRow}
+use Rattle.proved_table.specs.Row.{Row, QuotientRow, ImageRow, FileRow, WriteRow, PickRow}
 use Rattle.proved_table.specs.Table.{key-xy, term-xy, at, row, E, F, K, A₂, B₂, A₁₁, image}
 
 -- x and x + y, y = 0, skeleton x: the image is x, which divides the first and not the second: 15
@@ -170,3 +170,45 @@ write-half = write-row (write-call 17 [] [] [] (1 ∷ 2 ∷ []) []) NOT_WRITABLE
 
 abbrev pub writes : List WriteRow
 writes = write-example ∷ write-short ∷ write-bare ∷ write-keys ∷ write-half ∷ []
+
+-- two lists, and the number and the terms that are picked
+abbrev pub pick-row : List ℕ → List ℕ → ℕ → List ℕ → PickRow
+pick-row A B list terms = record { first-list = A; second-list = B; list = list; terms = terms }
+
+-- the leading parts of E, (y + 16) x³, and of A₂ and B₂, 3 y x²
+abbrev pub leading-E : List ℕ
+leading-E = term-xy 1 3 1 ∷ term-xy 16 3 0 ∷ []
+
+abbrev pub leading-A₂ : List ℕ
+leading-A₂ = term-xy 3 2 1 ∷ []
+
+-- 1 + x, whose keys do not fall
+abbrev pub rising : List ℕ
+rising = term-xy 1 0 0 ∷ term-xy 1 1 0 ∷ []
+
+abbrev pub pick-second : PickRow
+pick-second = pick-row E A₂ 2 leading-A₂
+
+abbrev pub pick-first : PickRow
+pick-first = pick-row A₂ E 1 leading-A₂
+
+-- as many terms: the first list's, also where the terms are the same
+abbrev pub pick-tie : PickRow
+pick-tie = pick-row E K 1 leading-E
+
+abbrev pub pick-same-terms : PickRow
+pick-same-terms = pick-row A₂ B₂ 1 leading-A₂
+
+-- a list is refused: the empty head of the first
+abbrev pub pick-refused : PickRow
+pick-refused = pick-row A₂ rising 1 []
+
+abbrev pub pick-first-refused : PickRow
+pick-first-refused = pick-row rising A₂ 1 []
+
+-- there is no modulus: 65535 x has a leading part
+abbrev pub pick-large : PickRow
+pick-large = pick-row E (term-xy 65535 1 0 ∷ []) 2 (term-xy 65535 1 0 ∷ [])
+
+abbrev pub picks : List PickRow
+picks = pick-second ∷ pick-first ∷ pick-tie ∷ pick-same-terms ∷ pick-refused ∷ pick-first-refused ∷ pick-large ∷ []
