@@ -114,12 +114,8 @@ pub fn check_lists(first: &[Term], second: &[Term]) -> Fault
     if fault.number != 0 {
         return fault;
     }
-    list_fault(
-        Fault::SECOND_COUNT,
-        Fault::SECOND_TERM,
-        Key::COEFFICIENT_LIMIT,
-        second,
-    )
+    let bound = Key::COEFFICIENT_LIMIT;
+    list_fault(Fault::SECOND_COUNT, Fault::SECOND_TERM, bound, second)
 }
 
 // Which of two lists has the shorter leading part, the first on a tie, and how many terms that has; on refusal the first, and none.
