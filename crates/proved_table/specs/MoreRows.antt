@@ -34,8 +34,39 @@ zeros-dropped =
     row 17 (term-xy 1 2 0 ∷ []) (term-xy 1 2 0 ∷ []) (key-xy 2 0 ∷ key-xy 1 0 ∷ key-xy 0 0 ∷ []) (at (0 ∷ []))
     (report 0 (record { d = 2; bad = 0; unlucky = 0; kept = 1 }) 1) (term-xy 1 2 0 ∷ [])
 
+-- (x + 1) (x y + 1), whose x-leading coefficient y is 0 at y = 0; y (x + 1), which is 0 there; and (x + 1) (x + 2)
+abbrev pub lead-lost : List ℕ
+lead-lost = term-xy 1 2 1 ∷ term-xy 1 1 1 ∷ term-xy 1 1 0 ∷ term-xy 1 0 0 ∷ []
+
+abbrev pub value-lost : List ℕ
+value-lost = term-xy 1 1 1 ∷ term-xy 1 0 1 ∷ []
+
+abbrev pub lead-kept : List ℕ
+lead-kept = term-xy 1 2 0 ∷ term-xy 3 1 0 ∷ term-xy 2 0 0 ∷ []
+
+-- x + 1 at the points, with skeleton x, 1: d = 1, none bad, one kept
+abbrev pub x-plus-one : List ℕ → List ℕ → List ℕ → ℕ → Row
+x-plus-one A B points unlucky =
+    row 17 A B (key-xy 1 0 ∷ key-xy 0 0 ∷ []) (at points)
+    (report 0 (record { d = 1; bad = 0; unlucky = unlucky; kept = 1 }) 2) (term-xy 1 1 0 ∷ term-xy 1 0 0 ∷ [])
+
+-- y = 0, where one x-leading coefficient alone is 0, that of the first and that of the second: the point is good
+abbrev pub first-lead-lost : Row
+first-lead-lost = x-plus-one lead-lost lead-kept (0 ∷ []) 0
+
+abbrev pub second-lead-lost : Row
+second-lead-lost = x-plus-one lead-kept lead-lost (0 ∷ []) 0
+
+-- y = 0 and y = 1, where the one value is 0 at y = 0 and the image the other's: the point is unlucky
+abbrev pub first-value-lost : Row
+first-value-lost = x-plus-one value-lost lead-kept (0 ∷ 1 ∷ []) 1
+
+abbrev pub second-value-lost : Row
+second-value-lost = x-plus-one lead-kept value-lost (0 ∷ 1 ∷ []) 1
+
 abbrev pub more-rows : List Row
-more-rows = divides-first ∷ divides-second ∷ zeros-dropped ∷ []
+more-rows =
+    divides-first ∷ divides-second ∷ zeros-dropped ∷ first-lead-lost ∷ second-lead-lost ∷ first-value-lost ∷ second-value-lost ∷ []
 
 -- the quotient's terms, and 15
 abbrev pub exact : ℕ → List ℕ → List ℕ → List ℕ → QuotientRow
@@ -67,7 +98,7 @@ equal-as-values = not-exact 7 A₁₁ (term-xy 1 1 0 ∷ term-xy 1 0 7 ∷ [])
 abbrev pub quotients : List QuotientRow
 quotients = f-over-e ∷ e-over-f ∷ k-over-e ∷ a₂-over-factor ∷ equal-as-values ∷ []
 
--- the polynomials of P2 at y = 0, where the first has no x² any more: 12
+-- the polynomials of P2 at y = 0, where neither has x² any more: 12
 abbrev pub image-bad : ImageRow
 image-bad = record { call = image-call 17 A₂ B₂ (at (0 ∷ [])); found = refused-image (fault NO_GOOD_POINT 0) }
 
@@ -83,8 +114,19 @@ image-k = image K K 1 3 (12 ∷ 0 ∷ 0 ∷ 1 ∷ 0 ∷ 0 ∷ 0 ∷ 0 ∷ [])
 abbrev pub image-of-first : ImageRow
 image-of-first = image (term-xy 3 1 0 ∷ []) (term-xy 1 0 1 ∷ []) 0 1 (0 ∷ 1 ∷ 0 ∷ 0 ∷ 0 ∷ 0 ∷ 0 ∷ 0 ∷ [])
 
+-- the two exchanged: at y = 0 the first is 0
+abbrev pub image-of-second : ImageRow
+image-of-second = image (term-xy 1 0 1 ∷ []) (term-xy 3 1 0 ∷ []) 0 1 (0 ∷ 1 ∷ 0 ∷ 0 ∷ 0 ∷ 0 ∷ 0 ∷ 0 ∷ [])
+
+-- one x-leading coefficient alone is 0 at y = 0, that of the first and that of the second: x + 1
+abbrev pub image-first-lead-lost : ImageRow
+image-first-lead-lost = image lead-lost lead-kept 0 1 (1 ∷ 1 ∷ 0 ∷ 0 ∷ 0 ∷ 0 ∷ 0 ∷ 0 ∷ [])
+
+abbrev pub image-second-lead-lost : ImageRow
+image-second-lead-lost = image lead-kept lead-lost 0 1 (1 ∷ 1 ∷ 0 ∷ 0 ∷ 0 ∷ 0 ∷ 0 ∷ 0 ∷ [])
+
 abbrev pub more-images : List ImageRow
-more-images = image-bad ∷ image-two ∷ image-of-first ∷ []
+more-images = image-bad ∷ image-two ∷ image-of-first ∷ image-of-second ∷ image-first-lead-lost ∷ image-second-lead-lost ∷ []
 
 -- what the reader hands back: number and place, the modulus, the four lists
 abbrev pub handed-back : ℕ → ℕ → ℕ → List ℕ → List ℕ → List ℕ → List ℕ → Contents

@@ -5,8 +5,6 @@ use Prim.Native.Nat.{ℕ, _≤_, _<_}
 use native.Mathlib.Omega.{arith}
 use Rattle.algebra.specs.SeriesRing.{S4}
 use Rattle.algebra.specs.Monomial.{polynomial}
-use Rattle.field.specs.Moduli.{Listed}
-use Rattle.field.specs.Refusal.{Passes}
 use Rattle.field.specs.faults.Laws.{refuses-numbered}
 use Rattle.poly.specs.Keys.{exponents, keys}
 use Rattle.poly.specs.Terms.{Polynomial}
@@ -14,7 +12,7 @@ use Rattle.poly.specs.Divides.{Divides}
 use Rattle.poly.specs.key.Laws.{exponents-order}
 use Rattle.poly.specs.list.Laws.{FallFrom}
 use Rattle.divisor.specs.Rule.{without-zeros, made-monic}
-use Rattle.divisor.specs.Candidate.{Call, table, prime, Numbers, A, B, monomials, lent-points, handed-out, Result, Candidate, refused, answered}
+use Rattle.divisor.specs.Candidate.{Call, table, Numbers, A, B, monomials, lent-points, handed-out, Result, Candidate, refused, answered}
 use Rattle.divisor.specs.Demands.{DegreeX, GreatestInX, MadeMonic, AcceptedIsGreatest, CommonDivisorComesOut}
 use Rattle.divisor.specs.checks.Passed.{first-bounded, second-bounded, skeleton-falls}
 use Rattle.divisor.specs.monic.Laws.{monic-is-made-monic}
