@@ -85,9 +85,9 @@ pick-tested r h =
 module _ (w : PickRow) (first second part : RefT (List ℕ)) (c : Sliced w first second part) (meets : ShorterPart first second part) where
   settled : (part .ptr ≡ place-of (right w .list) first second) × (part .now ≡ right w .terms)
   settled =
-      shorter-determined meets
-      (shorter-picks (pick-row (w .first-list) (w .second-list) (right w .list) (right w .terms)) (right-pick-meets (w .first-list) (w .second-list)) first second
-      (record { ptr = place-of (right w .list) first second; name = part .name; now = right w .terms })
+      let row = pick-row (w .first-list) (w .second-list) (right w .list) (right w .terms) in
+      let slice : RefT (List ℕ) = record { ptr = place-of (right w .list) first second; name = part .name; now = right w .terms } in
+      shorter-determined meets (shorter-picks row (right-pick-meets (w .first-list) (w .second-list)) first second slice
       (record { first-now = c .first-now; second-now = c .second-now; part-now = refl; part-place = refl }))
 
   same-terms : w .terms ≡ right w .terms
