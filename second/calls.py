@@ -213,7 +213,7 @@ def picked():
     two = [2 * X_POWER + Y_POWER + 3, 2 * X_POWER + 1, X_POWER + 1]
     lists = {
         "a tie": (one, other), "one list twice": (two, two), "the first is shorter": (one, two), "the second is shorter": (two, one),
-        "fewer terms, longer part": (two, [X_POWER + 1] + [k * COEFFICIENTS + 1 for k in (3, 2, 1, 0)]),
+        "more terms, shorter part": (two, [X_POWER + 1, *(k * COEFFICIENTS + 1 for k in (3, 2, 1, 0))]),
         "no first terms": ([], one), "no second terms": (two, []), "no terms": ([], []),
         "first coefficient 0": ([2 * X_POWER], one), "second coefficient 0": (two, [2 * X_POWER + 1, X_POWER]),
         "both coefficients 0": ([X_POWER + 1, 0], [0]), "first keys equal, no second terms": ([1, 1], []),

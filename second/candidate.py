@@ -10,7 +10,7 @@ from dataclasses import dataclass, field
 
 import case_file
 from polynomials import (
-    POWERS, exponents, image, monic, monomial_at, point_powers, polynomial, quotient, term_list,
+    POWERS, exponents, image, monic, monomials_at, point_powers, polynomial, quotient, term_list,
 )
 from refusals import (
     COEFFICIENTS, MOST_SKELETON_KEYS, QUOTIENT_TERMS, WORK_NUMBERS, Refusal,
@@ -79,12 +79,12 @@ def kept_images(good, d):
 def equations(skeleton, kept, p):
     """The equations as rows: coefficients, multipliers from the second on, right-hand side."""
     rows = []
+    x_powers = [exponents(key)[0] for key in skeleton]
     for index, (point, u) in enumerate(kept):
-        powers = point_powers(point, p)
-        values = [monomial_at(key, powers, p) for key in skeleton]
+        values = monomials_at(skeleton, point_powers(point, p), p)
         for power in range(POWERS):
-            skeleton_part = [value if exponents(key)[0] == power else 0
-                             for key, value in zip(skeleton, values)]
+            skeleton_part = [value if x_power == power else 0
+                             for x_power, value in zip(x_powers, values)]
             image_part = [0] * len(kept)
             image_part[index] = u[power] if power < len(u) else 0
             # The first multiplier is 1, so its part stands on the right-hand side.

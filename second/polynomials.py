@@ -100,18 +100,17 @@ def point_powers(point, p):
     return [[pow(coordinate, power, p) for power in range(POWERS)] for coordinate in point]
 
 
-def monomial_at(monomial, powers, p):
-    """The value of the y, z, w part of a monomial, by the tables of powers."""
-    _, b, c, d = exponents(monomial)
+def monomials_at(monomials, powers, p):
+    """The value of the y, z, w part of each monomial, by the tables of powers."""
     y, z, w = powers
-    return y[b] * z[c] * w[d] % p
+    return [y[b] * z[c] * w[d] % p for _, b, c, d in map(exponents, monomials)]
 
 
 def at_point(poly, powers, p):
     """The polynomial in x that is left at a point."""
     values = [0] * POWERS
-    for monomial, coefficient in poly.items():
-        values[exponents(monomial)[0]] += coefficient * monomial_at(monomial, powers, p)
+    for monomial, value in zip(poly, monomials_at(poly, powers, p)):
+        values[exponents(monomial)[0]] += poly[monomial] * value
     return _trimmed([value % p for value in values])
 
 
