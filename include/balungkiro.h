@@ -103,8 +103,9 @@ size_t balungkiro_leading_part(const uint32_t *terms, size_t count);
  * Record: number, place. Numbers 2, 3 (of a coefficient only that it is not 0). */
 void balungkiro_check_list(const uint32_t *terms, size_t count, size_t record[2]);
 
-/* The shorter of the two leading parts, the first list's where they have as many terms: the head of one of the caller's own lists.
- * Part: how many terms it has, and the list that it is the head of, 1 or 2. 0 and 1 where balungkiro_check_lists refuses the lists. */
+/* The shorter of the leading parts of first and second, first's where both have as many terms: the head of the caller's own list.
+ * part: how many terms it has, then which list it is the head of, 1 or 2.
+ * 0 and 1 where balungkiro_check_lists refuses the lists; 0 only there. */
 void balungkiro_shorter_part(const uint32_t *first, size_t first_count,
                              const uint32_t *second, size_t second_count,
                              size_t part[2]);
