@@ -27,7 +27,7 @@
  *    9       a point number is at least p                                        first such number
  *    10      output too short                                                    place 0
  *    11      work room shorter than 8192 numbers                                 place 0
- *    12      no good point: at each the x-leading coefficients of both are 0     place 0
+ *    12      no good point: both x-leading coefficients are 0 at each            place 0
  *    13, 14  equations have no solution, more than one                           place 0
  *    15      does not divide                                                     place 0
  *    17      arithmetic operand at least p, or another modulus (before 16)       0 first operand, 1 second
