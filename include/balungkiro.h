@@ -84,7 +84,7 @@ void balungkiro_quotient(uint16_t modulus,
                          size_t record[3]);
 
 /* The image at one point: the monic greatest common divisor of first and second there, as polynomials in x; where one of them is 0, the other
- * made monic. Where both lists pass 1 to 5, swapping them changes nothing.
+ * made monic.
  * Record: number, place, degree (0 on refusal). Numbers 1 to 5, 8 (the point is not three numbers), 9, 12 (the point is bad: the x-leading
  * coefficients of both are 0 there).
  * coefficients: written in every case, x^0 first; all 0 on refusal. */
