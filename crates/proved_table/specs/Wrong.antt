@@ -8,7 +8,7 @@ use denote.Ref.{RefT}
 use Rattle.poly.specs.declared.ImageRecord.{ImageRecord}
 use Rattle.poly.specs.declared.QuotientRecord.{QuotientRecord}
 use Rattle.poly.specs.Keys.{keys}
-use Rattle.poly.specs.ShorterPart.{ShorterPart}
+use Rattle.poly.specs.ShorterPart.{ShorterHead, ShorterPart}
 use Rattle.poly.specs.ImageCall.{ImageAnswer}
 use Rattle.poly.specs.QuotientCall.{quotient-result, Quotient}
 use Rattle.field.specs.Lent.{written}
@@ -73,3 +73,7 @@ PickRefuted w = (first second part : RefT (List ℕ)) → Sliced w first second 
 -- of the picker, where the two lists do not begin at one place: the terms may be right, and only the place tells whose they are
 abbrev pub PlaceRefuted : PickRow → Type 0
 PlaceRefuted w = (first second part : RefT (List ℕ)) → ¬ (first .ptr ≡ second .ptr) → Sliced w first second part → ¬ ShorterPart first second part
+
+-- of the picker that tells its part by list and number of terms
+abbrev pub HeadRefuted : PickRow → Type 0
+HeadRefuted w = ¬ ShorterHead (w .first-list) (w .second-list) (record { list = w .list; terms = length (w .terms) })

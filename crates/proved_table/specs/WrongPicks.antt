@@ -1,5 +1,5 @@
 -- The wrong results of the picker, each with the lists that tell it from the right one.
-use mathlib.Core.List.{List, [], _∷_}
+use mathlib.Core.List.{List, [], _∷_, _++_}
 use Rattle.proved_table.specs.Row.{PickRow}
 use Rattle.proved_table.specs.Table.{term-xy, E, K, A₂, B₂}
 use Rattle.proved_table.specs.MoreRows.{pick-row, leading-E, leading-A₂, rising}
@@ -69,3 +69,7 @@ terms-of-second-in-first = pick-row E A₂ 1 leading-A₂
 
 abbrev pub wrong-places : List PickRow
 wrong-places = second-of-the-same ∷ empty-of-the-second ∷ terms-of-second-in-first ∷ []
+
+-- All of them have another list or another number of terms than the right part.
+abbrev pub wrong-heads : List PickRow
+wrong-heads = wrong-picks ++ wrong-places

@@ -42,3 +42,6 @@ module _ (r : PickRow) where
 
   unfoldable pub wrong-place-test : Bool
   wrong-place-test = elim (eqb (r .list) 2) [ true ↦ not (eqb (right .list) 2) | false ↦ eqb (right .list) 2 ]
+
+  unfoldable pub wrong-head-test : Bool
+  wrong-head-test = clash (r .list ∷ length (r .terms) ∷ []) (right .list ∷ length (right .terms) ∷ [])

@@ -13,20 +13,21 @@ use Rattle.field.specs.Refusal.{Tested}
 use Rattle.field.specs.declared.faults.Fault.{Fault}
 use Rattle.field.specs.faults.Laws.{tested-refuses}
 use Rattle.field.specs.faults.Decision.{decided, decided-tested}
+use Rattle.poly.specs.declared.Picked.{Picked}
 use Rattle.poly.specs.LeadingPart.{x-of}
-use Rattle.poly.specs.ShorterPart.{of-two-lists, Shorter, refused, of-first, of-second, ShorterPart, part-of-first, part-of-second}
+use Rattle.poly.specs.ShorterPart.{of-two-lists, Shorter, refused, of-first, of-second, picked, ShorterPart, part-of-first, part-of-second}
 use Rattle.poly.specs.Search.{Searched}
 use Rattle.poly.specs.list.Model.{Lower}
 use Rattle.poly.specs.list.Searching.{Searching}
 use Rattle.poly.specs.list.Search.{search-begins, search-goes-on, search-stops, search-ends}
-use Rattle.poly.specs.list.Shorter.{shorter-of-first, shorter-of-second, picked-of-first, picked-of-second, shorter-determined}
+use Rattle.poly.specs.list.Shorter.{shorter-of-first, shorter-of-second, picked-of-first, picked-of-second, shorter-determined, shorter-head-determined}
 use Rattle.proved_table.specs.Row.{PickRow, place-of, Sliced, Picks}
 use Rattle.proved_table.specs.MoreRows.{pick-row}
-use Rattle.proved_table.specs.Wrong.{PickRefuted, PlaceRefuted}
+use Rattle.proved_table.specs.Wrong.{PickRefuted, PlaceRefuted, HeadRefuted}
 use Rattle.proved_table.specs.test.Decisions.{two-lists-checks}
 use Rattle.proved_table.specs.test.RowsLaws.{same-is}
 use Rattle.proved_table.specs.test.WrongLaws.{clash-differ}
-use Rattle.proved_table.specs.test.Picks.{lower-from, by-lengths, right-pick, right, pick-test, wrong-pick-test, wrong-place-test}
+use Rattle.proved_table.specs.test.Picks.{lower-from, by-lengths, right-pick, right, pick-test, wrong-pick-test, wrong-place-test, wrong-head-test}
 
 lower-searched : (ts : List ℕ) (left i : ℕ) → left + i ≡ length ts → Searching (Lower ts) (length ts) i
     → Searched (Lower ts) (length ts) (lower-from ts left i)
@@ -111,3 +112,10 @@ place-refuted w h first second part apart c meets = go (eqb (w .list) 2) (eqb (r
     go true false h e = apart (sym e)
     go false true h e = apart e
     go false false h e = false≢true h
+
+pub head-refuted : (w : PickRow) → wrong-head-test w ≡ true → HeadRefuted w
+unfolding wrong-head-test
+head-refuted w h meets =
+    clash-differ (w .list ∷ length (w .terms) ∷ []) _ h
+    (ap (λ (r : Picked). r .list ∷ r .terms ∷ [])
+    (shorter-head-determined meets (picked (right w .list) (right w .terms) (right-pick-meets (w .first-list) (w .second-list)))))

@@ -36,16 +36,16 @@ use Rattle.proved_table.specs.test.Rows.{same-numbers, agrees, passes, a
 use Rattle.proved_table.specs.test.Rows.{multiplies, right-lists, quotient-agrees, quotient-test}
 use Rattle.proved_table.specs.test.RowsLaws.{each-tested}
 use Rattle.proved_table.specs.test.Writes.{write-checks, by-fault, right-write}
-use Rattle.proved_table.specs.Wrong.{Refuted, QuotientRefuted, ImageRefuted, FileRefuted, WriteRefuted, PickRefuted, PlaceRefuted}
+use Rattle.proved_table.specs.Wrong.{Refuted, QuotientRefuted, ImageRefuted, FileRefuted, WriteRefuted, PickRefuted, PlaceRefuted, HeadRefuted}
 use Rattle.proved_table.specs.WrongResults.{wrong-results}
 use Rattle.proved_table.specs.WrongServices.{wrong-quotients, wrong-images, wrong-files}
 use Rattle.proved_table.specs.WrongWrites.{wrong-writes}
-use Rattle.proved_table.specs.WrongPicks.{wrong-picks, wrong-places}
+use Rattle.proved_table.specs.WrongPicks.{wrong-picks, wrong-places, wrong-heads}
 use Rattle.proved_table.specs.test.Wrong.{clash, left-full, differs, wrong-test, wrong-quotient-test, wrong-image-test, file-numbers, wrong-file-test}
 use Rattle.proved_table.specs.test.Wrong.{write-numbers, wrong-write-test}
 use Rattle.proved_table.specs.test.WrongLaws.{refuted, quotient-refuted, image-refuted, file-refuted, write-refuted}
-use Rattle.proved_table.specs.test.Picks.{lower-from, by-lengths, right-pick, wrong-pick-test, wrong-place-test}
-use Rattle.proved_table.specs.test.PicksLaws.{pick-refuted, place-refuted}
+use Rattle.proved_table.specs.test.Picks.{lower-from, by-lengths, right-pick, wrong-pick-test, wrong-place-test, wrong-head-test}
+use Rattle.proved_table.specs.test.PicksLaws.{pick-refuted, place-refuted, head-refuted}
 
 -- the contract of the candidate refutes each of its wrong results
 pub wrong-results-refuted : Each Refuted wrong-results
@@ -93,3 +93,8 @@ pub wrong-places-refuted : Each PlaceRefuted wrong-places
 unfolding ℕ-discrete decLe decLt Dec·and placed-check look first-check decided count-decided not-below-decided key-decided plain-term-decided
     checks-append terms-checks two-lists-checks lower-from by-lengths right-pick wrong-place-test
 wrong-places-refuted = each-tested wrong-place-test PlaceRefuted place-refuted wrong-places refl
+
+pub wrong-heads-refuted : Each HeadRefuted wrong-heads
+unfolding ℕ-discrete decLe decLt Dec·and placed-check look first-check decided count-decided not-below-decided key-decided plain-term-decided
+    checks-append terms-checks two-lists-checks clash lower-from by-lengths right-pick wrong-head-test
+wrong-heads-refuted = each-tested wrong-head-test HeadRefuted head-refuted wrong-heads refl
