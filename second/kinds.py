@@ -19,7 +19,8 @@ def kinds(case):
         vanishing = [at for at, lead in enumerate(leads) if not at_point(lead, powers, case.modulus)]
         if len(vanishing) == 2:
             found.add(BAD)
-        for at in vanishing if len(vanishing) == 1 else []:
+        elif vanishing:
+            [at] = vanishing
             found.add(ONLY_LEAD[at])
             if not at_point(polys[at], powers, case.modulus):
                 found.add(ZERO[at])
