@@ -116,13 +116,7 @@ static void reduce(uint16_t p, uint16_t f[8], const uint16_t g[8], size_t n) {
     }
 }
 
-static void swap(uint16_t **f, uint16_t **g) {
-    uint16_t *h = *f;
-    *f = *g;
-    *g = h;
-}
-
-/* The image's coefficients; its size, or 0 where the point is bad. The value that keeps its degree in x goes first: the other may be 0. */
+/* The image's coefficients; its size, or 0 where the point is bad. */
 static size_t image(uint16_t p, const uint32_t *first, size_t n, const uint32_t *second, size_t m, const uint16_t point[3], uint16_t u[8]) {
     uint16_t ys[8], zs[8], ws[8], values[2][8];
     uint16_t *f = values[0], *g = values[1];
@@ -132,17 +126,16 @@ static size_t image(uint16_t p, const uint32_t *first, size_t n, const uint32_t 
     value(p, ys, zs, ws, first, n, f);
     value(p, ys, zs, ws, second, m, g);
     memset(u, 0, 8 * sizeof *u);
-    if (f[x_of(key_of(first[0]))] == 0) {
-        if (g[x_of(key_of(second[0]))] == 0)
-            return 0;
-        swap(&f, &g);
-    }
-    make_monic(p, f, size(f));
+    if (f[x_of(key_of(first[0]))] == 0 && g[x_of(key_of(second[0]))] == 0)
+        return 0;
     for (size_t s = size(g); s > 0; s = size(g)) {
+        uint16_t *h = f;
         make_monic(p, g, s);
         reduce(p, f, g, s);
-        swap(&f, &g);
+        f = g;
+        g = h;
     }
+    make_monic(p, f, size(f));
     memcpy(u, f, 8 * sizeof *u);
     return size(u);
 }

@@ -2,9 +2,7 @@
 ghost use mathlib.Core.Path.{_≡_};
 ghost use Rattle.field.specs.Refusal.{Tested};
 ghost use Rattle.poly.specs.ImageCall.{image-call, refused-image, image-table, Fine, AnswersPoint, ImageAnswer};
-ghost use Rattle.poly.specs.euclid.Model.{gcd as gcd-of};
-ghost use Rattle.poly.specs.euclid.Steps.{Pair};
-ghost use Rattle.poly.specs.image.Model.{HasLeading, leading-number, sized};
+ghost use Rattle.poly.specs.image.Model.{HasLeading, leading-number};
 use crate::Eight;
 use crate::ImageRecord;
 use crate::POWERS;
@@ -39,20 +37,8 @@ fn leading(terms: &[Term], value: Eight) -> Residue
     value[Key::of(terms[0]).x() as usize]
 }
 
-// What two values have in common, the first of which is not 0.
-fn common(p: Residue, a: Eight, b: Eight) -> PointImage
-    requires { ⌜ Pair p a b ⌝ }
-    ensures { λ r. ⌜ r ≡ sized (gcd-of p a b) ⌝ }
-{
-    let u = euclid::gcd(p, a, b);
-    PointImage {
-        size: euclid::size(u) as Size,
-        coefficients: u,
-    }
-}
-
-// The image at a point, of inputs that are in order: for the service below, and for the layer above. The value that keeps its degree goes
-// first: the other may be 0. The point is bad if neither keeps it.
+// The image at a point, of inputs that are in order: for the service below, and for the layer above. The point is bad if both x-leading
+// coefficients are 0 there; else one value is not 0, and the other may be.
 pub fn image_at(p: Residue, first: &[Term], second: &[Term], point: &[Residue]) -> PointImage
     requires { ⌜ Fine p (now first) (now second) (now point) ⌝ }
     ensures { λ r. ⌜ AnswersPoint p (now (first .entry)) (now (second .entry)) (now (point .entry)) r ⌝ }
@@ -62,15 +48,17 @@ pub fn image_at(p: Residue, first: &[Term], second: &[Term], point: &[Residue]) 
     let ws = value::powers(Element::of(p, point[2]));
     let a = value::value(p, ys, zs, ws, first);
     let b = value::value(p, ys, zs, ws, second);
-    if leading(first, a) != 0 {
-        return common(p, a, b);
+    let bad = (leading(first, a) == 0) & (leading(second, b) == 0);
+    if bad {
+        return PointImage {
+            size: 0,
+            coefficients: [Element::ZERO; POWERS],
+        };
     }
-    if leading(second, b) != 0 {
-        return common(p, b, a);
-    }
+    let u = euclid::gcd(p, a, b);
     PointImage {
-        size: 0,
-        coefficients: [Element::ZERO; POWERS],
+        size: euclid::size(u) as Size,
+        coefficients: u,
     }
 }
 

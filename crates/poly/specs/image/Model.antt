@@ -1,5 +1,5 @@
 -- The model of the image at a point, as the code works it: the two values by tables of powers, then Euclid's algorithm.
-use mathlib.Core.Bool.{true, false}
+use mathlib.Core.Bool.{true, false, _&&_}
 use mathlib.Core.List.{List}
 use Prim.Native.Nat.{ℕ, _<_}
 use lib.Dec.{eqb}
@@ -30,10 +30,9 @@ pub record HasLeading (terms : List ℕ) : Type 0 where
   pub some : 0 < length terms
   pub power : x-of (getD terms 0 0) < 8
 
--- where the values are a and b, and their leading numbers are m and n: the value that keeps its degree goes first
+-- where the values are a and b, and their leading numbers are m and n
 unfoldable pub image-of-values : ℕ → ℕ → ℕ → List ℕ → List ℕ → PointImage
-image-of-values p m n a b =
-    elim (eqb m 0) [ true ↦ elim (eqb n 0) [ true ↦ no-image | false ↦ sized (gcd p b a) ] | false ↦ sized (gcd p a b) ]
+image-of-values p m n a b = elim (eqb m 0 && eqb n 0) [ true ↦ no-image | false ↦ sized (gcd p a b) ]
 
 unfoldable pub image-of : ℕ → List ℕ → List ℕ → List ℕ → PointImage
 image-of p A B point =

@@ -1,22 +1,27 @@
--- `poly::image::image_at` meets its contract: the tables, the two values, the tests of their leading numbers and what is made of both are
+-- `poly::image::image_at` meets its contract: the tables, the two values, the test of their leading numbers and what is made of both are
 -- the model's, which answers the point.
 use mathlib.Core.Path.{_≡_, sym, ap, _∙_, subst}
+use mathlib.Core.Bool.{Bool, _&&_}
 use mathlib.Core.List.{List}
-use Prim.Native.Nat.{ℕ}
+use Prim.Native.Nat.{ℕ, _+_, _<_}
+use native.Mathlib.Omega.{arith}
+use lib.Dec.{eqb}
 use lib.ListN.{getD}
 use Rattle.field.specs.elements.Plain.{has-modulus}
 use Rattle.field.specs.modulus.Laws.{listed-prime, listed-above, listed-positive}
 use Rattle.poly.specs.declared.PointImage.{PointImage}
 use Rattle.poly.specs.Coefficients.{Eight}
 use Rattle.poly.specs.value.Model.{CanEvaluate, value-of}
+use Rattle.poly.specs.LeadingPart.{x-of}
 use Rattle.poly.specs.ImageCall.{AnswersPoint}
 use Rattle.poly.specs.value.PowersModel.{powers}
-use Rattle.poly.specs.euclid.Model.{gcd}
+use Rattle.poly.specs.euclid.Model.{size, gcd}
+use Rattle.poly.specs.euclid.Numbers.{size-le}
 use Rattle.poly.specs.image.Model.{value-at, sized, leading-number, image-of-values, image-of}
 use Rattle.poly.specs.list.Right.{RightList, RightLists, lists-are-right}
 use Rattle.poly.specs.value.PowersLaws.{powers-of}
 use Rattle.poly.specs.image.Call.{model-answers}
-use Rattle.poly.specs.image.ModelLaws.{first-keeps, second-keeps, none-keeps, size-positive, tables-ready, value-by-tables}
+use Rattle.poly.specs.image.ModelLaws.{not-both-zero, values-bad, values-good, sizes-positive, tables-ready, value-by-tables}
 use Rattle.poly.specs.image.ModelLaws.{right-has-leading, value-at-eight}
 use borrow.Author.Needs.{needs}
 use Rattle.poly.proofs.image.image_at.Statement.{statement}
@@ -115,12 +120,26 @@ module _ (c : tie.After-value2) where
   unfolding image-of
   answers = model-answers (p tables) A B (point tables) (start tables .pre .lists)
 
--- the numbers that are tested are the model's
-first-leading : (c : tie.After-leading) → c .leading .result ≡ leading-number (A (c .before)) (a (c .before))
-first-leading c = c .leading .ensures ∙ ap (leading-number (A (c .before))) (first-value (c .before))
+-- with both leading numbers, which are the model's
+module _ (c : tie.After-leading2) where
+  abbrev values : tie.After-value2
+  values = c .before .before
 
-second-leading : (c : tie.After-leading2) → let k = c .before .before .before in c .leading2 .result ≡ leading-number (B k) (b k)
-second-leading c = let k = c .before .before .before in c .leading2 .ensures ∙ ap (leading-number (B k)) (second-value k)
+  abbrev first-leading : ℕ
+  first-leading = leading-number (A values) (a values)
+
+  abbrev second-leading : ℕ
+  second-leading = leading-number (B values) (b values)
+
+  first-is : c .before .leading .result ≡ first-leading
+  first-is = c .before .leading .ensures ∙ ap (leading-number (A values)) (first-value values)
+
+  second-is : c .leading2 .result ≡ second-leading
+  second-is = c .leading2 .ensures ∙ ap (leading-number (B values)) (second-value values)
+
+  -- and so is their test
+  tested : {t : Bool} → (eqb (c .before .leading .result) 0 && eqb (c .leading2 .result) 0) ≡ t → (eqb first-leading 0 && eqb second-leading 0) ≡ t
+  tested e = sym (λ i. eqb (first-is i) 0 && eqb (second-is i) 0) ∙ e
 
 powers-requires : tie.Need-powers-requires
 powers-requires c κs = has-modulus (c .of .ensures) (listed-positive (right (opened c) .is-listed))
@@ -141,52 +160,42 @@ value-requires-2 c κs = ready (c .before) (start (c .before) .args .second .now
 leading-requires : tie.Need-leading-requires
 leading-requires c κs = right-has-leading _ _ (right (start (tables c)) .first)
 
-common-requires : tie.Need-common-requires
-common-requires c κs =
-    let k = c .before .before in
-    record {
-      is-listed = right (start (tables k)) .is-listed;
-      first = first-eight k;
-      second = second-eight k;
-      nonzero = size-positive _ _ _ (first-eight k) (λ z. c .if1 .taken (c .before .leading .ensures ∙ z));
-    }
+leading-requires-2 : tie.Need-leading-requires-2
+leading-requires-2 c κs = right-has-leading _ _ (right (start (tables (c .before))) .second)
 
 returns : tie.Need-returns
 returns c =
-    let test = c .before in
-    let k = test .before .before in
-    answers k (c .common .ensures ∙ (λ i. sized (gcd (p (tables k)) (first-value k i) (second-value k i)))
-    ∙ sym (first-keeps _ _ _ _ _ (λ z. test .if1 .taken (first-leading (test .before) ∙ z))))
+    let k = c .before in
+    answers (values k) (sym (values-bad _ _ _ _ _ (tested k (c .if1 .taken))))
 
-leading-requires-2 : tie.Need-leading-requires-2
-leading-requires-2 c κs = right-has-leading _ _ (right (start (tables (c .before .before))) .second)
-
-common-requires-2 : tie.Need-common-requires-2
-common-requires-2 c κs =
-    let k = c .before .before .before .before in
+gcd-requires : tie.Need-gcd-requires
+gcd-requires c κs =
+    let v = values (c .before) in
+    let l : 0 < c .before .before .leading .result + c .before .leading2 .result = not-both-zero _ _ (c .if1 .left) in
     record {
-      is-listed = right (start (tables k)) .is-listed;
-      first = second-eight k;
-      second = first-eight k;
-      nonzero = size-positive _ _ _ (second-eight k) (λ z. c .if2 .taken (c .before .leading2 .ensures ∙ z));
+      is-listed = right (start (tables v)) .is-listed;
+      first = first-eight v;
+      second = second-eight v;
+      not-both =
+          sizes-positive _ (x-of (getD (A v) 0 0)) (x-of (getD (B v) 0 0)) _ _ (first-eight v) (second-eight v)
+          (omega (arith, c .before .before .leading .ensures, c .before .leading2 .ensures));
     }
+
+cast-t14 : tie.Need-cast-t14
+cast-t14 c = omega (arith, c .size .ensures, size-le 8 (c .before .gcd .result))
 
 returns-2 : tie.Need-returns-2
 returns-2 c =
-    let test = c .before in
-    let first = test .before .before in
-    let k = first .before .before in
-    answers k (c .common2 .ensures ∙ (λ i. sized (gcd (p (tables k)) (second-value k i) (first-value k i)))
-    ∙ sym (second-keeps _ _ _ _ _ (sym (first-leading (first .before)) ∙ first .if1 .left) (λ z. test .if2 .taken (second-leading (test .before) ∙ z))))
-
-returns-3 : tie.Need-returns-3
-returns-3 c =
-    let first = c .before .before in
-    let k = first .before .before in
-    answers k (sym (none-keeps _ _ _ _ _ (sym (first-leading (first .before)) ∙ first .if1 .left) (sym (second-leading (c .before)) ∙ c .if2 .left)))
+    let else = c .before .before in
+    let v = values (else .before) in
+    let u = c .before .gcd .ensures in
+    answers v
+    ((λ i. record { size = (c .size .ensures ∙ ap size u) i; coefficients = u i })
+    ∙ (λ i. sized (gcd (p (tables v)) (first-value v i) (second-value v i)))
+    ∙ sym (values-good _ _ _ _ _ (tested (else .before) (else .if1 .left))))
 
 pub image-at-spec : {M : Type 1} → statement M
 image-at-spec =
     tie.close (tie.spec (λ c. search needs) (λ c κs. search needs) powers-requires (λ c. search needs) (λ c κs. search needs) powers-requires-2
-    (λ c. search needs) (λ c κs. search needs) powers-requires-3 value-requires value-requires-2 leading-requires common-requires returns
-    leading-requires-2 common-requires-2 returns-2 returns-3)
+    (λ c. search needs) (λ c κs. search needs) powers-requires-3 value-requires value-requires-2 leading-requires leading-requires-2 returns
+    gcd-requires (λ c κs. search needs) cast-t14 returns-2)
