@@ -50,7 +50,7 @@ x-plus-one A B points unlucky =
     row 17 A B (key-xy 1 0 ∷ key-xy 0 0 ∷ []) (at points)
     (report 0 (record { d = 1; bad = 0; unlucky = unlucky; kept = 1 }) 2) (term-xy 1 1 0 ∷ term-xy 1 0 0 ∷ [])
 
--- y = 0, where one x-leading coefficient alone is 0, that of the first and that of the second: the point is good
+-- the teacher's case and its swap, y = 0: one x-leading coefficient alone is 0 there, that of the first and that of the second, so the point is good
 abbrev pub first-lead-lost : Row
 first-lead-lost = x-plus-one lead-lost lead-kept (0 ∷ []) 0
 

@@ -50,14 +50,9 @@ module _ {p : ℕ} (P : Prime p) where
       (remainder-greatest P m h (highest-leads P g hg q .clear) (8 - m) f hf (omega (arith, size-le 8 g)) u
       (greatest-swap (Poly (Modulo p P)) (PolyD (Modulo p P)) (series p h) (series p (rest p (size g) f g)) u s))
 
-  -- g made monic has the size of g
-  turned-size : (g : List ℕ) → Eight p g → ¬ (size g ≡ 0) → 0 < size (turned p (size g) g)
-  turned-size g hg q =
-      let l = highest-leads P g hg q in
-      let h = turned p (size g) g in
-      let s : size h ≡ suc (size g - 1) =
-      size-is 8 (size g - 1) h (eight-clear p h (monic-eight P (size g - 1) g)) (λ z. omega (arith, sym (l .one) ∙ z)) (l .clear) in
-      omega arith
+  -- where the highest number is 1, at d, the size is one more
+  leads-size : (d : ℕ) (u : List ℕ) → Eight p u → Leads d u → size u ≡ suc d
+  leads-size d u h l = size-is 8 d u (eight-clear p u h) (λ e. omega (arith, sym (l .one) ∙ e)) (l .clear)
 
   euclid-leaves : (fuel : ℕ) (f g : List ℕ) → size g ≤ fuel → Eight p f → Eight p g → 0 < size f + size g → Left f g (euclid p fuel f g)
   unfolding euclid
@@ -69,16 +64,12 @@ module _ {p : ℕ} (P : Prime p) where
           → Left f g (euclid p (suc fuel) f g)
       go (yes e) again = subst (Left f g) (sym (euclid-end p (suc fuel) f g e)) (alone f g hf hg some e)
       go (no q) again =
+          let h = turned p (size g) g in
+          let s : size h ≡ suc (size g - 1) = leads-size (size g - 1) h (monic-eight P (size g - 1) g) (highest-leads P g hg q) in
           let w =
-          again (turned p (size g) g) (rest p (size g) f g) (omega (arith, turn-smaller P f g hf hg q)) (monic-eight P (size g - 1) g)
-          (turn-rest P f g hf hg q) (let h = turned-size g hg q in omega arith) in
+          again h (rest p (size g) f g) (omega (arith, turn-smaller P f g hf hg q)) (monic-eight P (size g - 1) g) (turn-rest P f g hf hg q) (omega arith) in
           subst (Left f g) (sym (euclid-next p fuel f g q))
           (record { eight = w .eight; some = w .some; greatest = turn-greatest f g hf hg q _ (w .greatest) })
-
-  -- the degree is what the size says
-  gcd-size : (a b : ℕ → Fp p) (u : List ℕ) (d : ℕ) → IsGcd P a b u d → size u ≡ suc d
-  gcd-size a b u d h =
-      size-is 8 d u (eight-clear p u (h .eight)) (λ e. omega (arith, sym (h .monic .one) ∙ e)) (h .monic .clear)
 
   module _ (a b : List ℕ) (ha : Eight p a) (hb : Eight p b) (some : 0 < size a + size b) where
     left : Left a b (euclid p (size b) a b)
@@ -101,7 +92,7 @@ module _ {p : ℕ} (P : Prime p) where
         }
 
     sized : size (gcd p a b) ≡ suc (size (euclid p (size b) a b) - 1)
-    sized = gcd-size (series p a) (series p b) (gcd p a b) _ gcd-found
+    sized = leads-size _ (gcd p a b) (gcd-found .eight) (gcd-found .monic)
 
     pub gcd-nonzero : 0 < size (gcd p a b)
     gcd-nonzero = let s = sized in omega arith
