@@ -5,7 +5,7 @@ Each of the first five is a candidate call whose divisor is known. The first is 
 in x and the second keeps it; of the others the divisor is planted: the inputs are its products with two random polynomials, the skeleton is its
 monomials and the points are random. A seed fixes them. The divisor, made monic, is what library, twin and FLINT must all give. The quotient is the
 first input over it, the image is at the last point. What is written is the file of the candidate's lists. The sixth is the dearest call of each of
-the four kinds that is known.
+the four kinds that is known; the shorter leading part is that of the two inputs.
 """
 
 import random
