@@ -1,5 +1,5 @@
 -- The image of two polynomials at a point, over any field: it has the degree that it says, which is below 8 where both have no higher powers of x;
--- there is one at most; the order of the two does not matter; not both values are 0, and where one is, the image is the other made monic.
+-- a good point has one and one alone; the order of the two does not matter; not both values are 0, and where one is, the image is the other made monic.
 use mathlib.Core.Path.{_≡_, ap}
 use mathlib.Core.Logic.{_⊎_, inl, inr}
 use Prim.Native.Nat.{ℕ, suc, _≤_, _<_}
@@ -13,6 +13,7 @@ use Rattle.algebra.specs.Laws.GreatestCommon.{greatest-swap}
 use Rattle.algebra.specs.Field.{Field}
 use Rattle.algebra.specs.Polynomials.{domain}
 use Rattle.algebra.specs.Univariate.{Poly, PolyD, over-lead}
+use Rattle.algebra.specs.Laws.MonicGreatest.{monic-greatest}
 use Rattle.algebra.specs.Laws.Univariate.{ends-fin, monic-top, over-lead-monic, over-lead-greatest, monic-greatest-unique}
 use Rattle.poly.specs.Terms.{Polynomial}
 use Rattle.poly.specs.PointValue.{Point, value, x-degree}
@@ -28,7 +29,7 @@ module _ (K : Field) (f : Polynomial K) (at : Point (K .ring)) (keeps : ¬ LeadV
   value-nonzero : ¬ (value R f at ≡ SeriesR R .𝟘)
   value-nonzero z = keeps (ap (λ (u : Seq R). u (x-degree R f)) z)
 
-  -- a divisor of it has no higher degree than f's powers of x
+  -- a divisor of it has a degree below 8, as f's powers of x are
   divisor-small : (e : ℕ) (U : Seq R) → Bounded K f → Top R e U → DividesX K U (value R f at) → e < 8
   divisor-small e U w top d =
       let v = value R f at in
@@ -73,7 +74,7 @@ module _ (K : Field) (A B : Polynomial K) where
   pub image-top : (at : Point R) (e : ℕ) (U : Seq R) → Image K A B at e U → Top R e U
   image-top at e U i = monic-top K e U (i .monic)
 
-  -- an image divides a value that is not 0, so its degree is not above that one's powers of x
+  -- an image divides a value that is not 0, so its degree is below 8, as that one's powers of x are
   pub image-small : (at : Point R) (e : ℕ) (U : Seq R) → Bounded K A → Bounded K B → Image K A B at e U → e < 8
   image-small at e U v w i = elim (good-keeps K A B at (i .good)) [
     | inl a ↦ divisor-small K A at a e U v (image-top at e U i) (i .greatest .left)
@@ -100,3 +101,17 @@ pub image-of-zero-first : (K : Field) (A B : Polynomial K) (at : Point (K .ring)
     → Bounded K B → Image K A B at e U → value (K .ring) A at ≡ SeriesR (K .ring) .𝟘
     → (e ≡ x-degree (K .ring) B) × (U ≡ over-lead K (x-degree (K .ring) B) (value (K .ring) B at))
 image-of-zero-first K A B at e U w i z = image-of-zero K B A at e U w (image-swap K A B at e U i) z
+
+-- every good point has an image: the value that is not 0 and the other one have a monic greatest common divisor
+image-from-first : (K : Field) (A B : Polynomial K) (at : Point (K .ring)) → Bounded K A → Bounded K B → ¬ LeadVanishes K A at
+    → (e : ℕ) × (U : Seq (K .ring)) × Image K A B at e U
+image-from-first K A B at v w keeps =
+    let u = monic-greatest K 8 (x-degree (K .ring) A) _ _ (keeps-top K A at keeps v) (value-ends K 7 B at (w .by-seven)) in
+    (u .degree, u .gcd, record { good = λ x. keeps (x .0); monic = u .monic; greatest = u .greatest })
+
+pub good-has-image : (K : Field) (A B : Polynomial K) (at : Point (K .ring)) → Bounded K A → Bounded K B → ¬ Bad K A B at
+    → (e : ℕ) × (U : Seq (K .ring)) × Image K A B at e U
+good-has-image K A B at v w good = elim (good-keeps K A B at good) [
+  | inl a ↦ image-from-first K A B at v w a
+  | inr b ↦ let i = image-from-first K B A at w v b in (i .0, i .1, image-swap K B A at (i .0) (i .1) (i .2))
+]
