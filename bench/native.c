@@ -33,6 +33,8 @@ static void fail(const char *what) {
 #define QUOTIENT(f, a, n) f(now->modulus, a, n, now->divisor, now->divisor_terms, out, KEYS, work, WORK_ROOM, record)
 #define IMAGE(f) f(now->modulus, now->first, now->first_terms, now->second, now->second_terms, now->at, now->at_numbers, coefficients, record)
 #define WRITE(f) f(now->modulus, now->first, now->first_terms, now->second, now->second_terms, now->skeleton, now->keys, now->points, now->numbers, buffer, BUFFER, record)
+/* A part is two numbers without a fault; they stand behind the number, which stays 0. */
+#define SHORTER(f) f(now->first, now->first_terms, now->second, now->second_terms, record + 1)
 
 static void library_candidate(void) { CANDIDATE(balungkiro_candidate); }
 static void twin_of_candidate(void) { CANDIDATE(twin_candidate); }
@@ -59,6 +61,9 @@ static void twin_of_image(void) { IMAGE(twin_image); }
 
 static void library_write(void) { WRITE(balungkiro_write); }
 static void twin_of_write(void) { WRITE(twin_write); }
+
+static void library_shorter(void) { SHORTER(balungkiro_shorter_part); }
+static void twin_of_shorter(void) { SHORTER(twin_shorter_part); }
 
 /* Agreement. */
 
@@ -118,8 +123,9 @@ static void agree_on_algebra(void) {
     same(library_image, twin_of_image, "image: the twin's answer is not the library's");
 }
 
-static void agree_on_file(void) {
+static void agree_on_lists(void) {
     same(library_write, twin_of_write, "write: the twin's answer is not the library's");
+    same(library_shorter, twin_of_shorter, "shorter part: the twin's answer is not the library's");
 }
 
 /* Cost. */
@@ -132,7 +138,10 @@ static const service algebra[] = {
     {"image", {library_image, twin_of_image, NULL}},
 };
 
-static const service file = {"write", {library_write, twin_of_write, NULL}};
+static const service lists[] = {
+    {"write", {library_write, twin_of_write, NULL}},
+    {"shorter part", {library_shorter, twin_of_shorter, NULL}},
+};
 
 static double processor_time(void) {
     struct timespec t;
@@ -197,7 +206,7 @@ static void into_ring(void) {
     to_flint(divisor, now->divisor, now->divisor_terms);
 }
 
-/* The candidate, the divisions and the image only where the divisor is known; the file always. */
+/* The candidate, the divisions and the image only where the divisor is known; the file and the shorter part always. */
 int main(void) {
     printf("| Workload  | Call          |   Library |    C twin |     FLINT | To twin  |  To FLINT |\n");
     printf("|-----------|---------------|-----------|-----------|-----------|----------|-----------|\n");
@@ -208,10 +217,11 @@ int main(void) {
             into_ring();
             agree_on_algebra();
         }
-        agree_on_file();
+        agree_on_lists();
         for (size_t s = 0; known && s < sizeof algebra / sizeof algebra[0]; s++)
             measure(&algebra[s]);
-        measure(&file);
+        for (size_t s = 0; s < sizeof lists / sizeof lists[0]; s++)
+            measure(&lists[s]);
         fflush(stdout);
     }
     return 0;

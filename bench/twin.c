@@ -1,4 +1,4 @@
-/* The rule of the candidate, the quotient, the image and the writer in plain C: the library's algorithms on the library's data (the work room, the
+/* The rule of the candidate, the quotient, the image, the writer and the shorter leading part in plain C: the library's algorithms on the library's data (the work room, the
    table of 64 rows, eight numbers for an image), with what C would have where the proved text has values: the table and its rows stand in one
    place and are changed there. It is what the library's cost is held against; nothing else uses it. */
 #include <stdbool.h>
@@ -10,7 +10,7 @@
 void *memcpy(void *, const void *, size_t);
 void *memset(void *, int, size_t);
 
-enum { KEYS = 4096, WORK_ROOM = 2 * KEYS, COLUMNS = 64, MOST_TERMS = 256, MOST_KEYS = 32, MOST_POINTS = 32 };
+enum { KEYS = 4096, COEFFICIENTS = 65536, WORK_ROOM = 2 * KEYS, COLUMNS = 64, MOST_TERMS = 256, MOST_KEYS = 32, MOST_POINTS = 32 };
 
 typedef struct { uint16_t cells[COLUMNS]; } row;
 typedef struct { row rows[COLUMNS]; size_t columns; } table;
@@ -49,13 +49,13 @@ static uint16_t y_of(uint16_t key) { return key >> 6 & 7; }
 static uint16_t z_of(uint16_t key) { return key >> 3 & 7; }
 static uint16_t w_of(uint16_t key) { return key & 7; }
 
-static fault list_fault(size_t count, size_t term, uint16_t p, const uint32_t *terms, size_t n) {
+static fault list_fault(size_t count, size_t term, uint32_t bound, const uint32_t *terms, size_t n) {
     uint16_t before = KEYS;
     if (n == 0 || n > MOST_TERMS)
         return (fault){count, 0};
     for (size_t i = 0; i < n; i++) {
         uint16_t key = key_of(terms[i]), coefficient = coefficient_of(terms[i]);
-        if (key >= before || coefficient == 0 || coefficient >= p)
+        if (key >= before || coefficient == 0 || coefficient >= bound)
             return (fault){term, i};
         before = key;
     }
@@ -124,11 +124,10 @@ static size_t image(uint16_t p, const uint32_t *first, size_t n, const uint32_t 
     powers(p, point[1], zs);
     powers(p, point[2], ws);
     value(p, ys, zs, ws, first, n, f);
-    memset(u, 0, 8 * sizeof *u);
-    if (f[x_of(key_of(first[0]))] == 0)
-        return 0;
     value(p, ys, zs, ws, second, m, g);
-    make_monic(p, f, size(f));
+    memset(u, 0, 8 * sizeof *u);
+    if (f[x_of(key_of(first[0]))] == 0 && g[x_of(key_of(second[0]))] == 0)
+        return 0;
     for (size_t s = size(g); s > 0; s = size(g)) {
         uint16_t *h = f;
         make_monic(p, g, s);
@@ -136,6 +135,7 @@ static size_t image(uint16_t p, const uint32_t *first, size_t n, const uint32_t 
         f = g;
         g = h;
     }
+    make_monic(p, f, size(f));
     memcpy(u, f, 8 * sizeof *u);
     return size(u);
 }
@@ -430,4 +430,22 @@ void twin_candidate(uint16_t p, const uint32_t *first, length n, const uint32_t 
             next++;
         }
     record[0] = verdict(&t, p, first, n, second, m, skeleton, keys, out, work, &record[6]);
+}
+
+/* How many terms have the highest power of x. */
+static size_t leading_length(const uint32_t *terms, size_t n) {
+    size_t i = 1;
+    while (i < n && x_of(key_of(terms[i])) == x_of(key_of(terms[0])))
+        i++;
+    return i;
+}
+
+void twin_shorter_part(const uint32_t *first, length n, const uint32_t *second, length m, length part[2]) {
+    part[0] = 0;
+    part[1] = 1;
+    if (list_fault(2, 3, COEFFICIENTS, first, n).number || list_fault(4, 5, COEFFICIENTS, second, m).number)
+        return;
+    size_t a = leading_length(first, n), b = leading_length(second, m);
+    part[0] = b < a ? b : a;
+    part[1] = b < a ? 2 : 1;
 }

@@ -1,4 +1,4 @@
-/* The plain C twin of the library's four calls: the same arguments, the same records. */
+/* The plain C twin of the library's five calls: the same arguments, the same records. */
 #ifndef TWIN_H
 #define TWIN_H
 
@@ -8,5 +8,6 @@ candidate_call twin_candidate;
 quotient_call twin_quotient;
 image_call twin_image;
 write_call twin_write;
+shorter_call twin_shorter_part;
 
 #endif

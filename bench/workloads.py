@@ -1,10 +1,11 @@
 #!/usr/bin/env python3
 """Writes the workloads of bench/run and bench/handheld as C arrays on standard output.
 
-Each of the first four is a candidate call whose divisor is known. The first is P10; of the others the divisor is planted: the inputs are its products
-with two random polynomials, the skeleton is its monomials and the points are random. A seed fixes them. The divisor, made monic, is what library, twin and FLINT must all give. The quotient is
-the first input over it, the image is at the last point. What is written is the file of the candidate's lists. The fifth is the dearest call of
-each of the four kinds that is known.
+Each of the first five is a candidate call whose divisor is known. The first is P10, the second has one point, where the first input loses its degree
+in x and the second keeps it; of the others the divisor is planted: the inputs are its products with two random polynomials, the skeleton is its
+monomials and the points are random. A seed fixes them. The divisor, made monic, is what library, twin and FLINT must all give. The quotient is the
+first input over it, the image is at the last point. What is written is the file of the candidate's lists. The sixth is the dearest call of each of
+the four kinds that is known; the shorter leading part is that of the two inputs.
 """
 
 import random
@@ -14,7 +15,7 @@ from pathlib import Path
 sys.path.insert(0, str(Path(__file__).resolve().parent.parent / "second"))
 import bench  # noqa: E402
 from candidate import only_solution  # noqa: E402
-from polynomials import POWERS, at_point, key, monic, monomial_at, multiply, point_powers, remainder, term_list  # noqa: E402
+from polynomials import POWERS, at_point, key, monic, monomials_at, multiply, point_powers, remainder, term_list  # noqa: E402
 
 MODULUS = 65521
 
@@ -52,6 +53,11 @@ def small():
     return accepted("small", 17, bench.F, bench.H, bench.E, bench.case("p10").points)
 
 
+def teacher():
+    """At its only point the x-leading coefficient of the first input is 0, that of the second is not."""
+    return accepted("teacher", 17, bench.TEACHER_FIRST, bench.TEACHER_SECOND, bench.X_PLUS_1, bench.case("teacher").points)
+
+
 def multiple(rng, p, g):
     """The multiple of g, a list of numbers, that is x^7 and terms below g's degree; and g = 1 gives eight terms."""
     if len(g) == 1:
@@ -75,7 +81,7 @@ def vanishing(p, f, g, x, monomials, points):
     for t in triples:
         powers = point_powers(t, p)
         rest = remainder(at_point(f, powers, p), at_point(g, powers, p), p) + [0] * POWERS
-        rows.append([monomial_at(m, powers, p) for m in monomials] + [-rest[x] % p])
+        rows.append(monomials_at(monomials, powers, p) + [-rest[x] % p])
     return f | {512 * x + m: c for m, c in zip(monomials, only_solution(rows, len(monomials), p)) if c}
 
 
@@ -146,6 +152,7 @@ def written(name, p, first, second, skeleton, points, number, dividend, divisor,
 def main():
     workloads = [
         small(),
+        teacher(),
         planted("classroom", 1, 6, 7, 6),
         planted("full", 2, 16, 15, 16),
         planted("wide", 6, 32, 7, 32),

@@ -2,13 +2,14 @@
  * A line is a service and its arguments, decimal; a list is its length and its numbers; a room that is lent is its length alone.
  *
  *   candidate MODULUS FIRST SECOND SKELETON POINTS OUTPUT WORK      quotient MODULUS FIRST SECOND OUTPUT WORK
- *   image MODULUS FIRST SECOND POINT                                list TERMS
+ *   image MODULUS FIRST SECOND POINT                                list TERMS, lists FIRST SECOND
  *   sum MODULUS VALUE MODULUS VALUE (difference, product)           inverse MODULUS VALUE
  *   write MODULUS FIRST SECOND SKELETON POINTS BUFFER               copy BYTES BUFFER
  *
  * The answer is the record; behind '|' the terms, and how many numbers of the output behind them, of the work room's first 8192 and of the rest
- * of the work room are as before the call, and how many of the work room are 0; or the eight coefficients; or the length of the leading part;
- * or all bytes of the buffer. A copy is a case file read, and what was handed back written: its answer is both records, then the buffer.
+ * of the work room are as before the call, and how many of the work room are 0; or the eight coefficients; or the length of the leading part, of
+ * two lists the shorter one's and which list it is the head of; or all bytes of the buffer. A copy is a case file read, and what was handed back
+ * written: its answer is both records, then the buffer.
  * Each number of a room is MARK before the call. A line that is not such a call is answered by 'not a call'. */
 #include "balungkiro.h"
 
@@ -175,6 +176,19 @@ static void ask_list(void)
     printf(" | %zu\n", balungkiro_leading_part(first, n));
 }
 
+static void ask_lists(void)
+{
+    size_t a = terms(first), b = terms(second), record[2], part[2];
+    if (!is_call())
+        return;
+    balungkiro_check_lists(first, a, second, b, record);
+    balungkiro_shorter_part(first, a, second, b, part);
+    print_record(record, 2);
+    printf(" | ");
+    print_record(part, 2);
+    printf("\n");
+}
+
 /* One of the three operations on two operands. */
 static void ask_arithmetic(void (*operation)(uint16_t, uint16_t, uint16_t, uint16_t, size_t *))
 {
@@ -244,6 +258,8 @@ static void answer(const char *line)
         ask_image();
     else if (asks(line, "list"))
         ask_list();
+    else if (asks(line, "lists"))
+        ask_lists();
     else if (asks(line, "sum"))
         ask_arithmetic(balungkiro_sum);
     else if (asks(line, "difference"))

@@ -1,5 +1,5 @@
 /* Asks each service of the library where it answers and where it refuses, and prints the records with what is left in the buffers.
- * A = x^2 y - y and B = x + 1 modulo 17: A over B is xy - y. */
+ * A = x^2 y - y and B = x + 1 modulo 17: A over B is xy - y. At y = 0 A is 0, and the x-leading coefficient of C = x^2 y + 5x + 5 is. */
 #include "balungkiro.h"
 
 #include <stdio.h>
@@ -12,6 +12,7 @@ enum { X = 512, Y = 64, P = 17 };
 
 static const uint32_t A[] = { TERM(2 * X + Y, 1), TERM(Y, 16) };
 static const uint32_t B[] = { TERM(X, 1), TERM(0, 1) };
+static const uint32_t C[] = { TERM(2 * X + Y, 1), TERM(X, 5), TERM(0, 5) };
 
 static void print_record(const char *call, const size_t *record, size_t count)
 {
@@ -23,11 +24,11 @@ static void print_record(const char *call, const size_t *record, size_t count)
 }
 
 /* The image at a point; the eight numbers are 9 before the call. */
-static void image(const char *call, const uint16_t *point, size_t count)
+static void image(const char *call, const uint32_t *first, size_t m, const uint32_t *second, size_t n, const uint16_t *point, size_t count)
 {
     uint16_t u[BALUNGKIRO_COEFFICIENTS] = { 9, 9, 9, 9, 9, 9, 9, 9 };
     size_t record[3], i;
-    balungkiro_image(P, A, COUNT(A), B, COUNT(B), point, count, u, record);
+    balungkiro_image(P, first, m, second, n, point, count, u, record);
     print_record(call, record, COUNT(record));
     for (i = 0; i < COUNT(u); i++)
         printf("%s%u", i == 0 ? "  coefficients " : " ", u[i]);
@@ -74,6 +75,15 @@ static void list(const char *call, const uint32_t *terms, size_t count)
     balungkiro_check_list(terms, count, record);
     print_record(call, record, COUNT(record));
     printf("  leading part %zu\n", balungkiro_leading_part(terms, count));
+}
+
+static void lists(const char *call, const uint32_t *first, size_t m, const uint32_t *second, size_t n)
+{
+    size_t record[2], part[2];
+    balungkiro_check_lists(first, m, second, n, record);
+    print_record(call, record, COUNT(record));
+    balungkiro_shorter_part(first, m, second, n, part);
+    print_record("  shorter leading part", part, COUNT(part));
 }
 
 static void arithmetic(uint16_t modulus, uint16_t value, uint16_t other_modulus, uint16_t other_value)
@@ -127,24 +137,44 @@ static void writing(const char *call, size_t point_numbers, size_t room)
     printf("\n");
 }
 
-int main(void)
+static void images(void)
 {
-    static const uint16_t good[] = { 1, 0, 0 }, bad[] = { 0, 0, 0 }, large[] = { 1, P, 0 };
+    static const uint16_t one[] = { 1, 0, 0 }, zero[] = { 0, 0, 0 }, large[] = { 1, P, 0 };
+    image("image of A and B at y=1", A, COUNT(A), B, COUNT(B), one, COUNT(one));
+    image("image of A and B at y=0, where A is 0", A, COUNT(A), B, COUNT(B), zero, COUNT(zero));
+    image("image of B and A at y=0", B, COUNT(B), A, COUNT(A), zero, COUNT(zero));
+    image("image of C and B at y=0, where C loses its degree", C, COUNT(C), B, COUNT(B), zero, COUNT(zero));
+    image("image of A and C at y=0, a bad point", A, COUNT(A), C, COUNT(C), zero, COUNT(zero));
+    image("image at two numbers", A, COUNT(A), B, COUNT(B), one, 2);
+    image("image at z=17", A, COUNT(A), B, COUNT(B), large, COUNT(large));
+}
+
+static void leading_parts(void)
+{
     static const uint32_t rising[] = { TERM(0, 1), TERM(X, 1) };
     static const uint32_t three[] = { TERM(2 * X + Y, 1), TERM(2 * X, 65535), TERM(X, 1) };
-    image("image at y=1", good, COUNT(good));
-    image("image at y=0, a bad point", bad, COUNT(bad));
-    image("image at two numbers", good, 2);
-    image("image at z=17", large, COUNT(large));
+    list("list of three terms", three, COUNT(three));
+    list("list with rising keys", rising, COUNT(rising));
+    list("list without terms", rising, 0);
+    lists("A and B, a tie", A, COUNT(A), B, COUNT(B));
+    lists("A and three terms", A, COUNT(A), three, COUNT(three));
+    lists("three terms and A", three, COUNT(three), A, COUNT(A));
+    lists("no terms and A", rising, 0, A, COUNT(A));
+    lists("rising keys and no terms", rising, COUNT(rising), A, 0);
+    lists("A and no terms", A, COUNT(A), rising, 0);
+    lists("A and rising keys", A, COUNT(A), rising, COUNT(rising));
+}
+
+int main(void)
+{
+    images();
     quotient("A over B", A, COUNT(A), B, COUNT(B), BALUNGKIRO_WORK + 1);
     quotient("B over A", B, COUNT(B), A, COUNT(A), BALUNGKIRO_WORK);
     quotient("A over B in a short work room", A, COUNT(A), B, COUNT(B), BALUNGKIRO_WORK - 1);
     quotient("A over no list", A, COUNT(A), B, 0, BALUNGKIRO_WORK);
     candidate("candidate of A and B", 2);
     candidate("candidate in a short output", 1);
-    list("list of three terms", three, COUNT(three));
-    list("list with rising keys", rising, COUNT(rising));
-    list("list without terms", rising, 0);
+    leading_parts();
     arithmetic(17, 5, 17, 9);
     arithmetic(65521, 65520, 65521, 65520);
     arithmetic(7, 0, 13, 3);

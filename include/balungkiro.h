@@ -27,7 +27,7 @@
  *    9       a point number is at least p                                        first such number
  *    10      output too short                                                    place 0
  *    11      work room shorter than 8192 numbers                                 place 0
- *    12      no good point                                                       place 0
+ *    12      no good point: both x-leading coefficients are 0 at each            place 0
  *    13, 14  equations have no solution, more than one                           place 0
  *    15      does not divide                                                     place 0
  *    17      arithmetic operand at least p, or another modulus (before 16)       0 first operand, 1 second
@@ -61,6 +61,7 @@ enum {
 /* The common divisor of first and second that the images at the points fix, in the monomials of the skeleton.
  * Record: number, place, d (the least degree of an image), bad, unlucky, kept (numbers of points), count of terms.
  * Numbers 1 to 15. With 1 to 11 the last five are 0; with 12 bad is the number of points and the rest 0; with 13 to 15 the count of terms is 0.
+ * Where both lists pass 1 to 5, swapping them changes nothing in record, out and work.
  * out, at least as long as the skeleton (10): acceptance writes the terms first in it and leaves the rest; a refusal leaves it unchanged.
  * work, at least 8192 (11): unchanged with 1 to 11, otherwise its first 8192 numbers are 0 and the rest unchanged. */
 void balungkiro_candidate(uint16_t modulus,
@@ -82,8 +83,10 @@ void balungkiro_quotient(uint16_t modulus,
                          uint16_t *work, size_t work_count,
                          size_t record[3]);
 
-/* The image at one point: the monic greatest common divisor of first and second there, as polynomials in x.
- * Record: number, place, degree (0 on refusal). Numbers 1 to 5, 8 (the point is not three numbers), 9, 12.
+/* The image at one point: the monic greatest common divisor of first and second there, as polynomials in x; where one of them is 0, the other
+ * made monic.
+ * Record: number, place, degree (0 on refusal). Numbers 1 to 5, 8 (the point is not three numbers), 9, 12 (the point is bad: the x-leading
+ * coefficients of both are 0 there).
  * coefficients: written in every case, x^0 first; all 0 on refusal. */
 void balungkiro_image(uint16_t modulus,
                       const uint32_t *first, size_t first_count,
@@ -99,6 +102,19 @@ size_t balungkiro_leading_part(const uint32_t *terms, size_t count);
 /* The check of a list without a modulus.
  * Record: number, place. Numbers 2, 3 (of a coefficient only that it is not 0). */
 void balungkiro_check_list(const uint32_t *terms, size_t count, size_t record[2]);
+
+/* The shorter of the leading parts of first and second, first's where both have as many terms: the head of the caller's own list.
+ * part: how many terms it has, then which list it is the head of, 1 or 2.
+ * 0 and 1 where balungkiro_check_lists refuses the lists; 0 only there. */
+void balungkiro_shorter_part(const uint32_t *first, size_t first_count,
+                             const uint32_t *second, size_t second_count,
+                             size_t part[2]);
+
+/* The check of two lists without a modulus.
+ * Record: number, place. Numbers 2 to 5 (of a coefficient only that it is not 0). */
+void balungkiro_check_lists(const uint32_t *first, size_t first_count,
+                            const uint32_t *second, size_t second_count,
+                            size_t record[2]);
 
 /* Arithmetic. An operand is a modulus and a value.
  * Record: number, place, modulus, value; on refusal the first operand's modulus as it came, and 0.

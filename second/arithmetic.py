@@ -1,7 +1,7 @@
-"""The arithmetic services, the list check and the leading part, as the second program has them."""
+"""The arithmetic services, the list checks, the leading part and the shorter one, as the second program has them."""
 
-from polynomials import exponents
-from refusals import COEFFICIENTS, MODULI, Refusal, check_list
+from polynomials import leading_part, polynomial
+from refusals import MODULI, Refusal, check_both_lists, check_list
 
 
 def arithmetic(service, modulus, value, other_modulus=None, other_value=None):
@@ -34,8 +34,22 @@ def _check_operands(service, modulus, value, other_modulus, other_value):
 def list_check(terms):
     """Number and place of the check without a modulus, and the length of the leading part."""
     try:
-        check_list(terms, COEFFICIENTS, 2)
+        check_list(terms)
     except Refusal as refusal:
         return refusal.number, refusal.place, 0
-    powers = [exponents(term // COEFFICIENTS)[0] for term in terms]
-    return 0, 0, powers.count(powers[0])
+    return 0, 0, leading_length(terms)
+
+
+def lists_check(first, second):
+    """Number and place of the check of both lists without a modulus; the length of the shorter
+    leading part, the first list's on a tie, and which list it is the head of, 1 or 2."""
+    try:
+        check_both_lists(first, second)
+    except Refusal as refusal:
+        return refusal.number, refusal.place, 0, 1
+    length, which = min((leading_length(first), 1), (leading_length(second), 2))
+    return 0, 0, length, which
+
+
+def leading_length(terms):
+    return len(leading_part(polynomial(terms)))

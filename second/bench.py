@@ -1,4 +1,4 @@
-"""The bench examples P1 to P12 of docs/RULE.md, with the answers it gives."""
+"""The bench examples P1 to P12 of docs/RULE.md, with the answers it gives, and those of points where one of the two values loses its degree."""
 
 from typing import NamedTuple
 
@@ -21,6 +21,11 @@ def _example(name, first, second, ys, skeleton, answer, p=17):
     points = [number for y in ys for number in (y, 0, 0)]
     case = Case(p, term_list(first), term_list(second), skeleton, points)
     return Example(name, case, "".join(line + "\n" for line in answer))
+
+
+def _swapped(example):
+    """The same example with its two lists swapped, which changes nothing in the answer."""
+    return Example(f"{example.name}_swapped", example.case.swapped(), example.answer)
 
 
 def _sum(*terms):
@@ -46,6 +51,15 @@ P2_FIRST = _product(THREE_YX_PLUS_1, X_MINUS_Y)
 P2_SECOND = _product(THREE_YX_PLUS_1, X_PLUS_Y_PLUS_1)
 P4_FIRST = _sum((7, X), (6, Y))
 P4_SECOND = _sum((12, X), (1, Y))
+X_PLUS_1 = _sum((1, X), (1, ONE))
+TEACHER_FIRST = _product(X_PLUS_1, _sum((1, Y + X), (1, ONE)))
+TEACHER_SECOND = _product(X_PLUS_1, _sum((1, X), (2, ONE)))
+
+# At y=0 the x-leading coefficient of the first list alone is 0; in the second example its whole value is.
+TEACHER = _example("teacher", TEACHER_FIRST, TEACHER_SECOND, [0], [X, ONE],
+                   ["0 0 1 0 0 1", "1 1 0 0 0", "1 0 0 0 0"])
+ZERO_VALUE = _example("zero_value", _product(X_PLUS_1, {Y: 1}), TEACHER_SECOND, [0, 1], [X, ONE],
+                      ["0 0 1 0 1 1", "1 1 0 0 0", "1 0 0 0 0"])
 
 EXAMPLES = [
     _example("p1", _sum((1, 2 * X), (-1, ONE)), _sum((1, 2 * X), (2, X), (1, ONE)), [0], [X, ONE],
@@ -64,6 +78,7 @@ EXAMPLES = [
              ["0 0 3 1 1 2", "1 3 1 0 0", "16 3 0 0 0", "15 0 1 0 0"]),
     _example("p11", {X: 1, Y: 1}, {X: 1, Y: 1}, [1], [X, 7 * Y], ["15 0 1 0 0 1"], p=7),
     _example("p12", {Y: 3}, {Y: 3}, [2], [Y], ["0 0 0 0 0 1", "1 0 1 0 0"]),
+    TEACHER, _swapped(TEACHER), ZERO_VALUE, _swapped(ZERO_VALUE),
 ]
 
 

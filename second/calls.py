@@ -10,25 +10,34 @@ from typing import NamedTuple
 import bench
 import case_file
 import cases
-from arithmetic import arithmetic, list_check
+import damage
+from arithmetic import arithmetic, leading_length, list_check, lists_check
 from candidate import candidate, image_at, quotient_terms
 from polynomials import POWERS, key, term_list
-from refusals import COEFFICIENTS, MODULI, QUOTIENT_TERMS, WORK_NUMBERS, Refusal
+from refusals import COEFFICIENTS, KEYS, MODULI, QUOTIENT_TERMS, WORK_NUMBERS, Refusal
 
 NUMBERS = (*range(0, 18), *range(20, 28))
 X, ONE = key(1, 0, 0, 0), key(0, 0, 0, 0)
-X_POWER = X * COEFFICIENTS
+X_POWER, Y_POWER = X * COEFFICIENTS, key(0, 1, 0, 0) * COEFFICIENTS
 OPERATIONS = ("sum", "difference", "product")
 MARK = b"\x09"  # each byte of a buffer before the call
 MOST_READ = 4096  # no byte of a case file after these changes what is read
 
 
+# What the picker of the shorter leading part meets, and calls whose lists are swapped; each must occur.
+TIE, FIRST_SHORTER, SECOND_SHORTER = "picker: a tie", "picker: the first is shorter", "picker: the second is shorter"
+REFUSED = tuple(f"picker: refused with {number}" for number in range(2, 6))
+SWAPPED = "calls with their lists swapped"
+KINDS = (TIE, FIRST_SHORTER, SECOND_SHORTER, *REFUSED, SWAPPED)
+
+
 class Call(NamedTuple):
-    """A label, the line, and the line that answers it."""
+    """A label, the line, the line that answers it, and for some calls their kind."""
 
     label: str
     line: str
     answer: str
+    kind: str = ""
 
 
 def _line(*parts):
@@ -50,8 +59,12 @@ def _rooms(number, terms, output_room, work_room):
 def candidate_call(label, case, output_room=32, work_room=WORK_NUMBERS):
     r = candidate(case, output_room, work_room)
     numbers = [r.number, r.place, r.d, r.bad, r.unlucky, r.kept, len(r.terms)]
-    asked = _line("candidate", case.modulus, case.first, case.second, case.skeleton, case.points, output_room, work_room)
+    asked = _candidate_line(case, output_room, work_room)
     return Call(label, asked, _line(*numbers, *_rooms(r.number, r.terms, output_room, work_room)))
+
+
+def _candidate_line(case, output_room, work_room):
+    return _line("candidate", case.modulus, case.first, case.second, case.skeleton, case.points, output_room, work_room)
 
 
 def quotient_call(label, case, output_room=QUOTIENT_TERMS, work_room=WORK_NUMBERS):
@@ -70,13 +83,36 @@ def image_call(label, case, point):
         u = image_at(case, point)
     except Refusal as refusal:
         number, place = refusal.number, refusal.place
-    asked = _line("image", case.modulus, case.first, case.second, list(point))
-    return Call(label, asked, _line(number, place, max(len(u) - 1, 0), "|", *u, *[0] * (POWERS - len(u))))
+    answer = _line(number, place, max(len(u) - 1, 0), "|", *u, *[0] * (POWERS - len(u)))
+    return Call(label, _image_line(case, point), answer)
+
+
+def _image_line(case, point):
+    return _line("image", case.modulus, case.first, case.second, list(point))
+
+
+def _both_ways(call, asked, case, *rest):
+    """The call, and where both lists pass the checks 1 to 5 its line with these swapped: the same answer is wanted."""
+    yield call
+    if int(call.answer.split()[0]) not in range(1, 6):
+        yield Call(f"{call.label}, lists swapped", asked(case.swapped(), *rest), call.answer, SWAPPED)
 
 
 def list_call(label, terms):
     number, place, length = list_check(terms)
     return Call(label, _line("list", terms), _line(number, place, "|", length))
+
+
+def lists_call(label, first, second):
+    number, place, length, which = lists_check(first, second)
+    kind = REFUSED[number - 2] if number else _picked(leading_length(first), leading_length(second))
+    return Call(label, _line("lists", first, second), _line(number, place, "|", length, which), kind)
+
+
+def _picked(first_length, second_length):
+    if first_length == second_length:
+        return TIE
+    return FIRST_SHORTER if first_length < second_length else SECOND_SHORTER
 
 
 def arithmetic_call(label, service, *operands):
@@ -136,8 +172,30 @@ def run_only():
     yield quotient_call("x^2-1 by x+1", by_x_plus_1)
     yield quotient_call("x^2-1 by x^2+2x+1", p1)
     yield quotient_call("F by E", replace(p1, first=bench.case("p9").first, second=term_list(bench.E)))
+    yield from imaged()
+    yield from calculated()
+    yield list_call("leading part of F", bench.case("p9").first)
+    yield list_call("leading part, two equal keys", changed["two equal keys"].first)
+    yield list_call("leading part, no terms", [])
+    yield from picked()
+    yield from written()
+
+
+def imaged():
+    """The image at points of every kind."""
+    p1 = bench.case("p1")
     yield image_call("image at two numbers", p1, [0, 0])
     yield image_call("image at a bad point", bench.case("p2"), [0, 0, 0])
+    one_lead, one_value = bench.case("teacher"), bench.case("zero_value")
+    only_lead_left = replace(one_lead, second=one_value.first)
+    for label, case in {"where one leading coefficient is 0": one_lead, "where one value is 0": one_value,
+                        "where one value and the other's leading coefficient are 0": only_lead_left,
+                        "where both values are 0": replace(one_value, second=one_value.first)}.items():
+        call = image_call(f"image {label}", case, [0, 0, 0])
+        yield from _both_ways(call, _image_line, case, [0, 0, 0])
+
+
+def calculated():
     yield arithmetic_call("5 + 16", "sum", 17, 5, 17, 16)
     yield arithmetic_call("5 - 16", "difference", 17, 5, 17, 16)
     yield arithmetic_call("16 * 16", "product", 17, 16, 17, 16)
@@ -147,10 +205,24 @@ def run_only():
     yield arithmetic_call("5 + 17", "sum", 17, 5, 17, 17)
     yield arithmetic_call("two moduli", "sum", 17, 5, 13, 5)
     yield arithmetic_call("1 / 0", "inverse", 17, 0)
-    yield list_call("leading part of F", bench.case("p9").first)
-    yield list_call("leading part, two equal keys", changed["two equal keys"].first)
-    yield list_call("leading part, no terms", [])
-    yield from written()
+
+
+def picked():
+    """The shorter leading part: on a tie, of either list, and of lists that are refused."""
+    one, other = [2 * X_POWER + 1, 1], [X_POWER + 65535]
+    two = [2 * X_POWER + Y_POWER + 3, 2 * X_POWER + 1, X_POWER + 1]
+    lists = {
+        "a tie": (one, other), "one list twice": (two, two), "the first is shorter": (one, two), "the second is shorter": (two, one),
+        "more terms, shorter part": (two, [X_POWER + 1, *(k * COEFFICIENTS + 1 for k in (3, 2, 1, 0))]),
+        "no first terms": ([], one), "no second terms": (two, []), "no terms": ([], []),
+        "first coefficient 0": ([2 * X_POWER], one), "second coefficient 0": (two, [2 * X_POWER + 1, X_POWER]),
+        "both coefficients 0": ([X_POWER + 1, 0], [0]), "first keys equal, no second terms": ([1, 1], []),
+        "second keys rise": (one, [1, X_POWER + 1]), "second key 4096": (one, [KEYS * COEFFICIENTS + 1]),
+        "257 second terms": (one, [k * COEFFICIENTS + 1 for k in reversed(range(257))]),
+        "256 terms twice": tuple([k * COEFFICIENTS + 1 for k in reversed(range(top - 256, top))] for top in (KEYS, X + 100)),
+    }
+    for label, (first, second) in lists.items():
+        yield lists_call(f"picker, {label}", first, second)
 
 
 def written():
@@ -178,12 +250,12 @@ def written():
     yield write_call("write, 33 keys, no buffer", changed["33 keys"], 0)
 
 
-# Seeded calls: a case of the families of files, lent with any lengths.
+# Seeded calls: a case of the families of files, lent with any lengths. A maker gives one call, or a call and its swap.
 
 def seeded(seed, count):
     for index in range(count):
         rng = random.Random(f"calls/{seed}/{index}")
-        yield rng.choice(MAKERS)(rng)
+        yield from rng.choice(MAKERS)(rng)
 
 
 def _case(rng):
@@ -194,8 +266,8 @@ def _case(rng):
 
 
 def _many_terms(rng, case):
-    case.first = sorted(rng.sample(range(1, 4096), rng.choice((256, 257, 300))), reverse=True)
-    case.first = [k * COEFFICIENTS + 1 for k in case.first]
+    keys = sorted(rng.sample(range(1, KEYS), rng.choice((256, 257, 300))), reverse=True)
+    setattr(case, rng.choice(("first", "first", "second")), [k * COEFFICIENTS + 1 for k in keys])
 
 
 def _many_keys(rng, case):
@@ -220,23 +292,42 @@ def _work(rng):
 def _seeded_candidate(rng):
     name, case = _case(rng)
     needed = len(case.skeleton)
-    return candidate_call(name, case, rng.choice((needed, 40, needed, max(needed - 1, 0))), _work(rng))
+    rooms = rng.choice((needed, 40, needed, max(needed - 1, 0))), _work(rng)
+    yield from _both_ways(candidate_call(name, case, *rooms), _candidate_line, case, *rooms)
 
 
 def _seeded_quotient(rng):
     name, case = _case(rng)
-    return quotient_call(name, case, rng.choice((QUOTIENT_TERMS, 4200, QUOTIENT_TERMS - 1, 0)), _work(rng))
+    yield quotient_call(name, case, rng.choice((QUOTIENT_TERMS, 4200, QUOTIENT_TERMS - 1, 0)), _work(rng))
 
 
 def _seeded_image(rng):
     name, case = _case(rng)
-    length = rng.choice((3, 3, 3, 3, 0, 1, 2, 4))
-    return image_call(name, case, case.points[:length])
+    point = case.points[:rng.choice((3, 3, 3, 3, 0, 1, 2, 4))]
+    yield from _both_ways(image_call(name, case, point), _image_line, case, point)
 
 
 def _seeded_list(rng):
     name, case = _case(rng)
-    return list_call(name, case.first)
+    yield list_call(name, case.first)
+
+
+def _any_terms(rng):
+    """Terms with falling keys and any coefficients; some have a length that no list has."""
+    keys = rng.sample(range(KEYS), rng.choice((0, 1, 2, 3, 9, 60, 255, 256, 257, 290)))
+    return [k * COEFFICIENTS + rng.randrange(1, COEFFICIENTS) for k in sorted(keys, reverse=True)]
+
+
+def _seeded_lists(rng):
+    """The lists of a case; or any terms, in some calls the same twice, in some one or two of them spoilt."""
+    name, case = _case(rng)
+    if rng.random() < 0.7:
+        first = _any_terms(rng)
+        name, case = "picker", case_file.Case(17, first, rng.choice((first[:], _any_terms(rng), _any_terms(rng))))
+        spoilers = [spoil for terms, spoil in ((case.first, damage.spoil_first_term), (case.second, damage.spoil_second_term)) if terms]
+        for spoil in rng.sample(spoilers, min(rng.choice((0, 0, 1, 2)), len(spoilers))):
+            spoil(rng, case)
+    yield lists_call(name, case.first, case.second)
 
 
 def _operand(rng):
@@ -247,11 +338,11 @@ def _operand(rng):
 def _seeded_arithmetic(rng):
     p, a = _operand(rng)
     q, b = rng.choice(((p, rng.randrange(p or 1)), (p, a), _operand(rng)))
-    return arithmetic_call("arithmetic", rng.choice(OPERATIONS), p, a, q, b)
+    yield arithmetic_call("arithmetic", rng.choice(OPERATIONS), p, a, q, b)
 
 
 def _seeded_inverse(rng):
-    return arithmetic_call("inverse", "inverse", *_operand(rng))
+    yield arithmetic_call("inverse", "inverse", *_operand(rng))
 
 
 # Lengths of the four lists that a file has, lengths that none has, and what their numbers are below.
@@ -268,11 +359,11 @@ def _seeded_write(rng):
     lists = ([rng.randrange(width) for _ in range(length)] for length, width in zip(lengths, WIDTHS))
     case = case_file.Case(rng.randrange(2**16), *lists)
     needed = len(case_file.write(case))
-    return write_call("write", case, rng.choice((needed, needed + rng.randint(1, 100), needed - 1, rng.randrange(needed), 0)))
+    yield write_call("write", case, rng.choice((needed, needed + rng.randint(1, 100), needed - 1, rng.randrange(needed), 0)))
 
 
-MAKERS = (_seeded_candidate, _seeded_candidate, _seeded_quotient, _seeded_image, _seeded_list, _seeded_arithmetic, _seeded_inverse,
-          _seeded_write)
+MAKERS = (_seeded_candidate, _seeded_candidate, _seeded_quotient, _seeded_image, _seeded_list, _seeded_lists, _seeded_arithmetic,
+          _seeded_inverse, _seeded_write)
 
 
 # Seeded files, whole and damaged, each into a buffer longer than the file.

@@ -10,11 +10,11 @@ from dataclasses import dataclass, field
 
 import case_file
 from polynomials import (
-    POWERS, exponents, image, monic, monomial_at, point_powers, polynomial, quotient, term_list,
+    POWERS, exponents, image, monic, monomials_at, point_powers, polynomial, quotient, term_list,
 )
 from refusals import (
-    COEFFICIENTS, MOST_SKELETON_KEYS, QUOTIENT_TERMS, WORK_NUMBERS, Refusal, check_both_lists,
-    check_point_numbers, check_rooms, check_skeleton,
+    COEFFICIENTS, MOST_SKELETON_KEYS, QUOTIENT_TERMS, WORK_NUMBERS, Refusal,
+    check_modulus_and_lists, check_point_numbers, check_rooms, check_skeleton,
 )
 
 
@@ -34,7 +34,7 @@ class Record:
 def candidate(case, output_room=MOST_SKELETON_KEYS, work_room=WORK_NUMBERS):
     """The candidate's record for a case whose values are not yet tested."""
     try:
-        check_both_lists(case.modulus, case.first, case.second)
+        check_modulus_and_lists(case.modulus, case.first, case.second)
         check_skeleton(case.skeleton)
         check_point_numbers(case.points, case.modulus)
         check_rooms(output_room, len(case.skeleton), work_room)
@@ -79,12 +79,12 @@ def kept_images(good, d):
 def equations(skeleton, kept, p):
     """The equations as rows: coefficients, multipliers from the second on, right-hand side."""
     rows = []
+    x_powers = [exponents(key)[0] for key in skeleton]
     for index, (point, u) in enumerate(kept):
-        powers = point_powers(point, p)
-        values = [monomial_at(key, powers, p) for key in skeleton]
+        values = monomials_at(skeleton, point_powers(point, p), p)
         for power in range(POWERS):
-            skeleton_part = [value if exponents(key)[0] == power else 0
-                             for key, value in zip(skeleton, values)]
+            skeleton_part = [value if x_power == power else 0
+                             for x_power, value in zip(x_powers, values)]
             image_part = [0] * len(kept)
             image_part[index] = u[power] if power < len(u) else 0
             # The first multiplier is 1, so its part stands on the right-hand side.
@@ -134,7 +134,7 @@ def divides_both(divisor, first, second, p):
 
 def quotient_terms(case, output_room=QUOTIENT_TERMS, work_room=WORK_NUMBERS):
     """The terms of A over B for a case, or a Refusal."""
-    check_both_lists(case.modulus, case.first, case.second)
+    check_modulus_and_lists(case.modulus, case.first, case.second)
     check_rooms(output_room, QUOTIENT_TERMS, work_room)
     result = quotient(polynomial(case.first), polynomial(case.second), case.modulus)
     if result is None:
@@ -144,7 +144,7 @@ def quotient_terms(case, output_room=QUOTIENT_TERMS, work_room=WORK_NUMBERS):
 
 def image_at(case, point):
     """The image of a case at one point, or a Refusal."""
-    check_both_lists(case.modulus, case.first, case.second)
+    check_modulus_and_lists(case.modulus, case.first, case.second)
     check_point_numbers(point, case.modulus, most=3)
     u = image(polynomial(case.first), polynomial(case.second), point, case.modulus)
     if u is None:

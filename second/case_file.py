@@ -1,7 +1,7 @@
 """The case file: its reader and its writer."""
 
 from collections import Counter
-from dataclasses import dataclass, field
+from dataclasses import dataclass, field, replace
 
 from refusals import COEFFICIENTS, Refusal
 
@@ -19,6 +19,10 @@ class Case:
     second: list = field(default_factory=list)
     skeleton: list = field(default_factory=list)
     points: list = field(default_factory=list)
+
+    def swapped(self):
+        """The same case with its two lists swapped."""
+        return replace(self, first=self.second, second=self.first)
 
 
 def read(data):

@@ -1,9 +1,10 @@
 """Deliberate faults of the second program, to see that a comparison reports them."""
 
 import candidate
-from polynomials import at_point, monic_gcd, point_powers
+from polynomials import at_point, leading_part, monic_gcd, point_powers
 
 true_equations = candidate.equations
+true_image = candidate.image
 
 
 def multipliers_one(skeleton, kept, p):
@@ -34,11 +35,19 @@ def divides_as_values(divisor, first, second, p):
         for poly in (first, second))
 
 
+def bad_by_first(first, second, point, p):
+    """A point is bad if the x-leading coefficient of A is 0 there, whatever that of B is."""
+    if not at_point(leading_part(first), point_powers(point, p), p):
+        return None
+    return true_image(first, second, point, p)
+
+
 FAULTS = {
     "multipliers-one": ("equations", multipliers_one),
     "divides-only-first": ("divides_both", divides_only_first),
     "unlucky-kept": ("kept_images", unlucky_kept),
     "divides-as-values": ("divides_both", divides_as_values),
+    "bad-by-first": ("image", bad_by_first),
 }
 
 

@@ -3,7 +3,9 @@
 from dataclasses import dataclass, field
 
 from case_file import Case
-from polynomials import POWERS, add, exponents, greatest_exponents, key, multiply, term_list
+from polynomials import (
+    POWERS, add, exponents, greatest_exponents, key, leading_part, multiply, term_list,
+)
 from refusals import KEYS, MODULI
 
 MOST_EXPONENTS = (7, 7, 7, 7)
@@ -291,49 +293,70 @@ def add_unlucky_points(rng, plan):
     put_in_points(rng, plan, pinned(random_points(rng, p, rng.randint(1, 4)), variable, value))
 
 
-def add_points_of(rng, plan, spoil, most):
-    """More points, all where the plan is spoiled."""
-    variable, value = spoil(rng, plan)
-    put_in_points(rng, plan, pinned(random_points(rng, plan.p, rng.randint(1, most)), variable, value))
+def at_more_points(spoil):
+    """The change that adds points, all where the plan is spoiled."""
+    def change(rng, plan):
+        variable, value = spoil(rng, plan)
+        put_in_points(rng, plan, pinned(random_points(rng, plan.p, rng.randint(1, 4)), variable, value))
+    return change
 
 
-def only_points_of(rng, plan, spoil):
-    """Every point is moved to where the plan is spoiled."""
-    variable, value = spoil(rng, plan)
-    plan.points = pinned(plan.points, variable, value)
+def at_all_points(spoil):
+    """The change that moves every point to where the plan is spoiled."""
+    def change(rng, plan):
+        plan.points = pinned(plan.points, *spoil(rng, plan))
+    return change
 
 
-def add_bad_points(rng, plan):
-    add_points_of(rng, plan, spoil_leading_coefficient, 4)
+# Ways to spoil a plan wherever v = value; each gives the variable and the value.
+
+def first_lead_vanishes(rng, plan):
+    """The x-leading coefficient of A is 0 there."""
+    return _spoil(rng, plan, first_cofactor=_lead_times)
 
 
-def only_bad_points(rng, plan):
-    only_points_of(rng, plan, spoil_leading_coefficient)
+def second_lead_vanishes(rng, plan):
+    """The x-leading coefficient of B is 0 there."""
+    return _spoil(rng, plan, second_cofactor=_lead_times)
 
 
-def spoil_leading_coefficient(rng, plan):
-    """The x-leading coefficient of A is 0 wherever v = value."""
+def both_leads_vanish(rng, plan):
+    return _spoil(rng, plan, first_cofactor=_lead_times, second_cofactor=_lead_times)
+
+
+def first_vanishes(rng, plan):
+    """A is 0 there."""
+    return _spoil(rng, plan, first_cofactor=multiply)
+
+
+def second_vanishes(rng, plan):
+    """B is 0 there."""
+    return _spoil(rng, plan, second_cofactor=multiply)
+
+
+def both_vanish(rng, plan):
+    return _spoil(rng, plan, first_cofactor=multiply, second_cofactor=multiply)
+
+
+def lead_and_other_vanish(rng, plan):
+    """The x-leading coefficient of one of the two is 0 there, and the whole of the other is."""
+    lead, whole = rng.sample(("first_cofactor", "second_cofactor"), 2)
+    return _spoil(rng, plan, **{lead: _lead_times, whole: multiply})
+
+
+def _spoil(rng, plan, **products):
+    """Takes v - value into the named cofactors, each by the product that is given for it."""
     variable, value = random_pin(rng, plan.p)
-    x_degree = greatest_exponents(plan.first_cofactor)[0]
-    leading = {k: c for k, c in plan.first_cofactor.items() if exponents(k)[0] == x_degree}
-    lower = {k: c for k, c in plan.first_cofactor.items() if k not in leading}
-    plan.first_cofactor = multiply(linear(variable, value, plan.p), leading, plan.p) | lower
+    for name, product in products.items():
+        setattr(plan, name, product(getattr(plan, name), linear(variable, value, plan.p), plan.p))
     return variable, value
 
 
-def add_points_with_zero_second(rng, plan):
-    add_points_of(rng, plan, make_second_vanish, 3)
-
-
-def only_points_with_zero_second(rng, plan):
-    only_points_of(rng, plan, make_second_vanish)
-
-
-def make_second_vanish(rng, plan):
-    """B is 0 wherever v = value."""
-    variable, value = random_pin(rng, plan.p)
-    plan.second_cofactor = multiply(linear(variable, value, plan.p), plan.second_cofactor, plan.p)
-    return variable, value
+def _lead_times(poly, factor, p):
+    """The polynomial with its leading part alone multiplied."""
+    leading = leading_part(poly)
+    lower = {k: c for k, c in poly.items() if k not in leading}
+    return multiply(leading, factor, p) | lower
 
 
 def only_first_is_divided(rng, plan):

@@ -4,6 +4,8 @@ A polynomial is a dictionary from key to coefficient without zero coefficients.
 A polynomial in x alone is a list of coefficients, x^0 first, without leading zeros.
 """
 
+from functools import cache
+
 from refusals import COEFFICIENTS
 
 POWERS = 8
@@ -14,6 +16,7 @@ def key(a, b, c, d):
     return 512 * a + 64 * b + 8 * c + d
 
 
+@cache
 def exponents(monomial):
     """The exponents of x, y, z, w in a key."""
     return (monomial // 512, monomial // 64 % 8, monomial // 8 % 8, monomial % 8)
@@ -32,6 +35,13 @@ def term_list(poly):
 def greatest_exponents(poly):
     """For each variable its greatest exponent in the polynomial."""
     return tuple(map(max, zip(*map(exponents, poly))))
+
+
+def leading_part(poly):
+    """The terms with the polynomial's highest power of x."""
+    most = exponents(max(poly))[0]
+    return {monomial: coefficient for monomial, coefficient in poly.items()
+            if exponents(monomial)[0] == most}
 
 
 def add(left, right, p):
@@ -90,20 +100,18 @@ def point_powers(point, p):
     return [[pow(coordinate, power, p) for power in range(POWERS)] for coordinate in point]
 
 
-def monomial_at(monomial, powers, p):
-    """The value of the y, z, w part of a monomial, by the tables of powers."""
-    _, b, c, d = exponents(monomial)
+def monomials_at(monomials, powers, p):
+    """The value of the y, z, w part of each monomial, by the tables of powers."""
     y, z, w = powers
-    return y[b] * z[c] * w[d] % p
+    return [y[b] * z[c] * w[d] % p for _, b, c, d in map(exponents, monomials)]
 
 
 def at_point(poly, powers, p):
     """The polynomial in x that is left at a point."""
     values = [0] * POWERS
-    for monomial, coefficient in poly.items():
-        a = exponents(monomial)[0]
-        values[a] = (values[a] + coefficient * monomial_at(monomial, powers, p)) % p
-    return _trimmed(values)
+    for monomial, value in zip(poly, monomials_at(poly, powers, p)):
+        values[exponents(monomial)[0]] += poly[monomial] * value
+    return _trimmed([value % p for value in values])
 
 
 def _trimmed(values):
@@ -113,7 +121,7 @@ def _trimmed(values):
 
 
 def monic_gcd(left, right, p):
-    """The monic greatest common divisor in x of two polynomials, the left one not zero."""
+    """The monic greatest common divisor in x of two polynomials, not both zero."""
     while right:
         left, right = right, remainder(left, right, p)
     inverse = pow(left[-1], -1, p)
@@ -136,8 +144,12 @@ def remainder(dividend, divisor, p):
 def image(first, second, point, p):
     """The image U of the two polynomials at a point, or None if the point is bad."""
     powers = point_powers(point, p)
-    first_at_point = at_point(first, powers, p)
-    x_degree = exponents(max(first))[0]
-    if len(first_at_point) <= x_degree:
+    values = at_point(first, powers, p), at_point(second, powers, p)
+    if _loses_degree(first, values[0]) and _loses_degree(second, values[1]):
         return None
-    return monic_gcd(first_at_point, at_point(second, powers, p), p)
+    return monic_gcd(*values, p)
+
+
+def _loses_degree(poly, value):
+    """Whether the value has a lower degree in x than the polynomial: its x-leading coefficient is 0 there."""
+    return len(value) <= exponents(max(poly))[0]

@@ -24,7 +24,7 @@ def check_modulus(modulus):
         raise Refusal(1)
 
 
-def check_list(terms, modulus, length_number):
+def check_list(terms, modulus=COEFFICIENTS, length_number=2):
     """Tests of a term list; its terms are refused with the number after `length_number`."""
     if not 1 <= len(terms) <= MOST_TERMS:
         raise Refusal(length_number)
@@ -36,11 +36,16 @@ def check_list(terms, modulus, length_number):
         before = key
 
 
-def check_both_lists(modulus, first, second):
-    """The tests 1 to 5, which candidate, quotient and image share."""
-    check_modulus(modulus)
+def check_both_lists(first, second, modulus=COEFFICIENTS):
+    """The tests 2 to 5; without a modulus any coefficient passes but 0."""
     check_list(first, modulus, 2)
     check_list(second, modulus, 4)
+
+
+def check_modulus_and_lists(modulus, first, second):
+    """The tests 1 to 5, which candidate, quotient and image share."""
+    check_modulus(modulus)
+    check_both_lists(first, second, modulus)
 
 
 def check_skeleton(skeleton):

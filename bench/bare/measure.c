@@ -24,6 +24,8 @@ static const workload *now;
 #define QUOTIENT(f) f(now->modulus, now->dividend, now->dividend_terms, now->divisor, now->divisor_terms, out, KEYS, work, WORK_ROOM, record)
 #define IMAGE(f) f(now->modulus, now->first, now->first_terms, now->second, now->second_terms, now->at, now->at_numbers, coefficients, record)
 #define WRITE(f) f(now->modulus, now->first, now->first_terms, now->second, now->second_terms, now->skeleton, now->keys, now->points, now->numbers, buffer, BUFFER, record)
+/* A part is two numbers without a fault; they stand behind the number, which stays 0. */
+#define SHORTER(f) f(now->first, now->first_terms, now->second, now->second_terms, record + 1)
 
 static void library_candidate(void) { CANDIDATE(balungkiro_candidate); }
 static void twin_of_candidate(void) { CANDIDATE(twin_candidate); }
@@ -33,6 +35,8 @@ static void library_image(void) { IMAGE(balungkiro_image); }
 static void twin_of_image(void) { IMAGE(twin_image); }
 static void library_write(void) { WRITE(balungkiro_write); }
 static void twin_of_write(void) { WRITE(twin_write); }
+static void library_shorter(void) { SHORTER(balungkiro_shorter_part); }
+static void twin_of_shorter(void) { SHORTER(twin_shorter_part); }
 
 static void fail(const char *what) {
     print(now->name);
@@ -86,6 +90,7 @@ static uint32_t image_room(void) { return (uint32_t)(4 * (now->first_terms + now
 static uint32_t write_room(void) {
     return (uint32_t)(4 * (now->first_terms + now->second_terms) + 2 * (now->keys + now->numbers) + record[2] + 3 * sizeof record[0]);
 }
+static uint32_t shorter_room(void) { return (uint32_t)(4 * (now->first_terms + now->second_terms) + 2 * sizeof record[0]); }
 
 typedef struct { const char *name; void (*library)(void), (*twin)(void); uint32_t (*room)(void); } service;
 
@@ -94,6 +99,7 @@ static const service services[] = {
     {"quotient", library_quotient, twin_of_quotient, quotient_room},
     {"image", library_image, twin_of_image, image_room},
     {"write", library_write, twin_of_write, write_room},
+    {"shorter", library_shorter, twin_of_shorter, shorter_room},
 };
 
 /* What a call leaves behind, as one number: the record, the output, the coefficients and the work room. */

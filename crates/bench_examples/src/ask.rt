@@ -124,3 +124,10 @@ pub(crate) fn leading_part(label: &[u8], terms: &[Term]) {
     print::fault(poly::list::check_list(terms));
     print::terms(poly::list::leading_part(terms));
 }
+
+// What the check of two lists says, and the terms of their shorter leading part.
+pub(crate) fn shorter_part<'a>(label: &[u8], first: &'a [Term], second: &'a [Term]) {
+    print_label(label);
+    print::fault(poly::list::check_lists(first, second));
+    print::terms(poly::list::shorter_part(first, second));
+}

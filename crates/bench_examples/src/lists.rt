@@ -88,6 +88,13 @@ pub(crate) const X3Y_X3_Y: [u16; 3] = [3 * X + Y, 3 * X, Y];
 
 pub(crate) const X_Y7: [u16; 2] = [X, 7 * Y];
 
+// (x + 1)(xy + 1), whose x-leading coefficient is 0 at y = 0; y(x + 1), which is 0 there; and (x + 1)(x + 2).
+pub(crate) const LEAD_LOST: [u32; 4] = [2 * TX + TY + 1, TX + TY + 1, TX + 1, 1];
+
+pub(crate) const VALUE_LOST: [u32; 2] = [TX + TY + 1, TY + 1];
+
+pub(crate) const LEAD_KEPT: [u32; 3] = [2 * TX + 1, TX + 3, 2];
+
 // Lists for the lines that are run only.
 pub(crate) const COEFFICIENT_17: [u32; 2] = [2 * TX + 1, 17];
 

@@ -10,6 +10,7 @@ fn main() {
     table::last_six();
     table::images();
     run_only::lists();
+    run_only::swapped();
     run_only::skeletons_and_points();
     run_only::rooms();
     run_only::quotients();
@@ -17,4 +18,5 @@ fn main() {
     services::arithmetic();
     services::arithmetic_refused();
     services::leading_parts();
+    services::shorter_parts();
 }

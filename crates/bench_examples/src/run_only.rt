@@ -53,6 +53,32 @@ pub(crate) fn lists() {
     ask::candidate(b"key 4095", MODULUS, &last, &last, &[4095], &[1, 1, 1]);
 }
 
+// One x-leading coefficient alone is 0 at y = 0, or one value; the two lists exchanged change nothing.
+pub(crate) fn swapped() {
+    let kept = lists::LEAD_KEPT;
+    let lead = lists::LEAD_LOST;
+    let value = lists::VALUE_LOST;
+    let points = [0, 0, 0, 1, 0, 0];
+    ask::candidate(
+        b"first lead lost",
+        MODULUS,
+        &lead,
+        &kept,
+        &X_1,
+        &points[..3],
+    );
+    ask::candidate(
+        b"second lead lost",
+        MODULUS,
+        &kept,
+        &lead,
+        &X_1,
+        &points[..3],
+    );
+    ask::candidate(b"first value lost", MODULUS, &value, &kept, &X_1, &points);
+    ask::candidate(b"second value lost", MODULUS, &kept, &value, &X_1, &points);
+}
+
 pub(crate) fn skeletons_and_points() {
     let keys = lists::KEYS_33;
     with_skeleton(b"32 keys", &keys[1..]);
@@ -110,6 +136,19 @@ pub(crate) fn images() {
         b"image at a bad point",
         &lists::P2_FIRST,
         &lists::P2_SECOND,
+        &[0, 0, 0],
+    );
+    let kept = lists::LEAD_KEPT;
+    ask::image(
+        b"image, first lead lost",
+        &lists::LEAD_LOST,
+        &kept,
+        &[0, 0, 0],
+    );
+    ask::image(
+        b"image, first value lost",
+        &lists::VALUE_LOST,
+        &kept,
         &[0, 0, 0],
     );
 }

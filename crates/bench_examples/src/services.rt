@@ -1,4 +1,4 @@
-// The services that no program asks: arithmetic, the leading part and the list check.
+// The services that no program asks: arithmetic, the leading part, the shorter of two, and the checks beside them.
 ghost use mathlib.Core.Path.{_≡_};
 ghost use Rattle.field.specs.Contract.{element};
 use crate::ask;
@@ -37,4 +37,21 @@ pub(crate) fn leading_parts() {
     ask::leading_part(b"leading part of F", &lists::F);
     ask::leading_part(b"leading part, two equal keys", &lists::EQUAL_KEYS);
     ask::leading_part(b"leading part, no terms", &[]);
+}
+
+pub(crate) fn shorter_parts() {
+    ask::shorter_part(b"shorter part, F and K", &lists::F, &lists::K);
+    ask::shorter_part(b"shorter part, F and P1", &lists::F, &lists::P1_FIRST);
+    ask::shorter_part(b"shorter part, P1 and F", &lists::P1_FIRST, &lists::F);
+    ask::shorter_part(
+        b"shorter part, second with two equal keys",
+        &lists::F,
+        &lists::EQUAL_KEYS,
+    );
+    ask::shorter_part(
+        b"shorter part, first with two equal keys",
+        &lists::EQUAL_KEYS,
+        &[],
+    );
+    ask::shorter_part(b"shorter part, second with no terms", &lists::F, &[]);
 }

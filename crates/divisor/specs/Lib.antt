@@ -3,6 +3,7 @@ pub mod Rule
 pub mod Candidate
 pub mod Demands
 pub mod Repeated
+pub mod Swapped
 pub mod equations
 pub mod points
 pub mod sorting
@@ -13,3 +14,4 @@ pub mod checks
 pub mod answer
 pub mod demand
 pub mod twice
+pub mod swap

@@ -4,6 +4,7 @@ use Prim.Native.Nat.{ℕ}
 use Rattle.field.specs.declared.faults.Fault.{Fault}
 use Rattle.field.specs.declared.services.Answer.{Answer}
 use Rattle.poly.specs.declared.ImageRecord.{ImageRecord}
+use Rattle.poly.specs.declared.Picked.{Picked}
 use Rattle.poly.specs.QuotientCall.{QuotientResult}
 use Rattle.divisor.specs.Candidate.{Result}
 use Rattle.case_file.specs.declared.Contents.{Contents}
@@ -19,6 +20,10 @@ after-fault f rest = f .number ∷ f .place ∷ rest
 
 abbrev pub of-fault : Fault → List ℕ
 of-fault f = after-fault f []
+
+-- the number of terms, then which list
+abbrev pub of-picked : Picked → List ℕ
+of-picked r = r .terms ∷ r .list ∷ []
 
 abbrev pub of-answer : Answer → List ℕ
 of-answer r = after-fault (r .fault) (r .element .modulus ∷ r .element .value ∷ [])

@@ -7,13 +7,14 @@ ghost use Rattle.field.specs.Refusal.{Tested};
 ghost use Rattle.field.specs.Contract.{element};
 ghost use Rattle.field.specs.Arithmetic.{AskSum, AskDifference, AskProduct, AskInverse};
 ghost use Rattle.poly.specs.LeadingPart.{of-list, LeadingTerms};
+ghost use Rattle.poly.specs.ShorterPart.{of-two-lists, ShorterHead};
 ghost use Rattle.poly.specs.QuotientCall.{quotient-call, Quotient};
 ghost use Rattle.poly.specs.ImageCall.{image-call, ImageAnswer};
 ghost use Rattle.divisor.specs.Candidate.{candidate-call, Candidate};
 ghost use Rattle.case_file.specs.Reading.{read};
 ghost use Rattle.case_file.specs.Handed.{contents};
 ghost use Rattle.case_file.specs.WriteCall.{write-call, Write};
-ghost use Rattle.handheld.specs.Layout.{Laid, of-fault, of-answer, of-quotient, of-image, of-candidate, of-contents, of-write};
+ghost use Rattle.handheld.specs.Layout.{Laid, of-fault, of-picked, of-answer, of-quotient, of-image, of-candidate, of-contents, of-write};
 use case_file::Keys;
 use case_file::PointNumbers;
 use case_file::Terms;
@@ -104,6 +105,24 @@ pub extern "C" fn balungkiro_check_list(terms: &[Term], numbers: &mut [usize; 2]
 {
     let fault = poly::list::check_list(terms);
     *numbers = [fault.number as usize, fault.place];
+}
+
+// Numbers: how many terms the shorter leading part has, and which list it is the head of, 1 or 2; on refusal 0 and 1.
+#[no_mangle]
+pub extern "C" fn balungkiro_shorter_part(first: &[Term], second: &[Term], numbers: &mut [usize; 2])
+    ensures { λ _. ⌜ Laid of-picked (ShorterHead (now (first .entry)) (now (second .entry))) (now (numbers .exit)) ⌝ }
+{
+    let picked = poly::list::shorter_head(first, second);
+    *numbers = [picked.terms, picked.list];
+}
+
+// Numbers: number, place.
+#[no_mangle]
+pub extern "C" fn balungkiro_check_lists(first: &[Term], second: &[Term], numbers: &mut [usize; 2])
+    ensures { λ _. ⌜ Laid of-fault (Tested (of-two-lists (now (first .entry)) (now (second .entry)))) (now (numbers .exit)) ⌝ }
+{
+    let found = poly::list::check_lists(first, second);
+    *numbers = [found.number as usize, found.place];
 }
 
 // Number, place, modulus, value.

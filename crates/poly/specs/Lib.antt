@@ -10,6 +10,7 @@ pub mod Powers
 pub mod Room
 pub mod Coefficients
 pub mod LeadingPart
+pub mod ShorterPart
 pub mod ImageCall
 pub mod QuotientCall
 pub mod TrialDivision

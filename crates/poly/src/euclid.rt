@@ -74,12 +74,12 @@ fn remainder(p: Residue, m: usize, g: Eight, f: Eight) -> Eight
     r
 }
 
-// The monic greatest common divisor of a, which is not 0, and b.
+// The monic greatest common divisor of a and b, which are not both 0.
 pub(crate) fn gcd(p: Residue, a: Eight, b: Eight) -> Eight
     requires { ⌜ Pair p a b ⌝ }
     ensures { λ r. ⌜ r ≡ gcd-of p a b ⌝ }
 {
-    let mut f = monic(p, size(a) - 1, a);
+    let mut f = a;
     let mut g = b;
     let mut n = size(b);
     while n > 0 {
@@ -88,5 +88,5 @@ pub(crate) fn gcd(p: Residue, a: Eight, b: Eight) -> Eight
         f = h;
         n = size(g);
     }
-    f
+    monic(p, size(f) - 1, f)
 }

@@ -2,6 +2,8 @@
 ghost use mathlib.Core.Path.{_≡_};
 ghost use Rattle.field.specs.Refusal.{Tested};
 ghost use Rattle.poly.specs.ImageCall.{image-call, refused-image, image-table, Fine, AnswersPoint, ImageAnswer};
+ghost use Rattle.poly.specs.image.Model.{HasLeading, leading-number};
+use crate::Eight;
 use crate::ImageRecord;
 use crate::POWERS;
 use crate::PointImage;
@@ -27,8 +29,16 @@ fn refused(fault: Fault) -> ImageRecord
     }
 }
 
-// The image at a point, of inputs that are in order: for the service below, and for the layer above. The point is bad if A's value has 0 at
-// A's highest power of x; then B's value is not worked.
+// What a value has at its list's highest power of x: the x-leading coefficient at the point.
+fn leading(terms: &[Term], value: Eight) -> Residue
+    requires { ⌜ HasLeading (now terms) ⌝ }
+    ensures { λ r. ⌜ r ≡ leading-number (now (terms .entry)) value ⌝ }
+{
+    value[Key::of(terms[0]).x() as usize]
+}
+
+// The image at a point, of inputs that are in order: for the service below, and for the layer above. The point is bad if both x-leading
+// coefficients are 0 there; else one value is not 0, and the other may be.
 pub fn image_at(p: Residue, first: &[Term], second: &[Term], point: &[Residue]) -> PointImage
     requires { ⌜ Fine p (now first) (now second) (now point) ⌝ }
     ensures { λ r. ⌜ AnswersPoint p (now (first .entry)) (now (second .entry)) (now (point .entry)) r ⌝ }
@@ -37,14 +47,14 @@ pub fn image_at(p: Residue, first: &[Term], second: &[Term], point: &[Residue]) 
     let zs = value::powers(Element::of(p, point[1]));
     let ws = value::powers(Element::of(p, point[2]));
     let a = value::value(p, ys, zs, ws, first);
-    let x = Key::of(first[0]).x() as usize;
-    if a[x] == 0 {
+    let b = value::value(p, ys, zs, ws, second);
+    let bad = (leading(first, a) == 0) & (leading(second, b) == 0);
+    if bad {
         return PointImage {
             size: 0,
             coefficients: [Element::ZERO; POWERS],
         };
     }
-    let b = value::value(p, ys, zs, ws, second);
     let u = euclid::gcd(p, a, b);
     PointImage {
         size: euclid::size(u) as Size,

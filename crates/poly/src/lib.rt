@@ -34,6 +34,12 @@ pub struct ImageRecord {
     pub degree: usize,
 }
 
+// The leading part that is picked from two lists: which list it is the head of, 1 or 2, and how many terms it has.
+pub struct Picked {
+    pub list: usize,
+    pub terms: usize,
+}
+
 // What the quotient service answers: the count of terms, 0 on refusal.
 pub struct QuotientRecord {
     pub fault: Fault,

@@ -1,11 +1,13 @@
-// Lists of terms: the check with which every service begins, the public list check, and the leading part.
+// Lists of terms: the check with which every service begins, the public list checks, the leading part, and the shorter of two.
 ghost use Prim.Native.Nat.{_<_};
 ghost use lib.ListN.{length};
 ghost use Rattle.field.specs.Refusal.{Tested};
 ghost use Rattle.poly.specs.Lists.{WrongModulo, of-terms, of-lists};
 ghost use Rattle.poly.specs.LeadingPart.{of-list, LeadingPart};
+ghost use Rattle.poly.specs.ShorterPart.{of-two-lists, ShorterHead, ShorterPart};
 ghost use Rattle.poly.specs.Search.{Searched};
 ghost use Rattle.poly.specs.list.Model.{Lower};
+use crate::Picked;
 use crate::key::Key;
 use field::Fault;
 use field::MOST_TERMS;
@@ -102,4 +104,43 @@ pub fn leading_part(terms: &[Term]) -> &[Term]
     }
     let n = leading_length(terms);
     &terms[..n]
+}
+
+// The check of two lists: the refusals 2 to 5 without a modulus.
+pub fn check_lists(first: &[Term], second: &[Term]) -> Fault
+    ensures { λ r. ⌜ Tested (of-two-lists (now (first .entry)) (now (second .entry))) r ⌝ }
+{
+    let fault = check_list(first);
+    if fault.number != 0 {
+        return fault;
+    }
+    let bound = Key::COEFFICIENT_LIMIT;
+    list_fault(Fault::SECOND_COUNT, Fault::SECOND_TERM, bound, second)
+}
+
+// Which of two lists has the shorter leading part, the first on a tie, and how many terms that has; on refusal the first, and none.
+pub fn shorter_head(first: &[Term], second: &[Term]) -> Picked
+    ensures { λ r. ⌜ ShorterHead (now (first .entry)) (now (second .entry)) r ⌝ }
+{
+    let fault = check_lists(first, second);
+    if fault.number != 0 {
+        return Picked { list: 1, terms: 0 };
+    }
+    let n = leading_length(first);
+    let m = leading_length(second);
+    if m < n {
+        return Picked { list: 2, terms: m };
+    }
+    Picked { list: 1, terms: n }
+}
+
+// The shorter leading part of two lists, as a part of whichever of the two it belongs to: one lifetime for both.
+pub fn shorter_part<'a>(first: &'a [Term], second: &'a [Term]) -> &'a [Term]
+    ensures { λ r. ⌜ ShorterPart (first .entry) (second .entry) r ⌝ }
+{
+    let picked = shorter_head(first, second);
+    if picked.list == 2 {
+        return &second[..picked.terms];
+    }
+    &first[..picked.terms]
 }

@@ -1,5 +1,5 @@
 -- Rows beside P1 to P12, for wrong versions that P1 to P12 do not tell from the right one; and rows of the quotient, the image, the
--- reader and the writer. Modulo 17 unless said, z = w = 0.
+-- reader, the writer and the picker. Modulo 17 unless said, z = w = 0.
 use mathlib.Core.List.{List, [], _∷_, _++_}
 use Prim.Native.Nat.{ℕ}
 use lib.ListN.{length, replicate}
@@ -13,7 +13,7 @@ use Rattle.case_file.specs.Format.{today}
 use Rattle.case_file.specs.Written.{records}
 use Rattle.case_file.specs.WriteCall.{WriteCall, write-call, write-result}
 use Rattle.case_file.specs.reader.Examples.{example}
-use Rattle.proved_table.specs.Row.{Row, QuotientRow, ImageRow, FileRow, WriteRow}
+use Rattle.proved_table.specs.Row.{Row, QuotientRow, ImageRow, FileRow, WriteRow, PickRow}
 use Rattle.proved_table.specs.Table.{key-xy, term-xy, at, row, E, F, K, A₂, B₂, A₁₁, image}
 
 -- x and x + y, y = 0, skeleton x: the image is x, which divides the first and not the second: 15
@@ -34,8 +34,39 @@ zeros-dropped =
     row 17 (term-xy 1 2 0 ∷ []) (term-xy 1 2 0 ∷ []) (key-xy 2 0 ∷ key-xy 1 0 ∷ key-xy 0 0 ∷ []) (at (0 ∷ []))
     (report 0 (record { d = 2; bad = 0; unlucky = 0; kept = 1 }) 1) (term-xy 1 2 0 ∷ [])
 
+-- (x + 1) (x y + 1), whose x-leading coefficient y is 0 at y = 0; y (x + 1), which is 0 there; and (x + 1) (x + 2)
+abbrev pub lead-lost : List ℕ
+lead-lost = term-xy 1 2 1 ∷ term-xy 1 1 1 ∷ term-xy 1 1 0 ∷ term-xy 1 0 0 ∷ []
+
+abbrev pub value-lost : List ℕ
+value-lost = term-xy 1 1 1 ∷ term-xy 1 0 1 ∷ []
+
+abbrev pub lead-kept : List ℕ
+lead-kept = term-xy 1 2 0 ∷ term-xy 3 1 0 ∷ term-xy 2 0 0 ∷ []
+
+-- x + 1 at the points, with skeleton x, 1: d = 1, none bad, one kept
+abbrev pub x-plus-one : List ℕ → List ℕ → List ℕ → ℕ → Row
+x-plus-one A B points unlucky =
+    row 17 A B (key-xy 1 0 ∷ key-xy 0 0 ∷ []) (at points)
+    (report 0 (record { d = 1; bad = 0; unlucky = unlucky; kept = 1 }) 2) (term-xy 1 1 0 ∷ term-xy 1 0 0 ∷ [])
+
+-- the teacher's case and its swap, y = 0: one x-leading coefficient alone is 0 there, that of the first and that of the second, so the point is good
+abbrev pub first-lead-lost : Row
+first-lead-lost = x-plus-one lead-lost lead-kept (0 ∷ []) 0
+
+abbrev pub second-lead-lost : Row
+second-lead-lost = x-plus-one lead-kept lead-lost (0 ∷ []) 0
+
+-- y = 0 and y = 1, where the one value is 0 at y = 0 and the image the other's: the point is unlucky
+abbrev pub first-value-lost : Row
+first-value-lost = x-plus-one value-lost lead-kept (0 ∷ 1 ∷ []) 1
+
+abbrev pub second-value-lost : Row
+second-value-lost = x-plus-one lead-kept value-lost (0 ∷ 1 ∷ []) 1
+
 abbrev pub more-rows : List Row
-more-rows = divides-first ∷ divides-second ∷ zeros-dropped ∷ []
+more-rows =
+    divides-first ∷ divides-second ∷ zeros-dropped ∷ first-lead-lost ∷ second-lead-lost ∷ first-value-lost ∷ second-value-lost ∷ []
 
 -- the quotient's terms, and 15
 abbrev pub exact : ℕ → List ℕ → List ℕ → List ℕ → QuotientRow
@@ -67,7 +98,7 @@ equal-as-values = not-exact 7 A₁₁ (term-xy 1 1 0 ∷ term-xy 1 0 7 ∷ [])
 abbrev pub quotients : List QuotientRow
 quotients = f-over-e ∷ e-over-f ∷ k-over-e ∷ a₂-over-factor ∷ equal-as-values ∷ []
 
--- the polynomials of P2 at y = 0, where the first has no x² any more: 12
+-- the polynomials of P2 at y = 0, where neither has x² any more: 12
 abbrev pub image-bad : ImageRow
 image-bad = record { call = image-call 17 A₂ B₂ (at (0 ∷ [])); found = refused-image (fault NO_GOOD_POINT 0) }
 
@@ -83,8 +114,19 @@ image-k = image K K 1 3 (12 ∷ 0 ∷ 0 ∷ 1 ∷ 0 ∷ 0 ∷ 0 ∷ 0 ∷ [])
 abbrev pub image-of-first : ImageRow
 image-of-first = image (term-xy 3 1 0 ∷ []) (term-xy 1 0 1 ∷ []) 0 1 (0 ∷ 1 ∷ 0 ∷ 0 ∷ 0 ∷ 0 ∷ 0 ∷ 0 ∷ [])
 
+-- the two exchanged: at y = 0 the first is 0
+abbrev pub image-of-second : ImageRow
+image-of-second = image (term-xy 1 0 1 ∷ []) (term-xy 3 1 0 ∷ []) 0 1 (0 ∷ 1 ∷ 0 ∷ 0 ∷ 0 ∷ 0 ∷ 0 ∷ 0 ∷ [])
+
+-- one x-leading coefficient alone is 0 at y = 0, that of the first and that of the second: x + 1
+abbrev pub image-first-lead-lost : ImageRow
+image-first-lead-lost = image lead-lost lead-kept 0 1 (1 ∷ 1 ∷ 0 ∷ 0 ∷ 0 ∷ 0 ∷ 0 ∷ 0 ∷ [])
+
+abbrev pub image-second-lead-lost : ImageRow
+image-second-lead-lost = image lead-kept lead-lost 0 1 (1 ∷ 1 ∷ 0 ∷ 0 ∷ 0 ∷ 0 ∷ 0 ∷ 0 ∷ [])
+
 abbrev pub more-images : List ImageRow
-more-images = image-bad ∷ image-two ∷ image-of-first ∷ []
+more-images = image-bad ∷ image-two ∷ image-of-first ∷ image-of-second ∷ image-first-lead-lost ∷ image-second-lead-lost ∷ []
 
 -- what the reader hands back: number and place, the modulus, the four lists
 abbrev pub handed-back : ℕ → ℕ → ℕ → List ℕ → List ℕ → List ℕ → List ℕ → Contents
@@ -170,3 +212,45 @@ write-half = write-row (write-call 17 [] [] [] (1 ∷ 2 ∷ []) []) NOT_WRITABLE
 
 abbrev pub writes : List WriteRow
 writes = write-example ∷ write-short ∷ write-bare ∷ write-keys ∷ write-half ∷ []
+
+-- two lists, and the number and the terms that are picked
+abbrev pub pick-row : List ℕ → List ℕ → ℕ → List ℕ → PickRow
+pick-row A B list terms = record { first-list = A; second-list = B; list = list; terms = terms }
+
+-- the leading parts of E, (y + 16) x³, and of A₂ and B₂, 3 y x²
+abbrev pub leading-E : List ℕ
+leading-E = term-xy 1 3 1 ∷ term-xy 16 3 0 ∷ []
+
+abbrev pub leading-A₂ : List ℕ
+leading-A₂ = term-xy 3 2 1 ∷ []
+
+-- 1 + x, whose keys do not fall
+abbrev pub rising : List ℕ
+rising = term-xy 1 0 0 ∷ term-xy 1 1 0 ∷ []
+
+abbrev pub pick-second : PickRow
+pick-second = pick-row E A₂ 2 leading-A₂
+
+abbrev pub pick-first : PickRow
+pick-first = pick-row A₂ E 1 leading-A₂
+
+-- as many terms: the first list's, also where the terms are the same
+abbrev pub pick-tie : PickRow
+pick-tie = pick-row E K 1 leading-E
+
+abbrev pub pick-same-terms : PickRow
+pick-same-terms = pick-row A₂ B₂ 1 leading-A₂
+
+-- a list is refused: the empty head of the first
+abbrev pub pick-refused : PickRow
+pick-refused = pick-row A₂ rising 1 []
+
+abbrev pub pick-first-refused : PickRow
+pick-first-refused = pick-row rising A₂ 1 []
+
+-- there is no modulus: 65535 x has a leading part
+abbrev pub pick-large : PickRow
+pick-large = pick-row E (term-xy 65535 1 0 ∷ []) 2 (term-xy 65535 1 0 ∷ [])
+
+abbrev pub picks : List PickRow
+picks = pick-second ∷ pick-first ∷ pick-tie ∷ pick-same-terms ∷ pick-refused ∷ pick-first-refused ∷ pick-large ∷ []

@@ -1,9 +1,12 @@
--- A row of the proved table: what is asked, and the record and the terms that are to be found. Beside the rows, quotients, files, images and
--- products. What it means that each holds.
+-- A row of the proved table: what is asked, and the record and the terms that are to be found. Beside the rows, quotients, files, picked
+-- parts, images and products. What it means that each holds.
 use mathlib.Core.Path.{_≡_}
+use mathlib.Core.Bool.{true, false}
 use mathlib.Core.List.{List, [], _∷_}
 use Prim.Native.Nat.{ℕ, _≤_}
+use lib.Dec.{eqb}
 use lib.ListN.{length}
+use denote.Ref.{RefT}
 use Rattle.algebra.specs.SeriesRing.{S4}
 use Rattle.field.specs.Prime.{Prime}
 use Rattle.field.specs.Modulo.{Modulo}
@@ -11,6 +14,7 @@ use Rattle.poly.specs.declared.ImageRecord.{ImageRecord}
 use Rattle.poly.specs.declared.QuotientRecord.{QuotientRecord}
 use Rattle.poly.specs.Keys.{keys}
 use Rattle.poly.specs.Terms.{poly}
+use Rattle.poly.specs.ShorterPart.{ShorterPart}
 use Rattle.poly.specs.ImageCall.{ImageCall, ImageAnswer}
 use Rattle.poly.specs.QuotientCall.{QuotientCall, quotient-call, QuotientResult, quotient-result, Quotient}
 use Rattle.field.specs.Lent.{written}
@@ -91,6 +95,28 @@ pub record WriteRow : Type 0 where
 
 abbrev pub Writes : WriteRow → Type 0
 Writes r = Write (r .call) (r .result)
+
+-- two lists, which of them the shorter leading part is of, 1 or 2, and its terms
+pub record PickRow : Type 0 where
+  pub first-list : List ℕ
+  pub second-list : List ℕ
+  pub list : ℕ
+  pub terms : List ℕ
+
+-- where the list of that number begins
+abbrev pub place-of : ℕ → RefT (List ℕ) → RefT (List ℕ) → ℕ × ℕ
+place-of list first second = elim (eqb list 2) [ true ↦ second .ptr | false ↦ first .ptr ]
+
+-- slices that are a row's lists, and a part that has the row's terms and begins where the row's list does
+pub record Sliced (r : PickRow) (first second part : RefT (List ℕ)) : Type 0 where
+  pub first-now : first .now ≡ r .first-list
+  pub second-now : second .now ≡ r .second-list
+  pub part-now : part .now ≡ r .terms
+  pub part-place : part .ptr ≡ place-of (r .list) first second
+
+-- every such part is the shorter leading part
+abbrev pub Picks : PickRow → Type 0
+Picks r = (first second part : RefT (List ℕ)) → Sliced r first second part → ShorterPart first second part
 
 -- an image that a row names
 pub record ImageRow : Type 0 where

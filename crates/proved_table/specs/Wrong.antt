@@ -4,9 +4,11 @@ use mathlib.Core.Bool.{Bool, true, false}
 use mathlib.Core.List.{List}
 use Prim.Native.Nat.{ℕ, _≤_}
 use lib.ListN.{length, take}
+use denote.Ref.{RefT}
 use Rattle.poly.specs.declared.ImageRecord.{ImageRecord}
 use Rattle.poly.specs.declared.QuotientRecord.{QuotientRecord}
 use Rattle.poly.specs.Keys.{keys}
+use Rattle.poly.specs.ShorterPart.{ShorterHead, ShorterPart}
 use Rattle.poly.specs.ImageCall.{ImageAnswer}
 use Rattle.poly.specs.QuotientCall.{quotient-result, Quotient}
 use Rattle.field.specs.Lent.{written}
@@ -16,7 +18,7 @@ use Rattle.divisor.specs.Candidate.{candidate-result, Candidate}
 use Rattle.case_file.specs.declared.Contents.{Contents}
 use Rattle.case_file.specs.Reading.{read}
 use Rattle.case_file.specs.Handed.{contents}
-use Rattle.proved_table.specs.Row.{Row, call, QuotientRow, quotient-call-of, ImageRow, FileRow, WriteRow, Writes}
+use Rattle.proved_table.specs.Row.{Row, call, QuotientRow, quotient-call-of, ImageRow, FileRow, WriteRow, Writes, PickRow, Sliced}
 
 -- The record that is answered, the terms that are written first in the output, and whether the work room is cleared or left as lent.
 -- A lent room may already hold what is right. So it is said with what the output and the work room begin; [] says nothing of them.
@@ -63,3 +65,15 @@ FileRefuted w = ¬ (w .found ≡ contents (read (w .row .bytes)))
 -- of the writer
 abbrev pub WriteRefuted : WriteRow → Type 0
 WriteRefuted w = ¬ Writes w
+
+-- of the picker, wherever the two lists lie
+abbrev pub PickRefuted : PickRow → Type 0
+PickRefuted w = (first second part : RefT (List ℕ)) → Sliced w first second part → ¬ ShorterPart first second part
+
+-- of the picker, where the two lists do not begin at one place: the terms may be right, and only the place tells whose they are
+abbrev pub PlaceRefuted : PickRow → Type 0
+PlaceRefuted w = (first second part : RefT (List ℕ)) → ¬ (first .ptr ≡ second .ptr) → Sliced w first second part → ¬ ShorterPart first second part
+
+-- of the picker that tells its part by list and number of terms
+abbrev pub HeadRefuted : PickRow → Type 0
+HeadRefuted w = ¬ ShorterHead (w .first-list) (w .second-list) (record { list = w .list; terms = length (w .terms) })

@@ -10,7 +10,7 @@ use Rattle.divisor.specs.Rule.{report}
 use Rattle.divisor.specs.Candidate.{refused-record}
 use Rattle.proved_table.specs.Row.{Row}
 use Rattle.proved_table.specs.Table.{term-xy, p1, p2, p4, p6, p7-terms, p10, p11, p12}
-use Rattle.proved_table.specs.MoreRows.{divides-first, divides-second, zeros-dropped}
+use Rattle.proved_table.specs.MoreRows.{divides-first, divides-second, zeros-dropped, first-lead-lost, second-lead-lost, first-value-lost}
 use Rattle.proved_table.specs.Wrong.{Wrong}
 
 abbrev pub WrongCandidate : Type 0
@@ -114,10 +114,27 @@ refusal-writes =
 abbrev pub bad-not-counted : WrongCandidate
 bad-not-counted = wrong-candidate p2 (report 12 (record { d = 0; bad = 0; unlucky = 0; kept = 0 }) 0) []
 
+-- a point is bad where the x-leading coefficient of the first list is 0, whatever the second has there
+abbrev pub bad-by-the-first : WrongCandidate
+bad-by-the-first = wrong-candidate first-lead-lost (report 12 (record { d = 0; bad = 1; unlucky = 0; kept = 0 }) 0) []
+
+-- where that of the second is 0
+abbrev pub bad-by-the-second : WrongCandidate
+bad-by-the-second = wrong-candidate second-lead-lost (report 12 (record { d = 0; bad = 1; unlucky = 0; kept = 0 }) 0) []
+
+-- a point where the first value is 0 is called bad; the divisor is right
+abbrev pub zero-called-bad : WrongCandidate
+zero-called-bad = wrong-candidate first-value-lost (report 0 (record { d = 1; bad = 1; unlucky = 0; kept = 1 }) 2) (first-value-lost .terms)
+
+-- there the image is said to be 1: d = 0 at y = 0, where the equations of x and 1 give 1
+abbrev pub zero-gives-one : WrongCandidate
+zero-gives-one = wrong-candidate first-value-lost (report 0 (record { d = 0; bad = 0; unlucky = 1; kept = 1 }) 1) (term-xy 1 0 0 ∷ [])
+
 abbrev pub wrong-results : List WrongCandidate
 wrong-results =
     refuses-all ∷ refuses-the-modulus ∷ always-one ∷ writes-nothing ∷ writes-one-term ∷ writes-past-the-count ∷ first-kept-point
     ∷ divides-only-first ∷ divides-only-second ∷ all-points-kept ∷ unlucky-counted-bad ∷ one-point-more
     ∷ multipliers-one ∷ determined-accepted ∷ first-degree-met ∷ equations-counted ∷ equations-counted-again ∷ division-as-values
     ∷ not-monic ∷ zeros-kept ∷ work-room-left ∷ refusal-writes ∷ bad-not-counted
+    ∷ bad-by-the-first ∷ bad-by-the-second ∷ zero-called-bad ∷ zero-gives-one
     ∷ []

@@ -3,15 +3,17 @@ use mathlib.Core.Bool.{true, false}
 use mathlib.Core.List.{List, [], _∷_}
 use Prim.Native.Nat.{ℕ}
 use lib.ListN.{length}
-use Rattle.field.specs.Numbers.{DOES_NOT_DIVIDE}
+use Rattle.field.specs.Numbers.{DOES_NOT_DIVIDE, NO_GOOD_POINT}
 use Rattle.field.specs.Refusal.{fault, none}
 use Rattle.poly.specs.declared.ImageRecord.{ImageRecord}
 use Rattle.poly.specs.declared.QuotientRecord.{QuotientRecord}
+use Rattle.poly.specs.ImageCall.{refused-image}
 use Rattle.case_file.specs.declared.Contents.{Contents}
 use Rattle.case_file.specs.Handed.{padded}
 use Rattle.proved_table.specs.Row.{QuotientRow, ImageRow, FileRow}
 use Rattle.proved_table.specs.Table.{term-xy, at}
 use Rattle.proved_table.specs.MoreRows.{f-over-e, e-over-f, k-over-e, a₂-over-factor, equal-as-values, image-bad, image-two, image-k, image-of-first}
+use Rattle.proved_table.specs.MoreRows.{image-of-second, image-first-lead-lost, image-second-lead-lost}
 use Rattle.proved_table.specs.MoreRows.{handed-back, reader-refuses, example-first, example-second, example-skeleton}
 use Rattle.proved_table.specs.MoreRows.{file-example, file-short, file-byte-more, file-cut-key, file-empty}
 use Rattle.proved_table.specs.Wrong.{Wrong, WrongRecord}
@@ -93,9 +95,25 @@ highest-first = wrong-image image-k 3 (1 ∷ 0 ∷ 0 ∷ 12 ∷ 0 ∷ 0 ∷ 0 �
 abbrev pub zero-for-the-image : WrongImage
 zero-for-the-image = wrong-image image-of-first 0 (0 ∷ 0 ∷ 0 ∷ 0 ∷ 0 ∷ 0 ∷ 0 ∷ 0 ∷ [])
 
+-- 12 where the x-leading coefficient of one list alone is 0, of the first and of the second
+abbrev pub refused-by-the-first : WrongImage
+refused-by-the-first = record { row = image-first-lead-lost; found = refused-image (fault NO_GOOD_POINT 0) }
+
+abbrev pub refused-by-the-second : WrongImage
+refused-by-the-second = record { row = image-second-lead-lost; found = refused-image (fault NO_GOOD_POINT 0) }
+
+-- the value 0 of the first list taken for the divisor
+abbrev pub zero-first-for-the-image : WrongImage
+zero-first-for-the-image = wrong-image image-of-second 0 (0 ∷ 0 ∷ 0 ∷ 0 ∷ 0 ∷ 0 ∷ 0 ∷ 0 ∷ [])
+
+-- the second value as it is, 3 x
+abbrev pub second-not-monic : WrongImage
+second-not-monic = wrong-image image-of-second 1 (0 ∷ 3 ∷ 0 ∷ 0 ∷ 0 ∷ 0 ∷ 0 ∷ 0 ∷ [])
+
 abbrev pub wrong-images : List WrongImage
 wrong-images =
-    image-not-monic ∷ not-greatest ∷ first-value ∷ bad-point-passes ∷ size-for-degree ∷ highest-first ∷ zero-for-the-image ∷ []
+    image-not-monic ∷ not-greatest ∷ first-value ∷ bad-point-passes ∷ size-for-degree ∷ highest-first ∷ zero-for-the-image
+    ∷ refused-by-the-first ∷ refused-by-the-second ∷ zero-first-for-the-image ∷ second-not-monic ∷ []
 
 abbrev pub WrongFile : Type 0
 WrongFile = WrongRecord FileRow Contents

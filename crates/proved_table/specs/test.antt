@@ -10,3 +10,5 @@ pub mod Writes
 pub mod WritesLaws
 pub mod WrongLaws
 pub mod Wrong
+pub mod Picks
+pub mod PicksLaws

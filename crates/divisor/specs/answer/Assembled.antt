@@ -23,7 +23,7 @@ use Rattle.poly.specs.Divides.{Divides}
 use Rattle.poly.specs.PointImage.{Image}
 use Rattle.field.specs.Lent.{written}
 use Rattle.poly.specs.Room.{cleared}
-use Rattle.poly.specs.image.Laws.{image-within}
+use Rattle.poly.specs.image.Laws.{image-small}
 use Rattle.divisor.specs.Rule.{Counts, none-good, report, Kept, Sorted, Unknowns, Solution, OnlySolution, without-zeros, made-monic, divisor}
 use Rattle.divisor.specs.Rule.{Verdict, unsolvable, several, rejected, accepted, all-bad, some-good}
 use Rattle.divisor.specs.Candidate.{Call, table, prime, Numbers, A, B, monomials, lent-points, Result, Candidate, answered}
@@ -36,7 +36,7 @@ use Rattle.divisor.specs.answer.Determined.{counts-add-up}
 use Rattle.divisor.specs.demand.Degree.{kept-images}
 use Rattle.divisor.specs.equations.Solutions.{no-solution, only-solution, several-solutions}
 use Rattle.divisor.specs.points.Seen.{points-length}
-use Rattle.divisor.specs.checks.Passed.{point-count, looks-of, first-small, skeleton-falls, looked}
+use Rattle.divisor.specs.checks.Passed.{point-count, looks-of, first-bounded, second-bounded, skeleton-falls, looked}
 use Rattle.divisor.specs.sorting.Laws.{AllZero, AtLeast, sorted, kept-count}
 use Rattle.divisor.specs.sorting.Laws as sorting
 use Rattle.divisor.specs.monic.Terms.{AllBelow, skeleton-of, divisor-numbers}
@@ -123,7 +123,7 @@ module _ (c : Call) (pass : Passes (table c)) (listed : Listed (c .modulus)) whe
 
     degree-small : d < 8
     degree-small =
-        omega (arith, image-within (Numbers c listed) (A c listed) (B c listed) (k .point) d (k .image) 7 (first-small c pass listed) image)
+        image-small (Numbers c listed) (A c listed) (B c listed) (k .point) d (k .image) (first-bounded c pass listed) (second-bounded c pass listed) image
 
     -- as many unknowns as the skeleton has keys and there are kept points after the first
     abbrev pub unknowns : ℕ

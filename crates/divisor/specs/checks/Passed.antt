@@ -13,8 +13,8 @@ use Rattle.poly.specs.declared.PointImage.{PointImage}
 use Rattle.poly.specs.Keys.{keys}
 use Rattle.poly.specs.Lists.{Count, WrongKey, above, WrongNumber, of-lists}
 use Rattle.poly.specs.Room.{of-rooms, work-room}
-use Rattle.poly.specs.value.Laws.{WithinX}
-use Rattle.poly.specs.list.Laws.{none-wrong, FallFrom, keys-fall, falling-small}
+use Rattle.poly.specs.value.Laws.{Bounded}
+use Rattle.poly.specs.list.Laws.{none-wrong, FallFrom, keys-fall, falling-bounded}
 use Rattle.poly.specs.points.Check.{numbers-below}
 use Rattle.poly.specs.list.Right.{RightLists, lists-are-right}
 use Rattle.divisor.specs.Candidate.{most-keys, most-points, most-point-numbers, Call, table, prime, Numbers, A, B, lent-points, of-skeleton, of-points}
@@ -56,9 +56,12 @@ module _ (c : Call) (pass : Passes (table c)) where
   pub right-lists : RightLists (c .modulus) (c .first-list) (c .second-list)
   right-lists = lists-are-right (c .modulus) (c .first-list) (c .second-list) lists-pass
 
-  -- no power of x in the first list is above 7
-  pub first-small : (listed : Listed (c .modulus)) → WithinX (Numbers c listed) 7 (A c listed)
-  first-small listed = falling-small (c .modulus) (prime c listed) (c .first-list) (right-lists .first .falls)
+  -- no power of x in a list is above its first term's, nor above 7
+  pub first-bounded : (listed : Listed (c .modulus)) → Bounded (Numbers c listed) (A c listed)
+  first-bounded listed = falling-bounded (c .modulus) (prime c listed) (c .first-list) (right-lists .first .falls)
+
+  pub second-bounded : (listed : Listed (c .modulus)) → Bounded (Numbers c listed) (B c listed)
+  second-bounded listed = falling-bounded (c .modulus) (prime c listed) (c .second-list) (right-lists .second .falls)
 
   pub keys-most : length (c .skeleton) ≤ most-keys
   keys-most = let n : ¬ (most-keys < length (c .skeleton)) = λ l. never-placed (rest .0) (inr l) in omega arith

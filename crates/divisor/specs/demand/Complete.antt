@@ -17,10 +17,10 @@ use Rattle.algebra.specs.Laws.Solver.{_⊗_, _≗_, ring3}
 use Rattle.algebra.specs.Laws.SameDegree.{same-degree-multiple}
 use Rattle.algebra.specs.Laws.Divides.{div-from}
 use Rattle.poly.specs.Terms.{Polynomial}
-use Rattle.poly.specs.PointValue.{Point, value, x-degree}
+use Rattle.poly.specs.PointValue.{Point, value}
 use Rattle.poly.specs.PointImage.{Image}
 use Rattle.poly.specs.image.Laws.{image-top}
-use Rattle.poly.specs.value.Laws.{polynomial-finite, value-finite, value-of-polynomial, WithinX}
+use Rattle.poly.specs.value.Laws.{polynomial-finite, value-finite, value-of-polynomial, Bounded}
 use Rattle.divisor.specs.Rule.{report, DividesBoth, Kept, Sorted, Unknowns, Equations, Solution, OnlySolution, without-zeros, divided-by}
 use Rattle.divisor.specs.Rule.{made-monic, divisor, Verdict, accepted, RuleAnswer, some-good}
 use Rattle.divisor.specs.Demands.{DegreeX}
@@ -28,7 +28,7 @@ use Rattle.divisor.specs.monic.Value.{value-divided}
 use Rattle.divisor.specs.monic.Laws.{monic-of-multiple, monic-divides, divided-monomials}
 use Rattle.divisor.specs.demand.Degree.{divisor-at-good-point, value-divides-image, Images, kept-images}
 
-module _ (K : Field) (A B : Polynomial K) (within : WithinX K (x-degree (K .ring) A) A) where
+module _ (K : Field) (A B : Polynomial K) (first : Bounded K A) (second : Bounded K B) where
   open Field K using (ring as R)
   open CommRing R using (Car, mul as _*_)
 
@@ -37,7 +37,7 @@ module _ (K : Field) (A B : Polynomial K) (within : WithinX K (x-degree (K .ring
     -- at a kept point the value of C has the degree d
     value-top : (at : Point R) (U : Seq R) → Image K A B at d U → Top R d (value R C at)
     value-top at U i = subst (Top R d) (value-of-polynomial K C at (polynomial-finite K C))
-        (divisor-at-good-point K A B within at (i .good) (polynomial R C) (polynomial-finite K C) (both .0) d degree)
+        (divisor-at-good-point K A B first second at (i .good) (polynomial R C) (polynomial-finite K C) (both .0) (both .1) d degree)
 
     -- and so it is its leading coefficient times the image
     value-is-multiple : (at : Point R) (U : Seq R) → Image K A B at d U
@@ -45,7 +45,7 @@ module _ (K : Field) (A B : Polynomial K) (within : WithinX K (x-degree (K .ring
     value-is-multiple at U i n =
         let m = same-degree-multiple R (domain K) d (value R C at) U (value-finite K C at) (value-top at U i) (image-top K A B at d U i)
         (div-from (SeriesR R) (SeriesD R (domain K)) _ _ U (value-of-polynomial K C at (polynomial-finite K C))
-        (value-divides-image K A B within at d U i (polynomial R C) (polynomial-finite K C) (both .0) (both .1))) in
+        (value-divides-image K A B first second at d U i (polynomial R C) (polynomial-finite K C) (both .0) (both .1))) in
         sym (one-mul R _) ∙ ap (_* value R C at n) (sym (m .1 d ∙ i .monic .leads))
         ∙ ring3 R (λ c e v. c ⊗ e ⊗ v ≗ e ⊗ (c ⊗ v)) tt (m .0) (value R C at d) (value R C at n) ∙ ap (value R C at d *_) (m .1 n)
 

@@ -21,9 +21,9 @@ use Rattle.algebra.specs.Laws.Evaluation.{value-null}
 use Rattle.poly.specs.Terms.{Polynomial}
 use Rattle.poly.specs.PointValue.{Point, value, x-degree}
 use Rattle.poly.specs.Divides.{Divides, DividesX}
-use Rattle.poly.specs.PointImage.{Bad, Image}
-use Rattle.poly.specs.image.Laws.{image-within}
-use Rattle.poly.specs.value.Laws.{polynomial-finite, valued, value-of-polynomial, WithinX, polynomial-ends}
+use Rattle.poly.specs.PointImage.{LeadVanishes, Bad, Image}
+use Rattle.poly.specs.image.Laws.{good-keeps, image-small}
+use Rattle.poly.specs.value.Laws.{polynomial-finite, valued, value-of-polynomial, Bounded, polynomial-ends}
 use Rattle.divisor.specs.declared.CandidateRecord.{CandidateRecord}
 use Rattle.divisor.specs.Rule.{DividesBoth, Kept, Sorted, done, bad, unlucky, keep, First, Equations, Unknowns, Solution, without-zeros}
 use Rattle.divisor.specs.Rule.{divisor, unsolvable, several, rejected, accepted, RuleAnswer, all-bad, some-good}
@@ -35,15 +35,23 @@ module _ (K : Field) where
   open CommRing R using (Car, 𝟘, 𝟙, mul as _*_)
 
   infixl 70 _*_
-  module _ (A B : Polynomial K) (within : WithinX K (x-degree R A) A) where
-    -- at a good point a divisor of A keeps its degree
+  -- where the x-leading coefficient of f is not 0, a divisor of f keeps its degree
+  divisor-keeps : (f : Polynomial K) → Bounded K f → (at : Point R) → ¬ LeadVanishes K f at → (H : S4 R .Car) (fin : IsPolynomial K H)
+      → Divides K H (polynomial R f) → (h : ℕ) → DegreeX K h H → Top R h (valued K at .fn H fin)
+  divisor-keeps f bounded at keeps H fin d h top =
+      divisor-keeps-degree (at-yzw R (domain K) (at .y) (at .z) (at .w) tt tt tt) (x-degree R f) h (polynomial R f) H (polynomial-finite K f) fin d
+      (polynomial-ends K (x-degree R f) f (bounded .by-first))
+      (λ e. keeps (sym (ap (λ (u : Seq R). u (x-degree R f)) (value-of-polynomial K f at (polynomial-finite K f))) ∙ e))
+      top
+
+  module _ (A B : Polynomial K) (first : Bounded K A) (second : Bounded K B) where
+    -- at a good point a common divisor keeps its degree: it divides the one whose x-leading coefficient is not 0
     pub divisor-at-good-point : (at : Point R) → ¬ Bad K A B at → (H : S4 R .Car) (fin : IsPolynomial K H)
-        → Divides K H (polynomial R A) → (h : ℕ) → DegreeX K h H → Top R h (valued K at .fn H fin)
-    divisor-at-good-point at good H fin d h top =
-        divisor-keeps-degree (at-yzw R (domain K) (at .y) (at .z) (at .w) tt tt tt) (x-degree R A) h (polynomial R A) H (polynomial-finite K A) fin d
-        (polynomial-ends K (x-degree R A) A within)
-        (λ e. good (sym (ap (λ (u : Seq R). u (x-degree R A)) (value-of-polynomial K A at (polynomial-finite K A))) ∙ e))
-        top
+        → Divides K H (polynomial R A) → Divides K H (polynomial R B) → (h : ℕ) → DegreeX K h H → Top R h (valued K at .fn H fin)
+    divisor-at-good-point at good H fin dA dB h top = elim (good-keeps K A B at good) [
+      | inl a ↦ divisor-keeps A first at a H fin dA h top
+      | inr b ↦ divisor-keeps B second at b H fin dB h top
+    ]
 
     -- the value of a common divisor divides the image
     pub value-divides-image : (at : Point R) (d : ℕ) (U : Seq R) → Image K A B at d U → (H : S4 R .Car) (fin : IsPolynomial K H)
@@ -63,7 +71,7 @@ module _ (K : Field) where
     common-divisor-degree at d U image H fin dA dB h top =
         let below = div-top R (domain K) d (valued K at .fn H fin) U (valued K at .keeps H fin) (value-divides-image at d U image H fin dA dB)
         (record { nonzero = λ e. K .one≢0 (sym (image .monic .leads) ∙ e); ends = image .monic .ends }) in
-        let l : h ≤ below .0 = top-le R h (below .0) (valued K at .fn H fin) (divisor-at-good-point at (image .good) H fin dA h top) (below .2) in
+        let l : h ≤ below .0 = top-le R h (below .0) (valued K at .fn H fin) (divisor-at-good-point at (image .good) H fin dA dB h top) (below .2) in
         let m : below .0 ≤ d = below .1 in
         omega arith
 
@@ -95,18 +103,18 @@ module _ (K : Field) where
   kept-images A B d points b u ks (keep U i s) = (i, kept-images A B d _ b u _ s)
 
   -- G itself is a common divisor, so its degree is d
-  accepted-degree : (A B : Polynomial K) (monomials : List Exponents) (points : List (Point R)) → WithinX K (x-degree R A) A → WithinX K 7 A
+  accepted-degree : (A B : Polynomial K) (monomials : List Exponents) (points : List (Point R)) → Bounded K A → Bounded K B
       → (d b u : ℕ) (k : Kept K) (kept : List (Kept K)) → Sorted K A B d points b u (k ∷ kept)
       → (s : Unknowns K) → Solution K monomials (k ∷ kept) s → DividesBoth K A B (divisor K s) → GreatestInX K A B (divisor K s) d
-  accepted-degree A B monomials points w small d b u k kept sorted s solution both =
+  accepted-degree A B monomials points first second d b u k kept sorted s solution both =
       let S3 = SeriesR (SeriesR (SeriesR R)) in
       let G = polynomial R (divisor K s) in
       let fin = polynomial-finite K (divisor K s) in
       let image = kept-images A B d points b u (k ∷ kept) sorted .0 in
-      let greatest = common-divisor-degree A B w (k .point) d (k .image) image in
+      let greatest = common-divisor-degree A B first second (k .point) d (k .image) image in
       -- the coefficient beside x^d is not 0, since its value is not
       let beside : ¬ (G d ≡ S3 .𝟘) = λ e.
-      divisor-at-first monomials k kept s solution d (omega (arith, image-within K A B (k .point) d (k .image) 7 small image)) (image .monic .leads)
+      divisor-at-first monomials k kept s solution d (image-small K A B (k .point) d (k .image) first second image) (image .monic .leads)
       (sym (ap (λ (v : Seq R). v d) (value-of-polynomial K (divisor K s) (k .point) fin))
       ∙ value-null (at-yzw R (domain K) (k .point .y) (k .point .z) (k .point .w) tt tt tt) (fin .coef d) e) in
       record {
@@ -123,14 +131,14 @@ module _ (K : Field) where
       }
 
   -- DEMAND 3, first half
-  pub accepted-greatest : (A B : Polynomial K) (monomials : List Exponents) (points : List (Point R)) → WithinX K (x-degree R A) A → WithinX K 7 A
+  pub accepted-greatest : (A B : Polynomial K) (monomials : List Exponents) (points : List (Point R)) → Bounded K A → Bounded K B
       → (r : CandidateRecord) (G : Polynomial K) → RuleAnswer K A B monomials points r G → r .fault .number ≡ 0 → GreatestInX K A B G (r .degree)
-  accepted-greatest A B monomials points w small r G (all-bad all) e = absurd (omega arith)
-  accepted-greatest A B monomials points w small r G (some-good d b u k kept sorted n H (unsolvable z)) e =
+  accepted-greatest A B monomials points first second r G (all-bad all) e = absurd (omega arith)
+  accepted-greatest A B monomials points first second r G (some-good d b u k kept sorted n H (unsolvable z)) e =
       absurd (omega arith)
-  accepted-greatest A B monomials points w small r G (some-good d b u k kept sorted n H (several s)) e =
+  accepted-greatest A B monomials points first second r G (some-good d b u k kept sorted n H (several s)) e =
       absurd (omega arith)
-  accepted-greatest A B monomials points w small r G (some-good d b u k kept sorted n H (rejected s only x)) e =
+  accepted-greatest A B monomials points first second r G (some-good d b u k kept sorted n H (rejected s only x)) e =
       absurd (omega arith)
-  accepted-greatest A B monomials points w small r G (some-good d b u k kept sorted n H (accepted s only both)) e =
-      accepted-degree A B monomials points w small d b u k kept sorted s (only .0) both
+  accepted-greatest A B monomials points first second r G (some-good d b u k kept sorted n H (accepted s only both)) e =
+      accepted-degree A B monomials points first second d b u k kept sorted s (only .0) both

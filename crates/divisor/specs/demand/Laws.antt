@@ -5,32 +5,22 @@ use Prim.Native.Nat.{ℕ, _≤_, _<_}
 use native.Mathlib.Omega.{arith}
 use Rattle.algebra.specs.SeriesRing.{S4}
 use Rattle.algebra.specs.Monomial.{polynomial}
-use Rattle.field.specs.Moduli.{Listed}
-use Rattle.field.specs.Refusal.{Passes}
 use Rattle.field.specs.faults.Laws.{refuses-numbered}
 use Rattle.poly.specs.Keys.{exponents, keys}
 use Rattle.poly.specs.Terms.{Polynomial}
-use Rattle.poly.specs.PointValue.{x-degree}
 use Rattle.poly.specs.Divides.{Divides}
 use Rattle.poly.specs.key.Laws.{exponents-order}
-use Rattle.poly.specs.list.Laws.{FallFrom, falling-within}
-use Rattle.poly.specs.value.Laws.{WithinX}
+use Rattle.poly.specs.list.Laws.{FallFrom}
 use Rattle.divisor.specs.Rule.{without-zeros, made-monic}
-use Rattle.divisor.specs.Candidate.{Call, table, prime, Numbers, A, B, monomials, lent-points, handed-out, Result, Candidate, refused, answered}
+use Rattle.divisor.specs.Candidate.{Call, table, Numbers, A, B, monomials, lent-points, handed-out, Result, Candidate, refused, answered}
 use Rattle.divisor.specs.Demands.{DegreeX, GreatestInX, MadeMonic, AcceptedIsGreatest, CommonDivisorComesOut}
-use Rattle.divisor.specs.checks.Passed.{right-lists, first-small, skeleton-falls}
+use Rattle.divisor.specs.checks.Passed.{first-bounded, second-bounded, skeleton-falls}
 use Rattle.divisor.specs.monic.Laws.{monic-is-made-monic}
 use Rattle.divisor.specs.demand.Degree.{accepted-greatest}
 use Rattle.divisor.specs.answer.CandidateDetermined.{candidate-determined}
 use Rattle.divisor.specs.demand.Proposed.{Under, FallingMonomials, terms-at, terms-at-monomials, polynomial-of-terms-at}
 use Rattle.divisor.specs.demand.Complete.{common-divisor-found}
 use Rattle.divisor.specs.verdict.Output.{answered-output}
-
--- no power of x in a first list that passes is above the first term's
-first-within : (c : Call) → Passes (table c) → (listed : Listed (c .modulus))
-    → WithinX (Numbers c listed) (x-degree (Numbers c listed .ring) (A c listed)) (A c listed)
-first-within c pass listed =
-    falling-within (c .modulus) (prime c listed) keys (c .first-list) (right-lists c pass .first .falls)
 
 -- DEMAND 3, first half
 pub accepted-is-greatest : (c : Call) (r : Result) → Candidate c r → AcceptedIsGreatest c r
@@ -40,7 +30,7 @@ accepted-is-greatest c r (answered pass listed f G x) e = (
   subst (λ (H : Polynomial (Numbers c listed)). GreatestInX (Numbers c listed) (A c listed) (B c listed) H (f .degree))
       (sym (answered-output c listed f G x))
       (accepted-greatest (Numbers c listed) (A c listed) (B c listed) (monomials c listed) (lent-points c listed)
-      (first-within c pass listed) (first-small c pass listed) f G x e),
+      (first-bounded c pass listed) (second-bounded c pass listed) f G x e),
 )
 
 -- keys that fall have monomials that fall
@@ -63,7 +53,7 @@ common-divisor-comes-out c r meets pass listed d b u k kept sorted s only C fin 
     let of-L = polynomial-of-terms-at F (monomials c listed) (keys-falling keys (c .skeleton) (skeleton-falls c pass)) C proposed in
     let divides-both =
     subst (λ (f : S4 (F .ring) .Car). Divides F f (polynomial (F .ring) (A c listed)) × Divides F f (polynomial (F .ring) (B c listed))) (sym of-L) (dA, dB) in
-    let answer = common-divisor-found F (A c listed) (B c listed) (first-within c pass listed)
+    let answer = common-divisor-found F (A c listed) (B c listed) (first-bounded c pass listed) (second-bounded c pass listed)
     L divides-both d (subst (DegreeX F d) (sym of-L) degree) (monomials c listed) (terms-at-monomials F (monomials c listed) C)
     (lent-points c listed) b u k kept sorted s only in
     let same = candidate-determined c _ r (answered pass listed _ _ answer) meets in

@@ -21,7 +21,7 @@ use Rattle.divisor.specs.Repeated.{once-more, again, lines-before-points
 use Rattle.divisor.specs.twice.Equations.{Inserted, here, there, Again, behind, later}
 use Rattle.divisor.specs.twice.Rule.{repeated-point}
 use Rattle.divisor.specs.points.Parts.{part-length}
-use Rattle.divisor.specs.checks.Passed.{first-small, right-points}
+use Rattle.divisor.specs.checks.Passed.{first-bounded, second-bounded, right-points}
 use Rattle.divisor.specs.answer.CandidateDetermined.{candidate-determined}
 
 -- three numbers put in between points are a point put in
@@ -123,7 +123,8 @@ module _ (c : Call) (i j : ℕ) (k : i < j) (h : 3 * j ≤ length (c .points)) w
   alike : (r r′ : Result) → Candidate c r → Candidate (again c i j) r′ → Passes (table (again c i j)) → AlikeButOne c i r r′
   alike r r′ (refused f x) meets pass = absurd (not-passes-and-refuses (table c) f (passes pass) x)
   alike r r′ (answered own listed f G x) meets pass =
-      let q = repeated-point (Numbers c listed) (A c listed) (B c listed) (first-small c own listed) (monomials c listed)
+      let q = repeated-point (Numbers c listed) (A c listed) (B c listed) (first-bounded c own listed) (second-bounded c own listed)
+      (monomials c listed)
       (points-again (c .modulus) (prime c listed) i j k (c .points) h) f G x in
       subst (λ (t : Result). AlikeButOne c i r t)
       (candidate-determined (again c i j) _ r′ (answered pass listed (q .found) G (q .answer)) meets)

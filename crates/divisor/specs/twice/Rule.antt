@@ -12,8 +12,8 @@ use Rattle.field.specs.Numbers.{NO_GOOD_POINT}
 use Rattle.poly.specs.Terms.{Polynomial}
 use Rattle.poly.specs.PointValue.{Point}
 use Rattle.poly.specs.PointImage.{Bad, Image}
-use Rattle.poly.specs.value.Laws.{WithinX}
-use Rattle.poly.specs.image.Laws.{image-within}
+use Rattle.poly.specs.value.Laws.{Bounded}
+use Rattle.poly.specs.image.Laws.{image-small}
 use Rattle.divisor.specs.declared.CandidateRecord.{CandidateRecord}
 use Rattle.divisor.specs.Rule.{none-good, report, Kept, Sorted, bad, unlucky, keep, AllBad, RuleAnswer, all-bad, some-good}
 use Rattle.divisor.specs.Repeated.{OneMore, one-bad, one-unlucky, one-kept}
@@ -97,15 +97,15 @@ module _ (K : Field) (A B : Polynomial K) where
     pub answer : RuleAnswer K A B es points found G
     pub one-more : OneMore K A B at r found
 
-  pub repeated-point : WithinX K 7 A → (es : List Exponents) {at : Point R} {ps qs : List (Point R)} → Again at ps qs
+  pub repeated-point : Bounded K A → Bounded K B → (es : List Exponents) {at : Point R} {ps qs : List (Point R)} → Again at ps qs
       → (r : CandidateRecord) (G : Polynomial K) → RuleAnswer K A B es ps r G → AnsweredAlike es at qs r G
-  repeated-point small es {at} {ps} {qs} a r G (all-bad h) = record {
+  repeated-point first second es {at} {ps} {qs} a r G (all-bad h) = record {
     found = report NO_GOOD_POINT (none-good (length qs)) 0;
     answer = all-bad (bad-again a h);
     one-more = subst (λ (n : ℕ). OneMore K A B at (report NO_GOOD_POINT (none-good (length ps)) 0) (report NO_GOOD_POINT (none-good n) 0))
         (sym (again-length a)) (one-bad (bad-there a h));
   }
-  repeated-point small es {at} {ps} {qs} a r G (some-good d b u k kept s n H v) =
+  repeated-point first second es {at} {ps} {qs} a r G (some-good d b u k kept s n H v) =
       let t = sorted-again d a s in go (t .0) (t .1) (t .2) (t .3) (t .4)
     where
       told : ℕ → CandidateRecord
@@ -120,7 +120,7 @@ module _ (K : Field) (A B : Polynomial K) where
       kept-once-more (l ∷ ls) U i q t = record {
         found = told (length (l ∷ ls));
         answer = some-good d b u l ls t n H
-            (repeated-verdict K A B es q d (omega (arith, image-within K A B at d U 7 small i)) (i .monic .leads) n H .0 v);
+            (repeated-verdict K A B es q d (image-small K A B at d U first second i) (i .monic .leads) n H .0 v);
         one-more = subst (λ (m : ℕ). OneMore K A B at before (told m)) (sym (again-length q)) (one-kept U i);
       }
 

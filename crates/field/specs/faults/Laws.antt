@@ -77,9 +77,15 @@ refuses-front [] back f h = absurd h
 refuses-front (l ∷ front) back f (inl h) = inl h
 refuses-front (l ∷ front) back f (inr h) = inr (h .0, refuses-front front back f (h .1))
 
-refuses-back : (front back : List Line) (f : Fault) → Passes front → Refuses back f → Refuses (front ++ back) f
+pub refuses-back : (front back : List Line) (f : Fault) → Passes front → Refuses back f → Refuses (front ++ back) f
 refuses-back [] back f h k = k
 refuses-back (l ∷ front) back f h k = inr (h .0, refuses-back front back f (h .1) k)
+
+-- what refuses is the back, where the front passes
+pub refuses-behind : (front back : List Line) (f : Fault) → Passes front → Refuses (front ++ back) f → Refuses back f
+refuses-behind [] back f h k = k
+refuses-behind (l ∷ front) back f h (inl k) = absurd (h .0 (k .0) (k .2))
+refuses-behind (l ∷ front) back f h (inr k) = refuses-behind front back f (h .1) (k .1)
 
 pub passes-append : (front back : List Line) → Passes front → Passes back → Passes (front ++ back)
 passes-append [] back h k = k

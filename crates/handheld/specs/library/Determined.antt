@@ -8,10 +8,12 @@ use Rattle.field.specs.Refusal.{Tested}
 use Rattle.field.specs.Arithmetic.{AskSum, AskDifference, AskProduct, AskInverse}
 use Rattle.field.specs.services.Laws.{sum-determined, difference-determined, product-determined, inverse-determined}
 use Rattle.poly.specs.LeadingPart.{of-list, LeadingTerms}
+use Rattle.poly.specs.ShorterPart.{of-two-lists, ShorterHead}
 use Rattle.poly.specs.QuotientCall.{QuotientCall, Quotient}
 use Rattle.poly.specs.ImageCall.{ImageCall, ImageAnswer}
-use Rattle.poly.specs.list.Check.{list-check-determined}
+use Rattle.poly.specs.list.Check.{list-check-determined, two-lists-check-determined}
 use Rattle.poly.specs.list.Leading.{leading-terms-determined}
+use Rattle.poly.specs.list.Shorter.{shorter-head-determined}
 use Rattle.poly.specs.quotient.Laws.{quotient-determined}
 use Rattle.poly.specs.image.Call.{image-determined}
 use Rattle.divisor.specs.Candidate.{Call, Candidate}
@@ -20,7 +22,7 @@ use Rattle.case_file.specs.Reading.{read}
 use Rattle.case_file.specs.Handed.{contents}
 use Rattle.case_file.specs.WriteCall.{WriteCall, Write}
 use Rattle.case_file.specs.writer.Determined.{write-determined}
-use Rattle.handheld.specs.Layout.{Laid, laid, of-fault, of-answer, of-quotient, of-candidate, of-image, of-contents, of-write}
+use Rattle.handheld.specs.Layout.{Laid, laid, of-fault, of-picked, of-answer, of-quotient, of-candidate, of-image, of-contents, of-write}
 
 -- two results that meet one contract are equal
 abbrev pub Determined : {Found Left : Type 0} → (Found → Left) → (Found → Type 0) → Type 0
@@ -44,6 +46,13 @@ leading-length-determined terms = laid-determined length (LeadingTerms terms) (l
 
 pub check-numbers-determined : (terms : List ℕ) → Determined of-fault (Tested (of-list terms))
 check-numbers-determined terms = laid-determined of-fault (Tested (of-list terms)) (list-check-determined terms)
+
+pub shorter-numbers-determined : (first second : List ℕ) → Determined of-picked (ShorterHead first second)
+shorter-numbers-determined first second = laid-determined of-picked (ShorterHead first second) (λ r q h k. shorter-head-determined h k)
+
+pub check-both-numbers-determined : (first second : List ℕ) → Determined of-fault (Tested (of-two-lists first second))
+check-both-numbers-determined first second =
+    laid-determined of-fault (Tested (of-two-lists first second)) (two-lists-check-determined first second)
 
 pub sum-numbers-determined : (a b : Element) → Determined of-answer (AskSum a b)
 sum-numbers-determined a b = laid-determined of-answer (AskSum a b) (sum-determined a b)

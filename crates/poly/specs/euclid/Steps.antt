@@ -1,5 +1,5 @@
 -- What the code's steps on eight numbers ask for.
-use Prim.Native.Nat.{ℕ, _<_}
+use Prim.Native.Nat.{ℕ, _+_, _<_}
 use mathlib.Core.List.{List}
 use mathlib.Core.Path.{_≡_}
 use lib.ListN.{length, getD}
@@ -25,9 +25,9 @@ pub record Reducible (p m : ℕ) (f : List ℕ) : Type 0 where
   pub numbers : Eight p f
   pub degree : m < 8
 
--- two polynomials of which the first is not 0
+-- two polynomials that are not both 0
 pub record Pair (p : ℕ) (a b : List ℕ) : Type 0 where
   pub is-listed : Listed p
   pub first : Eight p a
   pub second : Eight p b
-  pub nonzero : 0 < size a
+  pub not-both : 0 < size a + size b

@@ -1,10 +1,13 @@
 -- The model of the image gives the image: its values are the values, and Euclid's algorithm gives their monic greatest common divisor.
 use mathlib.Core.Path.{_≡_, refl, sym, ap, _∙_, subst}
+use mathlib.Core.Bool.{Bool, true, false, _&&_, true≢false}
 use mathlib.Core.List.{List, [], _∷_}
-use Prim.Native.Nat.{ℕ, suc, _-_, _<_}
+use mathlib.Mathlib.Data.Bool.Basic.{and-elim-left, and-elim-right}
+use Prim.Native.Nat.{ℕ, suc, _+_, _-_, _<_}
 use native.Mathlib.Decide.{ℕ-discrete}
 use native.Mathlib.Omega.{arith}
-use borrow.Author.Tests.{eq-eqb, ne-eqb}
+use lib.Dec.{eqb}
+use borrow.Author.Tests.{eqb-true, eqb-false}
 use lib.ListN.{length, getD}
 use Rattle.field.specs.Prime.{Prime}
 use Rattle.field.specs.modulus.Prime.{prime-positive}
@@ -14,14 +17,14 @@ use Rattle.field.specs.Modulo.{Modulo}
 use Rattle.poly.specs.Keys.{keys}
 use Rattle.poly.specs.Terms.{key-of, terms-of}
 use Rattle.poly.specs.PointValue.{value, x-degree}
-use Rattle.poly.specs.PointImage.{Image}
+use Rattle.poly.specs.PointImage.{Bad, Image}
 use Rattle.poly.specs.LeadingPart.{x-of}
 use Rattle.poly.specs.Coefficients.{Eight, series}
 use Rattle.poly.specs.ImageCall.{point-of, PointAnswer, bad, good}
 use Rattle.poly.specs.value.PowersModel.{powers}
 use Rattle.poly.specs.value.Model.{CanEvaluate, value-of}
 use Rattle.poly.specs.euclid.Model.{size, gcd}
-use Rattle.poly.specs.image.Model.{value-at, no-image, sized, image-of-values, image-of}
+use Rattle.poly.specs.image.Model.{value-at, no-image, sized, leading-number, HasLeading, image-of-values, image-of}
 use Rattle.poly.specs.value.PowersLaws.{powers-eight}
 use Rattle.poly.specs.euclid.Numbers.{eight-clear, size-clear}
 use Rattle.poly.specs.euclid.Meaning.{clear-ends}
@@ -31,19 +34,39 @@ use Rattle.poly.specs.value.Meaning.{value-of-series}
 use Rattle.poly.specs.list.Falling.{falling-key, falling-coefficient}
 use Rattle.poly.specs.list.Right.{RightList}
 
--- what the code's test of a's number at x settles
-pub values-bad : (p x : ℕ) (a b : List ℕ) → getD a x 0 ≡ 0 → image-of-values p x a b ≡ no-image
-unfolding image-of-values
-values-bad p x a b e = rw (eq-eqb (getD a x 0) 0 e, image-of-values)
+-- what the code's test of the leading numbers settles
+module _ (m n : ℕ) where
+  both-zero : (eqb m 0 && eqb n 0) ≡ true → (m ≡ 0) × (n ≡ 0)
+  both-zero e = (eqb-true m 0 (and-elim-left _ _ e), eqb-true n 0 (and-elim-right (eqb m 0) _ e))
 
-pub values-good : (p x : ℕ) (a b : List ℕ) → ¬ (getD a x 0 ≡ 0) → image-of-values p x a b ≡ sized (gcd p a b)
-unfolding image-of-values
-values-good p x a b n = rw (ne-eqb (getD a x 0) 0 n, image-of-values)
+  pub not-both-zero : (eqb m 0 && eqb n 0) ≡ false → 0 < m + n
+  not-both-zero = go _ _ refl refl
+    where
+      go : (x y : Bool) → eqb m 0 ≡ x → eqb n 0 ≡ y → (x && y) ≡ false → 0 < m + n
+      go false y ex ey e = let q = eqb-false m 0 ex in omega arith
+      go true false ex ey e = let q = eqb-false n 0 ey in omega arith
+      go true true ex ey e = absurd (true≢false e)
 
--- a number that is not 0 gives a size
-pub size-positive : (p x : ℕ) (a : List ℕ) → Eight p a → ¬ (getD a x 0 ≡ 0) → 0 < size a
+  module _ (p : ℕ) (a b : List ℕ) where
+    pub values-bad : (eqb m 0 && eqb n 0) ≡ true → image-of-values p m n a b ≡ no-image
+    unfolding image-of-values
+    values-bad e = rw (e, image-of-values)
+
+    pub values-good : (eqb m 0 && eqb n 0) ≡ false → image-of-values p m n a b ≡ sized (gcd p a b)
+    unfolding image-of-values
+    values-good e = rw (e, image-of-values)
+
+-- a number that is not 0 gives a size, and so does one of two
+size-positive : (p x : ℕ) (a : List ℕ) → Eight p a → ¬ (getD a x 0 ≡ 0) → 0 < size a
 size-positive p x a h n =
     elim (ℕ-discrete (size a) 0) [ yes e ↦ absurd (n (size-clear 8 a (eight-clear p a h) x (omega arith))) | no q ↦ omega arith ]
+
+pub sizes-positive : (p x y : ℕ) (a b : List ℕ) → Eight p a → Eight p b → 0 < getD a x 0 + getD b y 0 → 0 < size a + size b
+sizes-positive p x y a b ha hb l =
+    elim (ℕ-discrete (getD a x 0) 0) [
+      | yes e ↦ let s = size-positive p y b hb (λ z. omega arith) in omega arith
+      | no q ↦ let s = size-positive p x a ha q in omega arith
+    ]
 
 -- with the tables that the code has worked
 module _ (p : ℕ) (point ys zs ws : List ℕ) (y : ys ≡ powers p (getD point 0 0)) (z : zs ≡ powers p (getD point 1 0))
@@ -62,8 +85,11 @@ module _ (p : ℕ) (point ys zs ws : List ℕ) (y : ys ≡ powers p (getD point 
   unfolding value-at
   value-by-tables ts = λ i. value-of p (y i) (z i) (w i) ts
 
-pub first-power-small : (p : ℕ) (ts : List ℕ) → RightList p ts → x-of (getD ts 0 0) < 8
-first-power-small p ts h = let k : key-of (getD ts 0 0) < keys = falling-key p keys ts (h .falls) 0 (h .some) in omega arith
+pub right-has-leading : (p : ℕ) (ts : List ℕ) → RightList p ts → HasLeading ts
+right-has-leading p ts h = record {
+  some = h .some;
+  power = let k : key-of (getD ts 0 0) < keys = falling-key p keys ts (h .falls) 0 (h .some) in omega arith;
+}
 
 module _ {p : ℕ} (P : Prime p) (point : List ℕ) where
   -- the value of a list at the point
@@ -84,6 +110,10 @@ module _ {p : ℕ} (P : Prime p) (point : List ℕ) where
   first-power [] l = absurd (omega arith)
   first-power (t ∷ ts) l = refl
 
+  -- the number that the code tests is the x-leading coefficient at the point
+  leading : (ts : List ℕ) → RightList p ts → el p (leading-number ts (value-at p point ts)) ≡ value-there ts (x-degree (Modulo p P .ring) (terms-of p P ts))
+  leading ts h = ap (λ (f : ℕ → Fp p). f (x-of (getD ts 0 0))) (value-at-series ts h) ∙ ap (value-there ts) (sym (first-power ts (h .some)))
+
   module _ (A B : List ℕ) (hA : RightList p A) (hB : RightList p B) where
     abbrev a : List ℕ
     a = value-at p point A
@@ -91,30 +121,35 @@ module _ {p : ℕ} (P : Prime p) (point : List ℕ) where
     abbrev b : List ℕ
     b = value-at p point B
 
-    abbrev x : ℕ
-    x = x-of (getD A 0 0)
+    abbrev m : ℕ
+    m = leading-number A a
+
+    abbrev n : ℕ
+    n = leading-number B b
 
     abbrev u : List ℕ
     u = gcd p a b
 
-    -- the number that the code tests is the x-leading coefficient of A at the point
-    leading : el p (getD a x 0) ≡ value-there A (x-degree (Modulo p P .ring) (terms-of p P A))
-    leading = ap (λ (f : ℕ → Fp p). f x) (value-at-series A hA) ∙ ap (value-there A) (sym (first-power A (hA .some)))
+    module _ (l : 0 < m + n) where
+      filled : 0 < size a + size b
+      filled = sizes-positive p (x-of (getD A 0 0)) (x-of (getD B 0 0)) a b (value-at-eight A) (value-at-eight B) l
 
-    module _ (n : ¬ (getD a x 0 ≡ 0)) where
-      filled : ¬ (size a ≡ 0)
-      filled e = omega (arith, size-positive p x a (value-at-eight A) n)
+      is-good : ¬ Bad (Modulo p P) (terms-of p P A) (terms-of p P B) (point-of p P point)
+      is-good z = elim (ℕ-discrete m 0) [
+        | yes e ↦ el-nonzero p n (value-at-eight B .below (x-of (getD B 0 0))) (λ d. omega arith) (leading B hB ∙ z .1)
+        | no q ↦ el-nonzero p m (value-at-eight A .below (x-of (getD A 0 0))) q (leading A hA ∙ z .0)
+      ]
 
       greatest : IsGcd P (value-there A) (value-there B) u (size u - 1)
       greatest =
           subst (λ (v : ℕ → Fp p). IsGcd P v (value-there B) u (size u - 1)) (value-at-series A hA)
           (subst (λ (v : ℕ → Fp p). IsGcd P (series p a) v u (size u - 1)) (value-at-series B hB)
-          (gcd-is-gcd P a b (value-at-eight A) filled (value-at-eight B)))
+          (gcd-is-gcd P a b (value-at-eight A) (value-at-eight B) filled))
 
       model-is-image : Image (Modulo p P) (terms-of p P A) (terms-of p P B) (point-of p P point) (size u - 1) (series p u)
       model-is-image =
           record {
-            good = λ z. el-nonzero p (getD a x 0) (value-at-eight A .below x) n (leading ∙ z);
+            good = is-good;
             monic =
                 record {
                   leads = ap (el p) (greatest .monic .one);
@@ -124,7 +159,7 @@ module _ {p : ℕ} (P : Prime p) (point : List ℕ) where
           }
 
       one-more : suc (size u - 1) ≡ size u
-      one-more = let some = gcd-nonzero P a b (value-at-eight A) filled (value-at-eight B) in omega arith
+      one-more = let some = gcd-nonzero P a b (value-at-eight A) (value-at-eight B) filled in omega arith
 
       model-good : PointAnswer p P (terms-of p P A) (terms-of p P B) (point-of p P point) (sized u)
       model-good =
@@ -134,8 +169,10 @@ module _ {p : ℕ} (P : Prime p) (point : List ℕ) where
     -- the model answers as the rule says
     pub image-of-answers : PointAnswer p P (terms-of p P A) (terms-of p P B) (point-of p P point) (image-of p A B point)
     unfolding image-of
-    image-of-answers = go (ℕ-discrete (getD a x 0) 0)
+    image-of-answers = go _ refl
       where
-        go : Dec (getD a x 0 ≡ 0) → PointAnswer p P (terms-of p P A) (terms-of p P B) (point-of p P point) (image-of-values p x a b)
-        go (yes e) = rw (values-bad p x a b e) (bad (sym leading ∙ ap (el p) e))
-        go (no n) = rw (values-good p x a b n) (model-good n)
+        go : (t : Bool) → (eqb m 0 && eqb n 0) ≡ t → PointAnswer p P (terms-of p P A) (terms-of p P B) (point-of p P point) (image-of-values p m n a b)
+        go true e =
+            let zeros = both-zero m n e in
+            rw (values-bad m n p a b e) (bad (sym (leading A hA) ∙ ap (el p) (zeros .0), sym (leading B hB) ∙ ap (el p) (zeros .1)))
+        go false e = rw (values-good m n p a b e) (model-good (not-both-zero m n e))

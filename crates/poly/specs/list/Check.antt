@@ -5,8 +5,7 @@ use mathlib.Core.List.{List, map}
 use Prim.Native.Nat.{ℕ, zero, suc, _≤_, _<_}
 use native.Mathlib.Omega.{arith}
 use lib.ListN.{length, getD, length-map, List·getD-map}
-use Rattle.field.specs.Numbers.{FIRST_COUNT, FIRST_TERM}
-use Rattle.field.specs.Refusal.{Tested, refused, passed}
+use Rattle.field.specs.Refusal.{Passes, Tested, refused, passed}
 use Rattle.field.specs.faults.Laws.{OnePlaceEach, whole-one-place, first-one-place, tested-determined}
 use Rattle.field.specs.declared.faults.Fault.{Fault}
 use Rattle.poly.specs.Keys.{keys}
@@ -14,6 +13,7 @@ use Rattle.poly.specs.Terms.{key-of, coefficient-of, coefficient-limit}
 use Rattle.poly.specs.Lists.{WrongKey, above, not-below, WrongTerm, wrong-key, coefficient-zero, WrongModulo, wrong-term, coefficient-large}
 use Rattle.poly.specs.Lists.{of-terms, of-lists}
 use Rattle.poly.specs.LeadingPart.{of-list}
+use Rattle.poly.specs.ShorterPart.{of-two-lists}
 use Rattle.poly.specs.list.Model.{key-before}
 
 key-at : (ts : List ℕ) (i : ℕ) → getD (map key-of ts) i 0 ≡ key-of (getD ts i 0)
@@ -55,13 +55,18 @@ module _ (ts : List ℕ) where
   small-coefficient i (wrong-term w) = w
   small-coefficient i (coefficient-large l m) = absurd (omega arith)
 
-  pub tested-without-modulus : {f : Fault} → Tested (of-terms FIRST_COUNT FIRST_TERM (WrongModulo coefficient-limit ts) ts) f → Tested (of-list ts) f
+  pub tested-without-modulus : {count term : ℕ} {f : Fault} → Tested (of-terms count term (WrongModulo coefficient-limit ts) ts) f
+      → Tested (of-terms count term (WrongTerm ts) ts) f
   tested-without-modulus (refused (inl h)) = refused (inl h)
   tested-without-modulus (refused (inr (n, inl h))) =
       refused (inr (n, inl (h .0, h .1, (small-coefficient (h .0) (h .2 .0), λ j l v. h .2 .1 j l (wrong-term v)))))
   tested-without-modulus (refused (inr (n, inr h))) = absurd (h .1)
   tested-without-modulus (passed h e) =
       passed (h .0, ((λ i w. h .1 .0 i (wrong-term (w .0), λ j l v. w .1 j l (small-coefficient j v))), tt)) e
+
+-- two lists that pass do so in either order
+pub lists-swap : (p : ℕ) (A B : List ℕ) → Passes (of-lists p A B) → Passes (of-lists p B A)
+lists-swap p A B h = (h .0, (h .1 .1 .1 .0, (h .1 .1 .1 .1 .0, (h .1 .0, (h .1 .1 .0, tt)))))
 
 -- each line has one place
 pub lists-one-place : (p : ℕ) (A B : List ℕ) → OnePlaceEach (of-lists p A B)
@@ -74,3 +79,7 @@ lists-check-determined p A B = tested-determined (of-lists p A B) (lists-one-pla
 
 pub list-check-determined : (ts : List ℕ) (f g : Fault) → Tested (of-list ts) f → Tested (of-list ts) g → f ≡ g
 list-check-determined ts = tested-determined (of-list ts) (whole-one-place _, (first-one-place _, tt))
+
+pub two-lists-check-determined : (A B : List ℕ) (f g : Fault) → Tested (of-two-lists A B) f → Tested (of-two-lists A B) g → f ≡ g
+two-lists-check-determined A B =
+    tested-determined (of-two-lists A B) (whole-one-place _, (first-one-place _, (whole-one-place _, (first-one-place _, tt))))

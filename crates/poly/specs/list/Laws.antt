@@ -12,7 +12,7 @@ use Rattle.poly.specs.Keys.{exponents, keys}
 use Rattle.poly.specs.Terms.{key-of, coefficient-of, terms-of}
 use Rattle.poly.specs.PointValue.{x-degree}
 use Rattle.poly.specs.Lists.{Falling, WrongKey, above, not-below, wrong-key, coefficient-zero, WrongModulo, wrong-term, coefficient-large}
-use Rattle.poly.specs.value.Laws.{WithinX}
+use Rattle.poly.specs.value.Laws.{WithinX, Bounded}
 
 -- no first wrong place: no wrong place
 pub none-wrong : (Wrong : ℕ → Type 0) → ((place : ℕ) → ¬ first Wrong place) → (place : ℕ) → ¬ Wrong place
@@ -79,9 +79,9 @@ module _ (p : ℕ) (P : Prime p) where
   within-below b k [] l h = tt
   within-below b k (t ∷ ts) l h = let m : key-of t < b = h .0 in (omega arith, within-below (key-of t) k ts (omega arith) (h .3))
 
-  pub falling-within : (b : ℕ) (ts : List ℕ) → Falling p b ts → WithinX (Modulo p P) (x-degree (Modulo p P .ring) (terms-of p P ts)) (terms-of p P ts)
+  falling-within : (b : ℕ) (ts : List ℕ) → Falling p b ts → WithinX (Modulo p P) (x-degree (Modulo p P .ring) (terms-of p P ts)) (terms-of p P ts)
   falling-within b [] h = tt
   falling-within b (t ∷ ts) h = (omega arith, within-below (key-of t) (key-of t) ts (omega arith) (h .3))
 
-  pub falling-small : (ts : List ℕ) → Falling p keys ts → WithinX (Modulo p P) 7 (terms-of p P ts)
-  falling-small ts h = within-below keys 4095 ts (omega arith) h
+  pub falling-bounded : (ts : List ℕ) → Falling p keys ts → Bounded (Modulo p P) (terms-of p P ts)
+  falling-bounded ts h = record { by-first = falling-within keys ts h; by-seven = within-below keys 4095 ts (omega arith) h }

@@ -36,6 +36,9 @@ module _ (ts : List ℕ) (pass : Passes (of-list ts)) where
   list-falls : FallFrom keys (map key-of ts)
   list-falls = keys-fall (map key-of ts) (λ i w. none-wrong (WrongTerm ts) (pass .1 .0) i (wrong-key w))
 
+  pub list-has-terms : 0 < length ts
+  list-has-terms = let n : ¬ (length ts ≡ 0) = λ e. never-placed (pass .0) (inl e) in omega arith
+
   powers-fall : (i j : ℕ) → i ≤ j → j < length ts → x-of (getD ts j 0) ≤ x-of (getD ts i 0)
   powers-fall i j m l =
       let n = fall-order keys (map key-of ts) list-falls i j m (omega (arith, length-map ts key-of)) in
@@ -70,7 +73,7 @@ module _ (ts : List ℕ) (f : Fault) (t : Tested (of-list ts) f) where
   leading-passes z = tested-passes (of-list ts) tt f t z .0
 
   pub leading-some : f .number ≡ 0 → 0 < length ts
-  leading-some z = let n : ¬ (length ts ≡ 0) = λ e. never-placed (leading-passes z .0) (inl e) in omega arith
+  leading-some z = list-has-terms ts (leading-passes z)
 
   pub leading-answered : f .number ≡ 0 → (n : ℕ) → Searched (Lower ts) (length ts) n → LeadingTerms ts (take n ts)
   leading-answered z n s = answered (take n ts) (leading-passes z) (leading-found ts (leading-passes z) n s)
@@ -93,14 +96,19 @@ not-shorter ts head other h o = go (decLt (length head) (length other))
         let high = o .highest n l in
         absurd (omega (arith, ap x-of mine, ap x-of yours))
 
-leading-part-unique : (ts head other : List ℕ) → IsLeading ts head → IsLeading ts other → head ≡ other
+-- a leading part, as a part of its list
+pub leading-within : (ts head : List ℕ) → IsLeading ts head → length head ≤ length ts
+leading-within ts head h = omega (arith, ap length (h .parts) ∙ length-append head (h .rest))
+
+pub leading-taken : (ts head : List ℕ) → IsLeading ts head → take (length head) ts ≡ head
+leading-taken ts head h = ap (take (length head)) (h .parts) ∙ take-append-seam head (h .rest)
+
+pub leading-part-unique : (ts head other : List ℕ) → IsLeading ts head → IsLeading ts other → head ≡ other
 leading-part-unique ts head other h o =
     let a = not-shorter ts head other h o in
     let b = not-shorter ts other head o h in
     let e : length head ≡ length other = omega arith in
-    sym (take-append-seam head (h .rest))
-    ∙ ap₂ (λ (n : ℕ) (u : List ℕ). take n u) e (sym (h .parts) ∙ o .parts)
-    ∙ take-append-seam other (o .rest)
+    sym (leading-taken ts head h) ∙ ap (λ (n : ℕ). take n ts) e ∙ leading-taken ts other o
 
 -- the terms that come back are settled
 pub leading-terms-determined : (ts head other : List ℕ) → LeadingTerms ts head → LeadingTerms ts other → head ≡ other

@@ -17,7 +17,7 @@ use Rattle.algebra.specs.Laws.Divides.{mono-fin}
 use Rattle.algebra.specs.Laws.Monomial.{polynomial-fin, monomial-fin}
 use Rattle.algebra.specs.Laws.Evaluate.{at-point-mono}
 use Rattle.poly.specs.Terms.{Polynomial}
-use Rattle.poly.specs.PointValue.{Point, value}
+use Rattle.poly.specs.PointValue.{Point, value, x-degree}
 
 module _ (K : Field) where
   open Field K using (ring as R)
@@ -51,6 +51,11 @@ module _ (K : Field) where
   abbrev pub WithinX : ℕ → Polynomial K → Type 0
   WithinX n [] = Unit {0}
   WithinX n (t ∷ ts) = (t .exponents .x ≤ n) × WithinX n ts
+
+  -- no power of x in f is above the first term's, nor above 7
+  pub record Bounded (f : Polynomial K) : Type 0 where
+    pub by-first : WithinX (x-degree R f) f
+    pub by-seven : WithinX 7 f
 
   abbrev S3 : CommRing
   S3 = SeriesR (SeriesR (SeriesR R))

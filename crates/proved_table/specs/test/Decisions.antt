@@ -1,20 +1,23 @@
--- The lines of the candidate's inputs and of the image's, each decided by computing.
+-- The lines of the candidate's inputs, of the image's and of two lists without a modulus, each decided by computing.
 use mathlib.Core.Path.{_≡_, refl, subst}
 use mathlib.Core.Logic.{_⊎_, inl, inr, Dec·not, Dec·and}
 use mathlib.Core.List.{List, [], _∷_, _++_, map}
 use Prim.Native.Nat.{ℕ, zero, suc, _%_, _≤_, _<_}
 use native.Mathlib.Decide.{ℕ-discrete, decLe, decLt}
 use native.Mathlib.Omega.{arith}
-use lib.ListN.{length, getD, length-map}
+use lib.ListN.{length, getD}
 use Rattle.field.specs.Numbers.{MODULUS, FIRST_COUNT, FIRST_TERM, SECOND_COUNT, SECOND_TERM, SKELETON_COUNT, SKELETON_KEY, POINTS_COUNT, POINT_NUMBER}
 use Rattle.field.specs.modulus.Laws.{listed-decided}
 use Rattle.field.specs.Refusal.{Line}
 use Rattle.field.specs.faults.Decision.{either-decided, Checks, placed-check, first-check}
 use Rattle.poly.specs.Keys.{keys}
 use Rattle.poly.specs.Terms.{key-of, coefficient-of}
-use Rattle.poly.specs.Lists.{most-terms, Count, WrongKey, above, not-below, wrong-key}
-use Rattle.poly.specs.Lists.{coefficient-zero, WrongModulo, wrong-term, coefficient-large, WrongNumber, of-lists}
+use Rattle.poly.specs.Lists.{most-terms, Count, WrongKey, above, not-below, WrongTerm, wrong-key, coefficient-zero}
+use Rattle.poly.specs.Lists.{WrongModulo, wrong-term, coefficient-large, WrongNumber, of-terms, of-lists}
+use Rattle.poly.specs.LeadingPart.{of-list}
+use Rattle.poly.specs.ShorterPart.{of-two-lists}
 use Rattle.poly.specs.ImageCall.{ImageCall, of-point, image-table}
+use Rattle.poly.specs.list.Check.{wrong-beyond}
 use Rattle.poly.specs.points.Check.{numbers-end}
 use Rattle.divisor.specs.checks.Laws.{keys-beyond}
 use Rattle.divisor.specs.Candidate.{most-keys, most-point-numbers, of-skeleton, of-points}
@@ -55,31 +58,39 @@ module _ (ks : List ℕ) where
   key-decided i = decided-as (to-wrong i) (from-wrong i) (Dec·and (decLt i (length ks))
       (either-decided (decLe keys (getD ks i 0)) (not-below-decided i)))
 
+module _ (ts : List ℕ) where
+  -- a wrong term without a modulus, part by part
+  abbrev pub TermParts : ℕ → Type 0
+  TermParts i = WrongKey (map key-of ts) i ⊎ ((i < length ts) × (coefficient-of (getD ts i 0) ≡ 0))
+
+  pub to-wrong-term : (i : ℕ) → TermParts i → WrongTerm ts i
+  to-wrong-term i (inl w) = wrong-key w
+  to-wrong-term i (inr (l, e)) = coefficient-zero l e
+
+  pub from-wrong-term : (i : ℕ) → WrongTerm ts i → TermParts i
+  from-wrong-term i (wrong-key w) = inl w
+  from-wrong-term i (coefficient-zero l e) = inr (l, e)
+
+  unfoldable pub plain-term-decided : (i : ℕ) → Dec (WrongTerm ts i)
+  plain-term-decided i = decided-as (to-wrong-term i) (from-wrong-term i)
+      (either-decided (key-decided (map key-of ts) i) (Dec·and (decLt i (length ts)) (ℕ-discrete (coefficient-of (getD ts i 0)) 0)))
+
 module _ (p : ℕ) (ts : List ℕ) where
-  -- a coefficient that is 0 or at least p
-  abbrev pub WrongCoefficient : ℕ → Type 0
-  WrongCoefficient i = (i < length ts) × ((coefficient-of (getD ts i 0) ≡ 0) ⊎ (p ≤ coefficient-of (getD ts i 0)))
+  -- and modulo p
+  abbrev pub ModuloParts : ℕ → Type 0
+  ModuloParts i = WrongTerm ts i ⊎ ((i < length ts) × (p ≤ coefficient-of (getD ts i 0)))
 
-  pub to-wrong-term : (i : ℕ) → WrongKey (map key-of ts) i ⊎ WrongCoefficient i → WrongModulo p ts i
-  to-wrong-term i (inl w) = wrong-term (wrong-key w)
-  to-wrong-term i (inr (l, inl e)) = wrong-term (coefficient-zero l e)
-  to-wrong-term i (inr (l, inr h)) = coefficient-large l h
+  pub to-wrong-modulo : (i : ℕ) → ModuloParts i → WrongModulo p ts i
+  to-wrong-modulo i (inl w) = wrong-term w
+  to-wrong-modulo i (inr (l, h)) = coefficient-large l h
 
-  pub from-wrong-term : (i : ℕ) → WrongModulo p ts i → WrongKey (map key-of ts) i ⊎ WrongCoefficient i
-  from-wrong-term i (wrong-term (wrong-key w)) = inl w
-  from-wrong-term i (wrong-term (coefficient-zero l e)) = inr (l, inl e)
-  from-wrong-term i (coefficient-large l h) = inr (l, inr h)
+  pub from-wrong-modulo : (i : ℕ) → WrongModulo p ts i → ModuloParts i
+  from-wrong-modulo i (wrong-term w) = inl w
+  from-wrong-modulo i (coefficient-large l h) = inr (l, h)
 
   unfoldable pub term-decided : (i : ℕ) → Dec (WrongModulo p ts i)
-  term-decided i = decided-as (to-wrong-term i) (from-wrong-term i)
-      (either-decided (key-decided (map key-of ts) i)
-      (Dec·and (decLt i (length ts)) (either-decided (ℕ-discrete (coefficient-of (getD ts i 0)) 0) (decLe p (coefficient-of (getD ts i 0))))))
-
-  pub no-term-beyond : (i : ℕ) → length ts ≤ i → ¬ WrongModulo p ts i
-  no-term-beyond i l w = elim (from-wrong-term i w) [
-    | inl k ↦ keys-beyond (map key-of ts) i (let e = length-map ts key-of in omega arith) k
-    | inr h ↦ let b = h .0 in omega arith
-  ]
+  term-decided i = decided-as (to-wrong-modulo i) (from-wrong-modulo i)
+      (either-decided (plain-term-decided ts i) (Dec·and (decLt i (length ts)) (decLe p (coefficient-of (getD ts i 0)))))
 
   unfoldable pub number-decided : (i : ℕ) → Dec (WrongNumber p ts i)
   number-decided i = decided-as (λ (h : (i < length ts) × (p ≤ getD ts i 0)). record { there = h .0; large = h .1 }) (λ w. (w .there, w .large))
@@ -96,11 +107,23 @@ list-checks p A B = (
   (
     placed-check FIRST_COUNT 0 _ (count-decided most-terms A),
     (
-      first-check FIRST_TERM _ (term-decided p A) (length A) (no-term-beyond p A),
-      (placed-check SECOND_COUNT 0 _ (count-decided most-terms B), (first-check SECOND_TERM _ (term-decided p B) (length B) (no-term-beyond p B), tt)),
+      first-check FIRST_TERM _ (term-decided p A) (length A) (wrong-beyond p A),
+      (placed-check SECOND_COUNT 0 _ (count-decided most-terms B), (first-check SECOND_TERM _ (term-decided p B) (length B) (wrong-beyond p B), tt)),
     ),
   ),
 )
+
+-- of one list without a modulus, by its two numbers, and of two
+unfoldable pub terms-checks : (count term : ℕ) (ts : List ℕ) → Checks (of-terms count term (WrongTerm ts) ts)
+terms-checks count term ts = (
+  placed-check count 0 _ (count-decided most-terms ts),
+  (first-check term _ (plain-term-decided ts) (length ts) (λ i l w. wrong-beyond 0 ts i l (wrong-term w)), tt),
+)
+
+unfoldable pub two-lists-checks : (A B : List ℕ) → Checks (of-two-lists A B)
+two-lists-checks A B =
+    checks-append (of-list A) (of-terms SECOND_COUNT SECOND_TERM (WrongTerm B) B) (terms-checks FIRST_COUNT FIRST_TERM A)
+    (terms-checks SECOND_COUNT SECOND_TERM B)
 
 unfoldable pub skeleton-checks : (skeleton : List ℕ) → Checks (of-skeleton skeleton)
 skeleton-checks skeleton = (

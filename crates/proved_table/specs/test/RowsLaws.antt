@@ -43,7 +43,7 @@ use Rattle.proved_table.specs.test.Rows.{same-numbers, numbers, agrees, 
 use Rattle.proved_table.specs.test.Rows.{right-lists, quotient-numbers, product-of, quotient-agrees, quotient-test}
 use Rattle.proved_table.specs.test.Rows.{image-numbers, image-passes, image-agrees, image-test, multiplies}
 
-same-is : (ms ns : List ℕ) → same-numbers ms ns ≡ true → ms ≡ ns
+pub same-is : (ms ns : List ℕ) → same-numbers ms ns ≡ true → ms ≡ ns
 unfolding same-numbers
 same-is [] [] h = refl
 same-is [] (n ∷ ns) h = absurd (false≢true h)

@@ -1,6 +1,6 @@
 -- P1 to P12 hold, and so do the rows beside them: they pass their test, by computing. No other result meets the contract of a row's call.
 -- P1 is also what the bytes of the example file are answered; and beside the table stand the images that its rows name and the products that give its
--- polynomials, and rows of the quotient, the image, the reader and the writer.
+-- polynomials, and rows of the quotient, the image, the reader, the writer and the picker.
 use mathlib.Core.Path.{_≡_, refl}
 use mathlib.Core.Bool.{true}
 use mathlib.Core.Logic.{Dec·not, Dec·and}
@@ -36,17 +36,20 @@ use Rattle.case_file.specs.writer.Check.{unwritable-decided}
 use Rattle.case_file.specs.reader.Examples.{example}
 use Rattle.console.specs.OfFile.{asked}
 use Rattle.console.specs.CandidateOfFile.{CandidateOfFile}
-use Rattle.proved_table.specs.Row.{result, Holds, Determined, QuotientHolds, Reads, Writes, Shows, Multiplies, Each}
+use Rattle.proved_table.specs.Row.{result, Holds, Determined, QuotientHolds, Reads, Writes, Picks, Shows, Multiplies, Each}
 use Rattle.proved_table.specs.test.TermDivision.{each-at-most, plus, less, less-all, before-all, leads, divided, division}
 use Rattle.proved_table.specs.test.Computed.{tried, divided-by, by-answer, with-counts, by-kept, by-least, by-looks, computed}
-use Rattle.proved_table.specs.test.Decisions.{count-decided, not-below-decided, key-decided, term-decided, number-decided, checks-append}
-use Rattle.proved_table.specs.test.Decisions.{list-checks, skeleton-checks, points-checks, point-checks, checks, image-checks}
+use Rattle.proved_table.specs.test.Decisions.{count-decided, not-below-decided, key-decided, plain-term-decided, term-decided, number-decided}
+use Rattle.proved_table.specs.test.Decisions.{checks-append, list-checks, terms-checks, two-lists-checks, skeleton-checks, points-checks}
+use Rattle.proved_table.specs.test.Decisions.{point-checks, checks, image-checks}
 use Rattle.proved_table.specs.test.Rows.{same-numbers, agrees, passes, answers, test, image-passes, image-agrees, image-test}
 use Rattle.proved_table.specs.test.Rows.{multiplies, right-lists, quotient-agrees, quotient-test}
 use Rattle.proved_table.specs.test.Writes.{write-checks, by-fault, right-write}
 use Rattle.proved_table.specs.test.WritesLaws.{right-write-meets}
+use Rattle.proved_table.specs.test.Picks.{lower-from, by-lengths, right-pick, pick-test}
+use Rattle.proved_table.specs.test.PicksLaws.{pick-tested}
 use Rattle.proved_table.specs.test.RowsLaws.{tested, holds-determined, quotient-tested, image-tested, multiplied, each-tested, each-follows}
-use Rattle.proved_table.specs.MoreRows.{more-rows, quotients, more-images, files, writes}
+use Rattle.proved_table.specs.MoreRows.{more-rows, quotients, more-images, files, writes, picks}
 use Rattle.proved_table.specs.Table.{images, products, p1, table}
 
 pub table-passes : (every test table ≡ true) × (every test more-rows ≡ true)
@@ -54,7 +57,7 @@ unfolding ℕ-discrete decLe decLt mono pow listed listed-decided el add mul neg
     decided cells power powers plus-term fold value-of size-to scaled monic between subtract downwards euclid gcd value-at image-of-values
     image-of points-of lesser alike kept-of leading scaled-terms compare-by compare each-at-most plus less before-all leads
     divided division tried divided-by by-answer with-counts by-kept by-least by-looks computed count-decided not-below-decided key-decided
-    term-decided number-decided checks-append list-checks skeleton-checks points-checks checks same-numbers agrees passes answers test
+    plain-term-decided term-decided number-decided checks-append list-checks skeleton-checks points-checks checks same-numbers agrees passes answers test
 table-passes = (refl, refl)
 
 pub table-holds : Each Holds table
@@ -72,7 +75,7 @@ table-determined = each-follows Holds Determined holds-determined table table-ho
 images-pass : (every image-test images ≡ true) × (every image-test more-images ≡ true)
 unfolding ℕ-discrete decLe decLt listed listed-decided el add mul neg chase inv Dec·not Dec·and placed-check look first-check decided cells power
     powers plus-term fold value-of size-to scaled monic between subtract downwards euclid gcd value-at image-of-values image-of
-    count-decided not-below-decided key-decided term-decided number-decided checks-append list-checks point-checks image-checks same-numbers
+    count-decided not-below-decided key-decided plain-term-decided term-decided number-decided checks-append list-checks point-checks image-checks same-numbers
     image-passes image-agrees image-test
 images-pass = (refl, refl)
 
@@ -86,7 +89,7 @@ more-images-hold = each-tested image-test Shows image-tested more-images (images
 pub quotients-hold : Each QuotientHolds quotients
 unfolding ℕ-discrete decLe decLt listed listed-decided el add mul neg chase inv Fp-discrete Dec·not Dec·and placed-check look first-check decided
     compare-by compare each-at-most plus less less-all before-all leads divided division divided-by count-decided not-below-decided key-decided
-    term-decided list-checks same-numbers right-lists multiplies quotient-agrees quotient-test
+    plain-term-decided term-decided list-checks same-numbers right-lists multiplies quotient-agrees quotient-test
 quotients-hold = each-tested quotient-test QuotientHolds quotient-tested quotients refl
 
 -- the files are read so
@@ -100,6 +103,12 @@ unfolding decLt ℕ-discrete Dec·not placed-check decided added kind-of triples
     right-write
 writes-hold =
     (right-write-meets _, (right-write-meets _, (right-write-meets _, (right-write-meets _, (right-write-meets _, tt)))))
+
+-- the shorter leading parts are those
+pub picks-hold : Each Picks picks
+unfolding ℕ-discrete decLe decLt Dec·and placed-check look first-check decided count-decided not-below-decided key-decided plain-term-decided
+    checks-append terms-checks two-lists-checks same-numbers lower-from by-lengths right-pick pick-test
+picks-hold = each-tested pick-test Picks pick-tested picks refl
 
 -- P11: as values y⁷ and y agree everywhere modulo 7
 pub agree-as-values : map (λ y. power 7 y 7) (0 ∷ 1 ∷ 2 ∷ 3 ∷ 4 ∷ 5 ∷ 6 ∷ []) ≡ (0 ∷ 1 ∷ 2 ∷ 3 ∷ 4 ∷ 5 ∷ 6 ∷ [])

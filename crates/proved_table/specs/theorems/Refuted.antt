@@ -21,8 +21,9 @@ use Rattle.divisor.specs.sorting.Model.{lesser, alike, kept-of}
 use Rattle.divisor.specs.monic.Model.{leading, scaled-terms}
 use Rattle.proved_table.specs.test.TermDivision.{each-at-most, plus, less, less-all, before-all, leads, divided, division}
 use Rattle.proved_table.specs.test.Computed.{tried, divided-by, by-answer, with-counts, by-kept, by-least, by-looks, computed}
-use Rattle.proved_table.specs.test.Decisions.{count-decided, not-below-decided, key-decided, term-decided, number-decided, checks-append}
-use Rattle.proved_table.specs.test.Decisions.{list-checks, skeleton-checks, points-checks, point-checks, checks, image-checks}
+use Rattle.proved_table.specs.test.Decisions.{count-decided, not-below-decided, key-decided, plain-term-decided, term-decided, number-decided}
+use Rattle.proved_table.specs.test.Decisions.{checks-append, list-checks, terms-checks, two-lists-checks, skeleton-checks, points-checks}
+use Rattle.proved_table.specs.test.Decisions.{point-checks, checks, image-checks}
 use Rattle.case_file.specs.Format.{known, kind-of, follows, little}
 use Rattle.case_file.specs.Case.{added, flat}
 use Rattle.case_file.specs.Reading.{fault-number, reading, read-one-in, alone, read-in}
@@ -35,13 +36,16 @@ use Rattle.proved_table.specs.test.Rows.{same-numbers, agrees, passes, a
 use Rattle.proved_table.specs.test.Rows.{multiplies, right-lists, quotient-agrees, quotient-test}
 use Rattle.proved_table.specs.test.RowsLaws.{each-tested}
 use Rattle.proved_table.specs.test.Writes.{write-checks, by-fault, right-write}
-use Rattle.proved_table.specs.Wrong.{Refuted, QuotientRefuted, ImageRefuted, FileRefuted, WriteRefuted}
+use Rattle.proved_table.specs.Wrong.{Refuted, QuotientRefuted, ImageRefuted, FileRefuted, WriteRefuted, PickRefuted, PlaceRefuted, HeadRefuted}
 use Rattle.proved_table.specs.WrongResults.{wrong-results}
 use Rattle.proved_table.specs.WrongServices.{wrong-quotients, wrong-images, wrong-files}
 use Rattle.proved_table.specs.WrongWrites.{wrong-writes}
+use Rattle.proved_table.specs.WrongPicks.{wrong-picks, wrong-places, wrong-heads}
 use Rattle.proved_table.specs.test.Wrong.{clash, left-full, differs, wrong-test, wrong-quotient-test, wrong-image-test, file-numbers, wrong-file-test}
 use Rattle.proved_table.specs.test.Wrong.{write-numbers, wrong-write-test}
 use Rattle.proved_table.specs.test.WrongLaws.{refuted, quotient-refuted, image-refuted, file-refuted, write-refuted}
+use Rattle.proved_table.specs.test.Picks.{lower-from, by-lengths, right-pick, wrong-pick-test, wrong-place-test, wrong-head-test}
+use Rattle.proved_table.specs.test.PicksLaws.{pick-refuted, place-refuted, head-refuted}
 
 -- the contract of the candidate refutes each of its wrong results
 pub wrong-results-refuted : Each Refuted wrong-results
@@ -49,7 +53,7 @@ unfolding ℕ-discrete decLe decLt mono pow listed listed-decided el add mul neg
     decided cells power powers plus-term fold value-of size-to scaled monic between subtract downwards euclid gcd value-at image-of-values
     image-of points-of lesser alike kept-of leading scaled-terms compare-by compare each-at-most plus less before-all leads
     divided division tried divided-by by-answer with-counts by-kept by-least by-looks computed count-decided not-below-decided key-decided
-    term-decided number-decided checks-append list-checks skeleton-checks points-checks checks same-numbers agrees passes answers test
+    plain-term-decided term-decided number-decided checks-append list-checks skeleton-checks points-checks checks same-numbers agrees passes answers test
     clash left-full differs wrong-test
 wrong-results-refuted = each-tested wrong-test Refuted refuted wrong-results refl
 
@@ -57,14 +61,14 @@ wrong-results-refuted = each-tested wrong-test Refuted refuted wrong-results ref
 pub wrong-quotients-refuted : Each QuotientRefuted wrong-quotients
 unfolding ℕ-discrete decLe decLt listed listed-decided el add mul neg chase inv Fp-discrete Dec·not Dec·and placed-check look first-check decided
     compare-by compare each-at-most plus less less-all before-all leads divided division divided-by count-decided not-below-decided key-decided
-    term-decided list-checks same-numbers right-lists multiplies quotient-agrees quotient-test clash left-full differs wrong-quotient-test
+    plain-term-decided term-decided list-checks same-numbers right-lists multiplies quotient-agrees quotient-test clash left-full differs wrong-quotient-test
 wrong-quotients-refuted = each-tested wrong-quotient-test QuotientRefuted quotient-refuted wrong-quotients refl
 
 -- of the image
 pub wrong-images-refuted : Each ImageRefuted wrong-images
 unfolding ℕ-discrete decLe decLt listed listed-decided el add mul neg chase inv Dec·not Dec·and placed-check look first-check decided cells power
     powers plus-term fold value-of size-to scaled monic between subtract downwards euclid gcd value-at image-of-values image-of
-    count-decided not-below-decided key-decided term-decided number-decided checks-append list-checks point-checks image-checks same-numbers
+    count-decided not-below-decided key-decided plain-term-decided term-decided number-decided checks-append list-checks point-checks image-checks same-numbers
     image-passes image-agrees image-test clash wrong-image-test
 wrong-images-refuted = each-tested wrong-image-test ImageRefuted image-refuted wrong-images refl
 
@@ -78,3 +82,19 @@ pub wrong-writes-refuted : Each WriteRefuted wrong-writes
 unfolding ℕ-discrete decLt Dec·not placed-check decided kind-of added records packed bytes in-order file-of triples unwritable-decided write-checks
     by-fault right-write clash write-numbers wrong-write-test
 wrong-writes-refuted = each-tested wrong-write-test WriteRefuted write-refuted wrong-writes refl
+
+-- of the picker: other terms, wherever the lists lie; and the other list, where the lists begin at two places
+pub wrong-picks-refuted : Each PickRefuted wrong-picks
+unfolding ℕ-discrete decLe decLt Dec·and placed-check look first-check decided count-decided not-below-decided key-decided plain-term-decided
+    checks-append terms-checks two-lists-checks clash lower-from by-lengths right-pick wrong-pick-test
+wrong-picks-refuted = each-tested wrong-pick-test PickRefuted pick-refuted wrong-picks refl
+
+pub wrong-places-refuted : Each PlaceRefuted wrong-places
+unfolding ℕ-discrete decLe decLt Dec·and placed-check look first-check decided count-decided not-below-decided key-decided plain-term-decided
+    checks-append terms-checks two-lists-checks lower-from by-lengths right-pick wrong-place-test
+wrong-places-refuted = each-tested wrong-place-test PlaceRefuted place-refuted wrong-places refl
+
+pub wrong-heads-refuted : Each HeadRefuted wrong-heads
+unfolding ℕ-discrete decLe decLt Dec·and placed-check look first-check decided count-decided not-below-decided key-decided plain-term-decided
+    checks-append terms-checks two-lists-checks clash lower-from by-lengths right-pick wrong-head-test
+wrong-heads-refuted = each-tested wrong-head-test HeadRefuted head-refuted wrong-heads refl

@@ -1,0 +1,3 @@
+-- A and B exchanged.
+pub mod Rule
+pub mod Calls
