@@ -63,8 +63,8 @@ pub fn monomial_at(y: Element, z: Element, w: Element, k: Key) -> Element
     times_power(b, w, k.w())
 }
 
-// y^b z^c for the exponents of the key k, from yz, that of the key before, which is not greater. Mostly x and y have the same exponents in both,
-// and z has risen by little.
+// y^b z^c for the exponents of the key k, from yz, that of the key before, which is not greater. In a long list x and y
+// mostly have the same exponents in both, and z has risen by little.
 fn risen(yz: Element, y: Element, z: Element, before: Key, k: Key) -> Element
     requires { ⌜ Rises yz y z (before .bits) (k .bits) ⌝ }
     ensures { λ r. ⌜ r ≡ element (y .modulus) (head (y .value) (z .value) (k .bits) % y .modulus) ⌝ }
