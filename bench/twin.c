@@ -78,20 +78,48 @@ static fault numbers_fault(uint16_t p, const uint16_t *numbers, size_t n) {
 
 /* The value and the image at a point. */
 
-static void powers(uint16_t p, uint16_t y, uint16_t r[8]) {
-    r[0] = 1;
-    for (size_t i = 1; i < 8; i++)
-        r[i] = times(p, r[i - 1], y);
+/* a y^n by the three bits of n, and by n products. */
+static uint16_t times_power(uint16_t p, uint16_t a, uint16_t y, uint16_t n) {
+    uint16_t y2 = times(p, y, y), y4 = times(p, y2, y2);
+    if (n & 1)
+        a = times(p, a, y);
+    if (n & 2)
+        a = times(p, a, y2);
+    if (n & 4)
+        a = times(p, a, y4);
+    return a;
 }
 
-static void value(uint16_t p, const uint16_t ys[8], const uint16_t zs[8], const uint16_t ws[8], const uint32_t *terms, size_t n, uint16_t r[8]) {
+static uint16_t raised(uint16_t p, uint16_t a, uint16_t y, uint16_t n) {
+    while (n-- > 0)
+        a = times(p, a, y);
+    return a;
+}
+
+static uint16_t monomial_at(uint16_t p, const uint16_t point[3], uint16_t key) {
+    uint16_t y = times_power(p, 1, point[0], y_of(key));
+    return times_power(p, times_power(p, y, point[1], z_of(key)), point[2], w_of(key));
+}
+
+/* y^b z^c of a key, from that of the key before, which is smaller. */
+static uint16_t risen(uint16_t p, uint16_t yz, const uint16_t point[3], uint16_t before, uint16_t key) {
+    if (key >> 6 != before >> 6)
+        return raised(p, raised(p, 1, point[0], y_of(key)), point[1], z_of(key));
+    return raised(p, yz, point[1], ((key >> 3) - (before >> 3)) & 7);
+}
+
+/* The value, from the last term to the first; what it has at the highest power of x. */
+static uint16_t value(uint16_t p, const uint16_t point[3], const uint32_t *terms, size_t n, uint16_t r[8]) {
+    uint16_t yz = 1, before = 0;
     memset(r, 0, 8 * sizeof *r);
-    for (size_t i = 0; i < n; i++) {
+    for (size_t i = n; i-- > 0;) {
         uint16_t key = key_of(terms[i]);
-        uint16_t a = times(p, coefficient_of(terms[i]), ys[y_of(key)]);
-        uint16_t b = times(p, a, zs[z_of(key)]);
-        r[x_of(key)] = plus_times(p, r[x_of(key)], b, ws[w_of(key)]);
+        uint16_t v = times_power(p, coefficient_of(terms[i]), point[2], w_of(key));
+        yz = risen(p, yz, point, before, key);
+        r[x_of(key)] = plus_times(p, r[x_of(key)], v, yz);
+        before = key;
     }
+    return r[x_of(key_of(terms[0]))];
 }
 
 static size_t size(const uint16_t f[8]) {
@@ -116,28 +144,38 @@ static void reduce(uint16_t p, uint16_t f[8], const uint16_t g[8], size_t n) {
     }
 }
 
+/* A turn of Euclid's algorithm: g, of size n, is made monic, f becomes its remainder; the remainder's size. */
+static size_t turn(uint16_t p, size_t n, uint16_t f[8], uint16_t g[8]) {
+    make_monic(p, g, n);
+    reduce(p, f, g, n);
+    return size(f);
+}
+
+/* g, which is not 0, becomes the monic greatest common divisor; its size. */
+static size_t gcd(uint16_t p, uint16_t f[8], uint16_t g[8]) {
+    for (size_t n = size(g); n > 0;) {
+        size_t m = turn(p, n, f, g);
+        if (m == 0)
+            return n;
+        n = turn(p, m, g, f);
+    }
+    memcpy(g, f, 8 * sizeof *g);
+    return size(g);
+}
+
 /* The image's coefficients; its size, or 0 where the point is bad. */
 static size_t image(uint16_t p, const uint32_t *first, size_t n, const uint32_t *second, size_t m, const uint16_t point[3], uint16_t u[8]) {
-    uint16_t ys[8], zs[8], ws[8], values[2][8];
-    uint16_t *f = values[0], *g = values[1];
-    powers(p, point[0], ys);
-    powers(p, point[1], zs);
-    powers(p, point[2], ws);
-    value(p, ys, zs, ws, first, n, f);
-    value(p, ys, zs, ws, second, m, g);
-    memset(u, 0, 8 * sizeof *u);
-    if (f[x_of(key_of(first[0]))] == 0 && g[x_of(key_of(second[0]))] == 0)
-        return 0;
-    for (size_t s = size(g); s > 0; s = size(g)) {
-        uint16_t *h = f;
-        make_monic(p, g, s);
-        reduce(p, f, g, s);
-        f = g;
-        g = h;
+    uint16_t v[8];
+    uint16_t a = value(p, point, first, n, u), b = value(p, point, second, m, v);
+    if (a != 0)
+        return gcd(p, v, u);
+    if (b != 0) {
+        size_t s = gcd(p, u, v);
+        memcpy(u, v, sizeof v);
+        return s;
     }
-    make_monic(p, f, size(f));
-    memcpy(u, f, 8 * sizeof *u);
-    return size(u);
+    memset(u, 0, sizeof v);
+    return 0;
 }
 
 /* The table of equations. */
@@ -162,15 +200,11 @@ static void add_equation(table *t, row *e, uint16_t p) {
 }
 
 static void point_equations(table *t, uint16_t p, const uint16_t *skeleton, size_t keys, const uint16_t point[3], const uint16_t u[8], size_t column) {
-    uint16_t ys[8], zs[8], ws[8];
-    powers(p, point[0], ys);
-    powers(p, point[1], zs);
-    powers(p, point[2], ws);
     for (uint16_t i = 0; i < 8; i++) {
         row e = {{0}};
         for (size_t j = 0; j < keys; j++)
             if (x_of(skeleton[j]) == i)
-                e.cells[j] = times(p, times(p, ys[y_of(skeleton[j])], zs[z_of(skeleton[j])]), ws[w_of(skeleton[j])]);
+                e.cells[j] = monomial_at(p, point, skeleton[j]);
         e.cells[column] = (uint16_t)((p - u[i]) % p);
         add_equation(t, &e, p);
     }

@@ -15,7 +15,7 @@ from pathlib import Path
 sys.path.insert(0, str(Path(__file__).resolve().parent.parent / "second"))
 import bench  # noqa: E402
 from candidate import only_solution  # noqa: E402
-from polynomials import POWERS, at_point, key, monic, monomials_at, multiply, point_powers, remainder, term_list  # noqa: E402
+from polynomials import POWERS, at_point, key, monic, monomials_at, multiply, remainder, term_list  # noqa: E402
 
 MODULUS = 65521
 
@@ -79,9 +79,8 @@ def vanishing(p, f, g, x, monomials, points):
     triples = [points[i : i + 3] for i in range(0, len(points), 3)]
     rows = []
     for t in triples:
-        powers = point_powers(t, p)
-        rest = remainder(at_point(f, powers, p), at_point(g, powers, p), p) + [0] * POWERS
-        rows.append(monomials_at(monomials, powers, p) + [-rest[x] % p])
+        rest = remainder(at_point(f, t, p), at_point(g, t, p), p) + [0] * POWERS
+        rows.append(monomials_at(monomials, t, p) + [-rest[x] % p])
     return f | {512 * x + m: c for m, c in zip(monomials, only_solution(rows, len(monomials), p)) if c}
 
 

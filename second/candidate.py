@@ -10,7 +10,7 @@ from dataclasses import dataclass, field
 
 import case_file
 from polynomials import (
-    POWERS, exponents, image, monic, monomials_at, point_powers, polynomial, quotient, term_list,
+    POWERS, exponents, image, monic, monomials_at, polynomial, quotient, term_list,
 )
 from refusals import (
     COEFFICIENTS, MOST_SKELETON_KEYS, QUOTIENT_TERMS, WORK_NUMBERS, Refusal,
@@ -81,7 +81,7 @@ def equations(skeleton, kept, p):
     rows = []
     x_powers = [exponents(key)[0] for key in skeleton]
     for index, (point, u) in enumerate(kept):
-        values = monomials_at(skeleton, point_powers(point, p), p)
+        values = monomials_at(skeleton, point, p)
         for power in range(POWERS):
             skeleton_part = [value if x_power == power else 0
                              for x_power, value in zip(x_powers, values)]

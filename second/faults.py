@@ -1,7 +1,7 @@
 """Deliberate faults of the second program, to see that a comparison reports them."""
 
 import candidate
-from polynomials import at_point, leading_part, monic_gcd, point_powers
+from polynomials import at_point, leading_part, monic_gcd
 
 true_equations = candidate.equations
 true_image = candidate.image
@@ -28,16 +28,16 @@ def unlucky_kept(good, _d):
 
 def divides_as_values(divisor, first, second, p):
     """Division is tested at one point only."""
-    powers = point_powers((2, 3, 5), p)
-    values = at_point(divisor, powers, p)
+    point = (2, 3, 5)
+    values = at_point(divisor, point, p)
     return bool(values) and all(
-        len(monic_gcd(values, at_point(poly, powers, p), p)) == len(values)
+        len(monic_gcd(values, at_point(poly, point, p), p)) == len(values)
         for poly in (first, second))
 
 
 def bad_by_first(first, second, point, p):
     """A point is bad if the x-leading coefficient of A is 0 there, whatever that of B is."""
-    if not at_point(leading_part(first), point_powers(point, p), p):
+    if not at_point(leading_part(first), point, p):
         return None
     return true_image(first, second, point, p)
 

@@ -1,7 +1,7 @@
 """What cases have at their points, in the words of the rule: a comparison counts it, and each kind must occur."""
 
 from candidate import point_triples
-from polynomials import at_point, leading_part, point_powers, polynomial
+from polynomials import at_point, leading_part, polynomial
 
 BAD = "cases with a point where both x-leading coefficients are 0"
 ONLY_LEAD = tuple(f"cases with a point where only the x-leading coefficient of {name} is 0" for name in "AB")
@@ -15,13 +15,12 @@ def kinds(case):
     leads = [leading_part(poly) for poly in polys]
     found = set()
     for point in point_triples(case):
-        powers = point_powers(point, case.modulus)
-        vanishing = [at for at, lead in enumerate(leads) if not at_point(lead, powers, case.modulus)]
+        vanishing = [at for at, lead in enumerate(leads) if not at_point(lead, point, case.modulus)]
         if len(vanishing) == 2:
             found.add(BAD)
         elif vanishing:
             [at] = vanishing
             found.add(ONLY_LEAD[at])
-            if not at_point(polys[at], powers, case.modulus):
+            if not at_point(polys[at], point, case.modulus):
                 found.add(ZERO[at])
     return found

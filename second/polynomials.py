@@ -95,21 +95,16 @@ def quotient(dividend, divisor, p):
     return result
 
 
-def point_powers(point, p):
-    """For each of y, z, w the table of its powers 0 to 7 at the point."""
-    return [[pow(coordinate, power, p) for power in range(POWERS)] for coordinate in point]
+def monomials_at(monomials, point, p):
+    """The value of the y, z, w part of each monomial."""
+    y, z, w = point
+    return [pow(y, b, p) * pow(z, c, p) * pow(w, d, p) % p for _, b, c, d in map(exponents, monomials)]
 
 
-def monomials_at(monomials, powers, p):
-    """The value of the y, z, w part of each monomial, by the tables of powers."""
-    y, z, w = powers
-    return [y[b] * z[c] * w[d] % p for _, b, c, d in map(exponents, monomials)]
-
-
-def at_point(poly, powers, p):
+def at_point(poly, point, p):
     """The polynomial in x that is left at a point."""
     values = [0] * POWERS
-    for monomial, value in zip(poly, monomials_at(poly, powers, p)):
+    for monomial, value in zip(poly, monomials_at(poly, point, p)):
         values[exponents(monomial)[0]] += poly[monomial] * value
     return _trimmed([value % p for value in values])
 
@@ -143,8 +138,7 @@ def remainder(dividend, divisor, p):
 
 def image(first, second, point, p):
     """The image U of the two polynomials at a point, or None if the point is bad."""
-    powers = point_powers(point, p)
-    values = at_point(first, powers, p), at_point(second, powers, p)
+    values = at_point(first, point, p), at_point(second, point, p)
     if _loses_degree(first, values[0]) and _loses_degree(second, values[1]):
         return None
     return monic_gcd(*values, p)

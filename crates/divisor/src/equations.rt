@@ -13,25 +13,23 @@ use field::COORDINATES;
 use field::Element;
 use field::KeyBits;
 use field::Residue;
-use poly::Eight;
 use poly::POWERS;
 use poly::Size;
 use poly::key::Key;
 
-// The equation of x^i at a point, where the powers of y, z and w are given: a number for each key, u in the multiplier's column.
+// The equation of x^i at a point: a number for each key, u in the multiplier's column.
 fn equation(
-    ys: Eight,
-    zs: Eight,
-    ws: Eight,
+    y: Element,
+    z: Element,
+    w: Element,
     skeleton: &[KeyBits],
     i: KeyBits,
     column: usize,
     u: Element,
 ) -> Row
-    requires { ⌜ EquationReady (u .modulus) ys zs ws (now skeleton) column (u .value) ⌝ }
-    ensures { λ r. ⌜ IsEquation (u .modulus) ys zs ws (now (skeleton .entry)) i column (u .value) r ⌝ }
+    requires { ⌜ EquationReady y z w (now skeleton) column u ⌝ }
+    ensures { λ r. ⌜ IsEquation (u .modulus) (y .value) (z .value) (w .value) (now (skeleton .entry)) i column (u .value) r ⌝ }
 {
-    let p = u.modulus;
     let mut row = Row {
         cells: [0; MOST_COLUMNS],
     };
@@ -39,10 +37,7 @@ fn equation(
     while j < skeleton.len() {
         let key = Key { bits: skeleton[j] };
         if key.x() == i {
-            let y = Element::of(p, ys[key.y() as usize]);
-            let yz = y.product(Element::of(p, zs[key.z() as usize]));
-            let yzw = yz.product(Element::of(p, ws[key.w() as usize]));
-            row.cells[j] = yzw.value;
+            row.cells[j] = poly::value::monomial_at(y, z, w, key).value;
         }
         j += 1;
     }
@@ -50,7 +45,7 @@ fn equation(
     row
 }
 
-// The equations of a point, for each power of x, into the table. The point's powers are worked once.
+// The equations of a point, for each power of x, into the table.
 fn point_equations(
     t: Table,
     p: Residue,
@@ -62,15 +57,15 @@ fn point_equations(
     requires { ⌜ PointReady p t (now skeleton) (now point) (now image) column ⌝ }
     ensures { λ r. ⌜ Equations-to 8 p t (now (skeleton .entry)) (now (point .entry)) (now (image .entry)) column r ⌝ }
 {
-    let ys = poly::value::powers(Element::of(p, point[0]));
-    let zs = poly::value::powers(Element::of(p, point[1]));
-    let ws = poly::value::powers(Element::of(p, point[2]));
+    let y = Element::of(p, point[0]);
+    let z = Element::of(p, point[1]);
+    let w = Element::of(p, point[2]);
     let mut s = t;
     let mut i: usize = 0;
     while i < POWERS {
         let zero = Element::zero(p);
         let u = zero.difference(Element::of(p, image[i]));
-        let e = equation(ys, zs, ws, skeleton, i as KeyBits, column, u);
+        let e = equation(y, z, w, skeleton, i as KeyBits, column, u);
         // An equation without entries says nothing: adding it would only copy the table.
         if crate::table::first_entry(e) < MOST_COLUMNS {
             s = crate::table::with_added(s, e, p);

@@ -6,7 +6,6 @@ pub mod Divides
 pub mod PointImage
 pub mod Lists
 pub mod Search
-pub mod Powers
 pub mod Room
 pub mod Coefficients
 pub mod LeadingPart

@@ -1,7 +1,7 @@
 -- The value at a point: model and meaning.
+pub mod Monomial
+pub mod PowerLaws
 pub mod Model
-pub mod PowersModel
-pub mod PowersLaws
 pub mod ModelLaws
 pub mod Meaning
 pub mod Laws

@@ -1,20 +1,21 @@
-// The greatest common divisor of two polynomials in x, each as eight numbers modulo p, the coefficient of x^0 first.
+// The greatest common divisor of two polynomials in x, each as eight numbers modulo p, the coefficient of x^0 first. They are changed in place.
 ghost use mathlib.Core.Path.{_≡_};
-ghost use Prim.Native.Nat.{_-_, _<_};
-ghost use Rattle.poly.specs.euclid.Model.{size as size-of, scaled as scaled-of, monic as monic-of, subtract as subtract-of, remainder as remainder-of, gcd as gcd-of};
-ghost use Rattle.poly.specs.euclid.Steps.{Divisible, Step, Reducible, Pair};
+ghost use Prim.Native.Nat.{_-_};
+ghost use Rattle.poly.specs.euclid.Model.{size as size-of, scaled as scaled-of, monic as monic-of, subtract as subtract-of, remainder as remainder-of};
+ghost use Rattle.poly.specs.euclid.Steps.{Scalable, Divisible, Step, Reducible, CanTurn, Stepped, Pair, IsDivisor};
 use crate::Eight;
 use crate::POWERS;
+use crate::Size;
 use field::Element;
 use field::Residue;
 
 // The place after the highest number that is not 0.
-pub(crate) fn size(f: Eight) -> usize
-    ensures { λ r. ⌜ r ≡ size-of f ⌝ }
+fn size(f: &Eight) -> Size
+    ensures { λ r. ⌜ r ≡ size-of (now (f .entry)) ⌝ }
 {
-    let mut place: usize = POWERS;
+    let mut place = POWERS as Size;
     while place > 0 {
-        if f[place - 1] != 0 {
+        if f[place as usize - 1] != 0 {
             return place;
         }
         place -= 1;
@@ -23,33 +24,31 @@ pub(crate) fn size(f: Eight) -> usize
 }
 
 // Each number times c.
-fn scaled(c: Element, f: Eight) -> Eight
-    requires { ⌜ 0 < c .modulus ⌝ }
-    ensures { λ r. ⌜ r ≡ scaled-of (c .modulus) (c .value) f ⌝ }
+fn scale(c: Element, f: &mut Eight)
+    requires { ⌜ Scalable (c .modulus) (now f) ⌝ }
+    ensures { λ _. ⌜ now (f .exit) ≡ scaled-of (c .modulus) (c .value) (now (f .entry)) ⌝ }
 {
-    let mut r: Eight = [Element::ZERO; POWERS];
     let mut i: usize = 0;
     while i < POWERS {
-        r[i] = c.product(Element::of(c.modulus, f[i])).value;
+        f[i] = c.product(Element::of(c.modulus, f[i])).value;
         i += 1;
     }
-    r
 }
 
 // All divided by the number at n.
-fn monic(p: Residue, n: usize, f: Eight) -> Eight
-    requires { ⌜ Divisible p n f ⌝ }
-    ensures { λ r. ⌜ r ≡ monic-of p n f ⌝ }
+fn make_monic(p: Residue, n: usize, f: &mut Eight)
+    requires { ⌜ Divisible p n (now f) ⌝ }
+    ensures { λ _. ⌜ now (f .exit) ≡ monic-of p n (now (f .entry)) ⌝ }
 {
     let lead = Element::of(p, f[n]);
     let v = lead.inverse();
-    scaled(v, f)
+    scale(v, f);
 }
 
 // f becomes f - c x^k g.
-fn subtract(c: Element, k: usize, f: &mut Eight, g: Eight)
+fn subtract(c: Element, k: usize, f: &mut Eight, g: &Eight)
     requires { ⌜ Step (c .modulus) (c .value) k (now f) ⌝ }
-    ensures { λ _. ⌜ now (f .exit) ≡ subtract-of (c .modulus) (c .value) k (now (f .entry)) g ⌝ }
+    ensures { λ _. ⌜ now (f .exit) ≡ subtract-of (c .modulus) (c .value) k (now (f .entry)) (now (g .entry)) ⌝ }
 {
     let mut i = k;
     while i < POWERS {
@@ -59,34 +58,44 @@ fn subtract(c: Element, k: usize, f: &mut Eight, g: Eight)
     }
 }
 
-// The remainder of f by g, which is monic of degree m.
-fn remainder(p: Residue, m: usize, g: Eight, f: Eight) -> Eight
-    requires { ⌜ Reducible p m f ⌝ }
-    ensures { λ r. ⌜ r ≡ remainder-of p m g (8 - m) f ⌝ }
+// f becomes its remainder by g, which is monic of degree m.
+fn reduce(p: Residue, m: usize, f: &mut Eight, g: &Eight)
+    requires { ⌜ Reducible p m (now f) ⌝ }
+    ensures { λ _. ⌜ now (f .exit) ≡ remainder-of p m (now (g .entry)) (8 - m) (now (f .entry)) ⌝ }
 {
-    let mut r = f;
     let mut k = POWERS - m;
     while k > 0 {
         k -= 1;
-        let c = Element::of(p, r[k + m]);
-        subtract(c, k, &mut r, g);
+        let c = Element::of(p, f[k + m]);
+        subtract(c, k, f, g);
     }
-    r
 }
 
-// The monic greatest common divisor of a and b, which are not both 0.
-pub(crate) fn gcd(p: Residue, a: Eight, b: Eight) -> Eight
-    requires { ⌜ Pair p a b ⌝ }
-    ensures { λ r. ⌜ r ≡ gcd-of p a b ⌝ }
+// A turn of Euclid's algorithm: g, of size n, is made monic, and f becomes its remainder by g, whose size is handed back.
+fn turn(p: Residue, n: Size, f: &mut Eight, g: &mut Eight) -> Size
+    requires { ⌜ CanTurn p n (now f) (now g) ⌝ }
+    ensures { λ r. ⌜ Stepped p n (now (f .entry)) (now (g .entry)) (now (f .exit)) (now (g .exit)) r ⌝ }
 {
-    let mut f = a;
-    let mut g = b;
-    let mut n = size(b);
+    let m = n as usize - 1;
+    make_monic(p, m, g);
+    reduce(p, m, f, g);
+    size(f)
+}
+
+// g, which is not 0, becomes the monic greatest common divisor of f and g; its size. The two take turns, so that nothing is copied.
+pub(crate) fn gcd(p: Residue, f: &mut Eight, g: &mut Eight) -> Size
+    requires { ⌜ Pair p (now f) (now g) ⌝ }
+    ensures { λ r. ⌜ IsDivisor p (now (f .entry)) (now (g .entry)) (now (g .exit)) r ⌝ }
+{
+    let mut n = size(g);
     while n > 0 {
-        let h = monic(p, n - 1, g);
-        g = remainder(p, n - 1, h, f);
-        f = h;
-        n = size(g);
+        let m = turn(p, n, f, g);
+        if m == 0 {
+            return n;
+        }
+        n = turn(p, m, g, f);
     }
-    monic(p, size(f) - 1, f)
+    let u = *f;
+    *g = u;
+    size(g)
 }

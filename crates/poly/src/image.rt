@@ -2,14 +2,13 @@
 ghost use mathlib.Core.Path.{_≡_};
 ghost use Rattle.field.specs.Refusal.{Tested};
 ghost use Rattle.poly.specs.ImageCall.{image-call, refused-image, image-table, Fine, AnswersPoint, ImageAnswer};
-ghost use Rattle.poly.specs.image.Model.{HasLeading, leading-number};
+ghost use Rattle.poly.specs.image.Model.{seen};
 use crate::Eight;
 use crate::ImageRecord;
 use crate::POWERS;
 use crate::PointImage;
 use crate::Size;
 use crate::euclid;
-use crate::key::Key;
 use crate::list;
 use crate::points;
 use crate::value;
@@ -29,35 +28,36 @@ fn refused(fault: Fault) -> ImageRecord
     }
 }
 
-// What a value has at its list's highest power of x: the x-leading coefficient at the point.
-fn leading(terms: &[Term], value: Eight) -> Residue
-    requires { ⌜ HasLeading (now terms) ⌝ }
-    ensures { λ r. ⌜ r ≡ leading-number (now (terms .entry)) value ⌝ }
+// The image at a point, of inputs that are in order: its coefficients into u, and its size; at a bad point all are 0. A point is bad if both
+// x-leading coefficients are 0 there; else a value that keeps its degree is not 0, and the other is divided by it.
+fn image_into(p: Residue, first: &[Term], second: &[Term], point: &[Residue], u: &mut Eight) -> Size
+    requires { ⌜ Fine p (now first) (now second) (now point) ⌝ }
+    ensures { λ r. ⌜ AnswersPoint p (now (first .entry)) (now (second .entry)) (now (point .entry)) (seen r (now (u .exit))) ⌝ }
 {
-    value[Key::of(terms[0]).x() as usize]
+    let mut v: Eight = [Element::ZERO; POWERS];
+    let m = value::value(p, point, first, u);
+    let n = value::value(p, point, second, &mut v);
+    if m != 0 {
+        return euclid::gcd(p, &mut v, u);
+    }
+    if n != 0 {
+        let size = euclid::gcd(p, u, &mut v);
+        *u = v;
+        return size;
+    }
+    *u = [Element::ZERO; POWERS];
+    0
 }
 
-// The image at a point, of inputs that are in order: for the service below, and for the layer above. The point is bad if both x-leading
-// coefficients are 0 there; else one value is not 0, and the other may be.
+// The image at a point, of inputs that are in order, by value: for the layer above.
 pub fn image_at(p: Residue, first: &[Term], second: &[Term], point: &[Residue]) -> PointImage
     requires { ⌜ Fine p (now first) (now second) (now point) ⌝ }
     ensures { λ r. ⌜ AnswersPoint p (now (first .entry)) (now (second .entry)) (now (point .entry)) r ⌝ }
 {
-    let ys = value::powers(Element::of(p, point[0]));
-    let zs = value::powers(Element::of(p, point[1]));
-    let ws = value::powers(Element::of(p, point[2]));
-    let a = value::value(p, ys, zs, ws, first);
-    let b = value::value(p, ys, zs, ws, second);
-    let bad = (leading(first, a) == 0) & (leading(second, b) == 0);
-    if bad {
-        return PointImage {
-            size: 0,
-            coefficients: [Element::ZERO; POWERS],
-        };
-    }
-    let u = euclid::gcd(p, a, b);
+    let mut u: Eight = [Element::ZERO; POWERS];
+    let size = image_into(p, first, second, point, &mut u);
     PointImage {
-        size: euclid::size(u) as Size,
+        size,
         coefficients: u,
     }
 }
@@ -81,14 +81,14 @@ pub fn image(p: Residue, first: &[Term], second: &[Term], point: &[Residue]) -> 
     if fault.number != 0 {
         return refused(fault);
     }
-    let seen = image_at(p, first, second, point);
-    if seen.size == 0 {
+    let mut u: Eight = [Element::ZERO; POWERS];
+    let size = image_into(p, first, second, point, &mut u);
+    if size == 0 {
         return refused(Fault::at(Fault::NO_GOOD_POINT, 0));
     }
-    let coefficients = seen.coefficients;
     ImageRecord {
         fault: Fault::none(),
-        coefficients,
-        degree: seen.size as usize - 1,
+        coefficients: u,
+        degree: size as usize - 1,
     }
 }

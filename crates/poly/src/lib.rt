@@ -15,7 +15,7 @@ pub mod value;
 // The powers of a variable, 0 to 7.
 pub const POWERS: usize = 8;
 
-// Eight numbers below the modulus: the coefficients of x^0 to x^7, or the powers 0 to 7 of a number.
+// Eight numbers below the modulus: the coefficients of x^0 to x^7.
 pub type Eight = [Residue; POWERS];
 
 // 0 for a bad point, else one more than the degree of its image.

@@ -43,13 +43,6 @@ module _ (R : CommRing) (D : Domain R) where
   pub greatest-second : (a b b′ g : Car) → Associate b b′ → GreatestCommon R D a b g → GreatestCommon R D a b′ g
   greatest-second a b b′ g s h = greatest-swap b′ a g (greatest-first b b′ a g s (greatest-swap a b g h))
 
-  pub greatest-itself : (a b g g′ : Car) → Associate g′ g → GreatestCommon R D a b g → GreatestCommon R D a b g′
-  greatest-itself a b g g′ s h = record {
-    left = div-trans R D g′ g a (s .to) (h .left);
-    right = div-trans R D g′ g b (s .to) (h .right);
-    most = λ e pe da db. div-trans R D e g g′ (h .most e pe da db) (s .from);
-  }
-
   -- two greatest common divisors divide each other
   pub greatest-associate : (a b g h : Car) → P g → P h → GreatestCommon R D a b g → GreatestCommon R D a b h → Associate g h
   greatest-associate a b g h pg ph s t = record { to = t .most g pg (s .left) (s .right); from = s .most h ph (t .left) (t .right) }

@@ -11,7 +11,7 @@ use Rattle.field.specs.Refusal.{Passes}
 use Rattle.field.specs.faults.Laws.{never-placed}
 use Rattle.poly.specs.declared.PointImage.{PointImage}
 use Rattle.poly.specs.Keys.{keys}
-use Rattle.poly.specs.Lists.{Count, WrongKey, above, WrongNumber, of-lists}
+use Rattle.poly.specs.Lists.{Count, WrongKey, WrongNumber, of-lists}
 use Rattle.poly.specs.Room.{of-rooms, work-room}
 use Rattle.poly.specs.value.Laws.{Bounded}
 use Rattle.poly.specs.list.Laws.{none-wrong, FallFrom, keys-fall, falling-bounded}
@@ -65,10 +65,6 @@ module _ (c : Call) (pass : Passes (table c)) where
 
   pub keys-most : length (c .skeleton) ≤ most-keys
   keys-most = let n : ¬ (most-keys < length (c .skeleton)) = λ l. never-placed (rest .0) (inr l) in omega arith
-
-  pub keys-small : (j : ℕ) → j < length (c .skeleton) → getD (c .skeleton) j 0 < keys
-  keys-small j l =
-      let n : ¬ (keys ≤ getD (c .skeleton) j 0) = λ m. none-wrong (WrongKey (c .skeleton)) (rest .1 .0) j (above l m) in omega arith
 
   pub skeleton-falls : FallFrom keys (c .skeleton)
   skeleton-falls = keys-fall (c .skeleton) (none-wrong (WrongKey (c .skeleton)) (rest .1 .0))

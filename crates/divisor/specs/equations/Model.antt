@@ -2,15 +2,17 @@
 use mathlib.Core.Path.{_≡_}
 use mathlib.Core.Bool.{true, false}
 use mathlib.Core.List.{List, map}
-use Prim.Native.Nat.{ℕ, suc, _+_, _*_, _%_, _≤_, _<_}
+use Prim.Native.Nat.{ℕ, suc, _+_, _%_, _≤_, _<_}
 use lib.Dec.{eqb}
 use lib.ListN.{length, getD}
+use Rattle.field.specs.declared.elements.Element.{Element}
 use Rattle.field.specs.Moduli.{Listed}
 use Rattle.field.specs.Prime.{Prime}
 use Rattle.field.specs.Modulo.{Modulo}
-use Rattle.poly.specs.Keys.{exponents, keys}
+use Rattle.poly.specs.Keys.{exponents}
 use Rattle.poly.specs.Coefficients.{Eight, series}
 use Rattle.poly.specs.ImageCall.{point-of}
+use Rattle.poly.specs.value.Monomial.{monomial}
 use Rattle.divisor.specs.declared.table.Row.{Row}
 use Rattle.divisor.specs.declared.table.Table.{Table}
 use Rattle.divisor.specs.Rule.{Kept}
@@ -18,36 +20,29 @@ use Rattle.divisor.specs.table.Model.{most-columns, cell, TableReady}
 use Rattle.divisor.specs.table.Meaning.{rows-of, Adds}
 use Rattle.divisor.specs.equations.Rows.{rows-at}
 
--- the coefficient of x^i of the monomial with the key k, where the powers of y, z and w are given
-unfoldable pub monomial-number : ℕ → List ℕ → List ℕ → List ℕ → ℕ → ℕ → ℕ
-monomial-number p ys zs ws i k =
-    elim (eqb (exponents k .x) i) [
-      | true ↦ (getD ys (exponents k .y) 0 * getD zs (exponents k .z) 0) % p * getD ws (exponents k .w) 0 % p
-      | false ↦ 0
-    ]
+-- the coefficient of x^i of the monomial with the key k, at the point y, z, w
+unfoldable pub monomial-number : ℕ → ℕ → ℕ → ℕ → ℕ → ℕ → ℕ
+monomial-number p y z w i k = elim (eqb (exponents k .x) i) [ true ↦ monomial y z w k % p | false ↦ 0 ]
 
--- what an equation asks for: a listed modulus, tables of powers, keys, and a column behind them
-pub record EquationReady (p : ℕ) (ys zs ws ks : List ℕ) (column u : ℕ) : Type 0 where
-  pub listed : Listed p
-  pub y-powers : Eight p ys
-  pub z-powers : Eight p zs
-  pub w-powers : Eight p ws
-  pub small : (j : ℕ) → j < length ks → getD ks j 0 < keys
+-- what an equation asks for: a listed modulus, which the point has too, and a column behind the keys
+pub record EquationReady (y z w : Element) (ks : List ℕ) (column : ℕ) (u : Element) : Type 0 where
+  pub listed : Listed (u .modulus)
+  pub y-same : y .modulus ≡ u .modulus
+  pub z-same : z .modulus ≡ u .modulus
+  pub w-same : w .modulus ≡ u .modulus
   pub behind : length ks ≤ column
   pub within : column < most-columns
-  pub below : u < p
 
 -- the row: a number for each key, u in the column, and 0 elsewhere
-pub record IsEquation (p : ℕ) (ys zs ws ks : List ℕ) (i column u : ℕ) (r : Row) : Type 0 where
+pub record IsEquation (p y z w : ℕ) (ks : List ℕ) (i column u : ℕ) (r : Row) : Type 0 where
   pub size : length (r .cells) ≡ most-columns
-  pub monomials : (j : ℕ) → j < length ks → cell r j ≡ monomial-number p ys zs ws i (getD ks j 0)
+  pub monomials : (j : ℕ) → j < length ks → cell r j ≡ monomial-number p y z w i (getD ks j 0)
   pub multiplier : cell r column ≡ u
   pub others : (j : ℕ) → length ks ≤ j → ¬ (j ≡ column) → cell r j ≡ 0
 
--- what the equations of a point ask for: the table, the keys, three coordinates, eight coefficients below p, and a column behind the keys
+-- what the equations of a point ask for: the table, three coordinates, eight coefficients below p, and a column behind the keys
 pub record PointReady (p : ℕ) (t : Table) (ks point image : List ℕ) (column : ℕ) : Type 0 where
   pub table : TableReady p t
-  pub small : (j : ℕ) → j < length ks → getD ks j 0 < keys
   pub three : length point ≡ 3
   pub eight : Eight p image
   pub behind : length ks ≤ column

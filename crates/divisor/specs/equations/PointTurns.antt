@@ -13,7 +13,6 @@ use Rattle.field.specs.elements.Fp.{el-mod}
 use Rattle.field.specs.elements.Link.{opposite-el}
 use Rattle.field.specs.Modulo.{Modulo}
 use Rattle.poly.specs.Keys.{exponents}
-use Rattle.poly.specs.value.PowersModel.{powers}
 use Rattle.poly.specs.Coefficients.{series}
 use Rattle.divisor.specs.declared.table.Row.{Row}
 use Rattle.divisor.specs.declared.table.Table.{Table}
@@ -37,7 +36,7 @@ module _ (p : ℕ) (t : Table) (ks point image : List ℕ) (column : ℕ) where
 
   -- one more power of x
   pub point-next : (j : ℕ) (r : Table) (u : ℕ) (e : Row) (s : Table) → 0 < p → getD image j 0 < p → u ≡ (p - getD image j 0) % p
-      → IsEquation p (powers p (getD point 0 0)) (powers p (getD point 1 0)) (powers p (getD point 2 0)) ks j column u e
+      → IsEquation p (getD point 0 0) (getD point 1 0) (getD point 2 0) ks j column u e
       → Equations-to j p t ks point image column r → s ≡ with-row p r e → Equations-to (j + 1) p t ks point image column s
   point-next j r u e s pos below eu is h q = record {
     rows = h .rows ++ (e ∷ []);

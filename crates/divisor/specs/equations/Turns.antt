@@ -17,19 +17,19 @@ use Rattle.divisor.specs.equations.RowLaws.{number-there}
 abbrev pub with-cell : Row → ℕ → ℕ → Row
 with-cell r j v = record { cells = set (r .cells) j v }
 
-module _ (p : ℕ) (ys zs ws ks : List ℕ) (i : ℕ) where
+module _ (p y z w : ℕ) (ks : List ℕ) (i : ℕ) where
   abbrev pub number-at : ℕ → ℕ
-  number-at k = monomial-number p ys zs ws i (getD ks k 0)
+  number-at k = monomial-number p y z w i (getD ks k 0)
 
   module _ (j : ℕ) (r : Row) (h : Filled number-at most-columns zeros j (r .cells)) where
     zero-at : (k : ℕ) → getD zeros k 0 ≡ 0
     zero-at k = replicate-all (λ a. a ≡ 0) most-columns k 0 0 refl refl
 
     pub equation-passed : j < most-columns → ¬ (exponents (getD ks j 0) .x ≡ i) → Filled number-at most-columns zeros (j + 1) (r .cells)
-    equation-passed b n = filled-passed h b (zero-at j ∙ sym (number-there p ys zs ws i (getD ks j 0) n))
+    equation-passed b n = filled-passed h b (zero-at j ∙ sym (number-there p y z w i (getD ks j 0) n))
 
     pub equation-end : (column u : ℕ) → length ks ≤ j → j ≤ length ks → length ks ≤ column → column < most-columns
-        → IsEquation p ys zs ws ks i column u (with-cell r column u)
+        → IsEquation p y z w ks i column u (with-cell r column u)
     equation-end column u l m b c = record {
       size = length-set (r .cells) column u ∙ h .long;
       monomials = λ k a. getD-set-other (r .cells) column k u 0 (λ z. omega arith) ∙ h .done k (omega arith);

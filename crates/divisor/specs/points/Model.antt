@@ -11,7 +11,7 @@ use Rattle.field.specs.Prime.{Prime}
 use Rattle.field.specs.Modulo.{Modulo}
 use Rattle.field.specs.Refusal.{Passes}
 use Rattle.poly.specs.declared.PointImage.{PointImage}
-use Rattle.poly.specs.Keys.{exponents, keys}
+use Rattle.poly.specs.Keys.{exponents}
 use Rattle.poly.specs.Lists.{of-lists}
 use Rattle.poly.specs.Room.{work-room}
 use Rattle.poly.specs.Coefficients.{Eight}
@@ -70,7 +70,6 @@ pub record ColumnReady (keys kept columns : ℕ) : Type 0 where
 -- what all equations ask for
 pub record EquationsReady (p : ℕ) (ks points sizes work : List ℕ) (m columns : ℕ) : Type 0 where
   pub listed : Listed p
-  pub small : (j : ℕ) → j < length ks → getD ks j 0 < keys
   pub threes : length points ≡ 3 * (length points / 3)
   pub few : length points ≤ most-point-numbers
   pub count : length sizes ≡ most-points

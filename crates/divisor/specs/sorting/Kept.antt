@@ -18,7 +18,7 @@ use Rattle.divisor.specs.table.Model.{Columns}
 use Rattle.divisor.specs.points.PartsModel.{Within}
 use Rattle.divisor.specs.sorting.Model.{sizes-of, least, alike, kept-of}
 use Rattle.divisor.specs.points.Model.{Looks, kept-before, EquationsReady}
-use Rattle.divisor.specs.checks.Passed.{point-count, looks-of, right-lists, keys-most, keys-small, right-points, few-points, work-fits}
+use Rattle.divisor.specs.checks.Passed.{point-count, looks-of, right-lists, keys-most, right-points, few-points, work-fits}
 use Rattle.divisor.specs.checks.Passed.{look-ready, looked}
 use Rattle.divisor.specs.sorting.Laws.{alike-most, alike-two, Least, AtLeast, least-is, kept-count}
 use Rattle.divisor.specs.points.Looking.{look-eight}
@@ -97,7 +97,6 @@ module _ {c : Call} {after sizes : List ℕ} {m count : ℕ} (good : SomeGood c 
   pub ready-equations : EquationsReady (c .modulus) (c .skeleton) (c .points) sizes after m (length (c .skeleton) + count)
   ready-equations = record {
     listed = listed;
-    small = keys-small c pass;
     threes = right-points c pass .threes;
     few = right-points c pass .few;
     count = good .look .sized .long;

@@ -49,6 +49,6 @@ euclid p (suc fuel) f g =
       | false ↦ euclid p fuel (monic p (size g - 1) g) (remainder p (size g - 1) (monic p (size g - 1) g) (8 - (size g - 1)) f)
     ]
 
--- the monic greatest common divisor of a and b, which are not both 0
+-- the monic greatest common divisor of a and b, which is not 0
 unfoldable pub gcd : ℕ → List ℕ → List ℕ → List ℕ
-gcd p a b = let f = euclid p (size b) a b in monic p (size f - 1) f
+gcd p a b = euclid p (size b) a b

@@ -52,7 +52,7 @@ pub size-le : (n : ℕ) (f : List ℕ) → size-to n f ≤ n
 size-le n f = by-size f (λ n s. s ≤ n) (omega arith) (λ n s e again. omega arith) (λ n q. omega arith) n
 
 -- the highest number that is not 0 stands at m
-pub size-is : (n m : ℕ) (f : List ℕ) → Clear n f → ¬ (getD f m 0 ≡ 0) → Clear (suc m) f → size-to n f ≡ suc m
+size-is : (n m : ℕ) (f : List ℕ) → Clear n f → ¬ (getD f m 0 ≡ 0) → Clear (suc m) f → size-to n f ≡ suc m
 size-is n m f hn q h =
     let l = size-below n (suc m) f h in
     elim (decLe (size-to n f) m) [ yes k ↦ absurd (q (size-clear n f hn m k)) | no k ↦ omega arith ]
@@ -60,8 +60,12 @@ size-is n m f hn q h =
 pub eight-clear : (p : ℕ) (f : List ℕ) → Eight p f → Clear 8 f
 eight-clear p f h i l = past-end 8 i f (h .eight) l
 
+-- where the highest number is 1, at d, the size is one more
+pub leads-size : (p d : ℕ) (u : List ℕ) → Eight p u → Leads d u → size-to 8 u ≡ suc d
+leads-size p d u h l = size-is 8 d u (eight-clear p u h) (λ e. omega (arith, sym (l .one) ∙ e)) (l .clear)
+
 module _ (p : ℕ) (pos : 0 < p) where
-  pub cells-eight : (h : ℕ → ℕ) → ((i : ℕ) → i < 8 → h i < p) → Eight p (cells h 8)
+  cells-eight : (h : ℕ → ℕ) → ((i : ℕ) → i < 8 → h i < p) → Eight p (cells h 8)
   cells-eight h s = record { eight = cells-length h 8; below = λ i. cells-all (λ n. n < p) h 8 i (s i) (λ l. pos) }
 
   pub scaled-eight : (c : ℕ) (f : List ℕ) → Eight p (scaled p c f)

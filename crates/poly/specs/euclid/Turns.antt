@@ -9,8 +9,8 @@ use Rattle.field.specs.Prime.{Prime}
 use Rattle.field.specs.modulus.Prime.{prime-positive}
 use Rattle.poly.specs.Coefficients.{Eight}
 use Rattle.poly.specs.euclid.Model.{size, monic, remainder, euclid}
-use Rattle.poly.specs.euclid.Numbers.{Leads, eight-clear, size-lead, size-below, size-le, remainder-eight, remainder-clear}
-use Rattle.poly.specs.euclid.Meaning.{highest-leads}
+use Rattle.poly.specs.euclid.Numbers.{Leads, eight-clear, size-lead, size-below, size-le, leads-size, remainder-eight, remainder-clear}
+use Rattle.poly.specs.euclid.Meaning.{monic-eight, highest-leads}
 
 -- g divided by its highest number
 abbrev pub turned : ℕ → ℕ → List ℕ → List ℕ
@@ -29,6 +29,11 @@ pub euclid-end : (p fuel : ℕ) (f g : List ℕ) → size g ≡ 0 → euclid p f
 unfolding euclid
 euclid-end p zero f g e = refl
 euclid-end p (suc fuel) f g e = rw (eq-eqb (size g) 0 e, euclid)
+
+-- made monic, g has the size that it had
+pub turn-size : {p : ℕ} (P : Prime p) (g : List ℕ) → Eight p g → ¬ (size g ≡ 0) → size (turned p (size g) g) ≡ size g
+turn-size {p} P g hg q =
+    let s = leads-size p (size g - 1) (turned p (size g) g) (monic-eight P (size g - 1) g) (highest-leads P g hg q) in omega arith
 
 -- what a turn makes of g: monic, with the remainder of f by it smaller
 module _ {p : ℕ} (P : Prime p) (f g : List ℕ) (hf : Eight p f) (hg : Eight p g) (q : ¬ (size g ≡ 0)) where
@@ -57,6 +62,9 @@ module _ (p n : ℕ) (f g : List ℕ) (e : n ≡ size g) (pos : 0 < n) where
       let s : suc (fuel - 1) ≡ fuel = omega arith in
       ap (λ (k : ℕ). euclid p k f g) (sym s) ∙ euclid-next p (fuel - 1) f g filled
       ∙ ap (λ (k : ℕ). euclid p (fuel - 1) (turned p k g) (rest p k f g)) (sym e)
+
+  pub turn-keeps : Prime p → Eight p g → size (turned p n g) ≡ n
+  turn-keeps P hg = ap (λ (k : ℕ). size (turned p k g)) e ∙ turn-size P g hg filled ∙ sym e
 
   pub turn-falls : Prime p → Eight p f → Eight p g → size (rest p n f g) < n
   turn-falls P hf hg =

@@ -1,6 +1,7 @@
 -- The key of a monomial and its exponents are each other's; the order of keys is that of the exponents; keys add where no exponent passes 7.
 use mathlib.Core.Path.{_≡_, sym, _∙_, ap, ap₂}
-use Prim.Native.Nat.{ℕ, _+_, _*_, _/_, _%_, _<_}
+use Prim.Native.Nat.{ℕ, _+_, _-_, _*_, _/_, _%_, _≤_, _<_}
+use native.Mathlib.Nat.{mod-eq-of-lt}
 use native.Mathlib.Omega.{arith}
 use Rattle.algebra.specs.Four.{Exponents, _⊞_, _≺_, by-x, by-y, by-z, by-w}
 use Rattle.algebra.specs.Laws.Four.{exponents-path, Order, lower, equal, higher, compare}
@@ -14,6 +15,17 @@ split-64 k = omega arith
 
 split-1 : (k : ℕ) → k ≡ 8 * (k / 8) + k % 8
 split-1 k = omega arith
+
+-- where x and y have the same exponents, z's are apart by what is between the keys over 8
+apart : (a b h c d : ℕ) → a ≡ 8 * h + c → b ≡ 8 * h + d → a ≤ b → d < 8 → c + (b - a) % 8 ≡ d
+apart a b h c d ea eb l s =
+    let n : b - a < 8 = omega arith in
+    let m : (b - a) % 8 ≡ b - a = mod-eq-of-lt n in
+    omega arith
+
+pub z-risen : (before k : ℕ) → before ≤ k → k / 64 ≡ before / 64 → exponents before .z + (k / 8 - before / 8) % 8 ≡ exponents k .z
+z-risen before k l e =
+    apart (before / 8) (k / 8) (before / 64) _ _ (split-8 before) (split-8 k ∙ ap (λ (h : ℕ). 8 * h + k / 8 % 8) e) (omega arith) (omega arith)
 
 pub key-of-exponents : (k : ℕ) → key (exponents k) ≡ k
 key-of-exponents k = let a = split-1 k in let b = split-8 k in let c = split-64 k in omega arith

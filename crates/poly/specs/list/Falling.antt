@@ -1,8 +1,10 @@
 -- A list that falls: where its keys and coefficients are, and that no term is wrong.
+use mathlib.Core.Path.{_≡_, ap}
 use mathlib.Core.List.{List, [], _∷_}
 use Prim.Native.Nat.{ℕ, zero, suc, _≤_, _<_}
+use native.Mathlib.Decide.{decLt}
 use native.Mathlib.Omega.{arith}
-use lib.ListN.{length, getD}
+use lib.ListN.{length, getD, List·getD-eq-default}
 use Rattle.poly.specs.Keys.{keys}
 use Rattle.poly.specs.Terms.{key-of, coefficient-of}
 use Rattle.poly.specs.Lists.{WrongModulo, Falling}
@@ -35,6 +37,13 @@ falling-next : (p b : ℕ) (ts : List ℕ) → Falling p b ts → (i : ℕ) → 
 falling-next p b [] h i l = absurd (omega arith)
 falling-next p b (t ∷ ts) h zero l = falling-key p (key-of t) ts (h .3) zero (omega arith)
 falling-next p b (t ∷ ts) h (suc i) l = falling-next p (key-of t) ts (h .3) i (omega arith)
+
+-- read from behind, keys rise from 0
+pub falling-rises : (p b : ℕ) (ts : List ℕ) → Falling p b ts → (i : ℕ) → i < length ts → key-of (getD ts (suc i) 0) ≤ key-of (getD ts i 0)
+falling-rises p b ts h i l = elim (decLt (suc i) (length ts)) [
+  | yes m ↦ omega (arith, falling-next p b ts h i m)
+  | no m ↦ let e : getD ts (suc i) 0 ≡ 0 = List·getD-eq-default ts 0 (omega arith) in omega (arith, ap key-of e)
+]
 
 pub falling-positive : (p b : ℕ) (ts : List ℕ) → Falling p b ts → (i : ℕ) → i < length ts → 0 < coefficient-of (getD ts i 0)
 falling-positive p b [] h i l = absurd (omega arith)

@@ -5,7 +5,7 @@ use mathlib.Core.Path.{_≡_, refl}
 use mathlib.Core.Bool.{true}
 use mathlib.Core.Logic.{Dec·not, Dec·and}
 use mathlib.Core.List.{List, [], _∷_, map}
-use Prim.Native.Nat.{ℕ, _≤_}
+use Prim.Native.Nat.{ℕ, _%_, _^_, _≤_}
 use native.Mathlib.Decide.{ℕ-discrete, decLe, decLt}
 use lib.ListN.{length}
 use Rattle.algebra.specs.Ring.{pow}
@@ -20,10 +20,9 @@ use Rattle.field.specs.faults.Decision.{placed-check, look, first-check, decide
 use Rattle.poly.specs.Room.{work-room}
 use Rattle.field.specs.loops.Filled.{cells, between}
 use Rattle.field.specs.loops.Fold.{fold, downwards}
-use Rattle.poly.specs.value.PowersModel.{power, powers}
-use Rattle.poly.specs.value.Model.{plus-term, value-of}
+use Rattle.poly.specs.value.Model.{plus-term, with-term, value-of}
 use Rattle.poly.specs.euclid.Model.{size-to, scaled, monic, subtract, euclid, gcd}
-use Rattle.poly.specs.image.Model.{value-at, image-of-values, image-of}
+use Rattle.poly.specs.image.Model.{image-of-values, image-of}
 use Rattle.divisor.specs.Candidate.{points-of}
 use Rattle.divisor.specs.sorting.Model.{lesser, alike, kept-of}
 use Rattle.divisor.specs.monic.Model.{leading, scaled-terms}
@@ -54,7 +53,7 @@ use Rattle.proved_table.specs.Table.{images, products, p1, table}
 
 pub table-passes : (every test table ≡ true) × (every test more-rows ≡ true)
 unfolding ℕ-discrete decLe decLt mono pow listed listed-decided el add mul neg chase inv Fp-discrete Dec·not Dec·and placed-check look first-check
-    decided cells power powers plus-term fold value-of size-to scaled monic between subtract downwards euclid gcd value-at image-of-values
+    decided cells plus-term with-term fold value-of size-to scaled monic between subtract downwards euclid gcd image-of-values
     image-of points-of lesser alike kept-of leading scaled-terms compare-by compare each-at-most plus less before-all leads
     divided division tried divided-by by-answer with-counts by-kept by-least by-looks computed count-decided not-below-decided key-decided
     plain-term-decided term-decided number-decided checks-append list-checks skeleton-checks points-checks checks same-numbers agrees passes answers test
@@ -73,8 +72,8 @@ table-determined = each-follows Holds Determined holds-determined table table-ho
 
 -- the images that the rows name are those, and so are the images beside them
 images-pass : (every image-test images ≡ true) × (every image-test more-images ≡ true)
-unfolding ℕ-discrete decLe decLt listed listed-decided el add mul neg chase inv Dec·not Dec·and placed-check look first-check decided cells power
-    powers plus-term fold value-of size-to scaled monic between subtract downwards euclid gcd value-at image-of-values image-of
+unfolding ℕ-discrete decLe decLt listed listed-decided el add mul neg chase inv Dec·not Dec·and placed-check look first-check decided cells
+    plus-term with-term fold value-of size-to scaled monic between subtract downwards euclid gcd image-of-values image-of
     count-decided not-below-decided key-decided plain-term-decided term-decided number-decided checks-append list-checks point-checks image-checks same-numbers
     image-passes image-agrees image-test
 images-pass = (refl, refl)
@@ -111,8 +110,7 @@ unfolding ℕ-discrete decLe decLt Dec·and placed-check look first-check decide
 picks-hold = each-tested pick-test Picks pick-tested picks refl
 
 -- P11: as values y⁷ and y agree everywhere modulo 7
-pub agree-as-values : map (λ y. power 7 y 7) (0 ∷ 1 ∷ 2 ∷ 3 ∷ 4 ∷ 5 ∷ 6 ∷ []) ≡ (0 ∷ 1 ∷ 2 ∷ 3 ∷ 4 ∷ 5 ∷ 6 ∷ [])
-unfolding power
+pub agree-as-values : map (λ (y : ℕ). (y ^ 7) % 7) (0 ∷ 1 ∷ 2 ∷ 3 ∷ 4 ∷ 5 ∷ 6 ∷ []) ≡ (0 ∷ 1 ∷ 2 ∷ 3 ∷ 4 ∷ 5 ∷ 6 ∷ [])
 agree-as-values = refl
 
 -- the lists that are given as products are those

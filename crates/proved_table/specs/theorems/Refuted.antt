@@ -12,10 +12,9 @@ use Rattle.field.specs.elements.Fp.{Fp-discrete}
 use Rattle.field.specs.faults.Decision.{placed-check, look, first-check, decided}
 use Rattle.field.specs.loops.Filled.{cells, between}
 use Rattle.field.specs.loops.Fold.{fold, downwards}
-use Rattle.poly.specs.value.PowersModel.{power, powers}
-use Rattle.poly.specs.value.Model.{plus-term, value-of}
+use Rattle.poly.specs.value.Model.{plus-term, with-term, value-of}
 use Rattle.poly.specs.euclid.Model.{size-to, scaled, monic, subtract, euclid, gcd}
-use Rattle.poly.specs.image.Model.{value-at, image-of-values, image-of}
+use Rattle.poly.specs.image.Model.{image-of-values, image-of}
 use Rattle.divisor.specs.Candidate.{points-of}
 use Rattle.divisor.specs.sorting.Model.{lesser, alike, kept-of}
 use Rattle.divisor.specs.monic.Model.{leading, scaled-terms}
@@ -50,7 +49,7 @@ use Rattle.proved_table.specs.test.PicksLaws.{pick-refuted, place-refute
 -- the contract of the candidate refutes each of its wrong results
 pub wrong-results-refuted : Each Refuted wrong-results
 unfolding ℕ-discrete decLe decLt mono pow listed listed-decided el add mul neg chase inv Fp-discrete Dec·not Dec·and placed-check look first-check
-    decided cells power powers plus-term fold value-of size-to scaled monic between subtract downwards euclid gcd value-at image-of-values
+    decided cells plus-term with-term fold value-of size-to scaled monic between subtract downwards euclid gcd image-of-values
     image-of points-of lesser alike kept-of leading scaled-terms compare-by compare each-at-most plus less before-all leads
     divided division tried divided-by by-answer with-counts by-kept by-least by-looks computed count-decided not-below-decided key-decided
     plain-term-decided term-decided number-decided checks-append list-checks skeleton-checks points-checks checks same-numbers agrees passes answers test
@@ -66,8 +65,8 @@ wrong-quotients-refuted = each-tested wrong-quotient-test QuotientRefuted quotie
 
 -- of the image
 pub wrong-images-refuted : Each ImageRefuted wrong-images
-unfolding ℕ-discrete decLe decLt listed listed-decided el add mul neg chase inv Dec·not Dec·and placed-check look first-check decided cells power
-    powers plus-term fold value-of size-to scaled monic between subtract downwards euclid gcd value-at image-of-values image-of
+unfolding ℕ-discrete decLe decLt listed listed-decided el add mul neg chase inv Dec·not Dec·and placed-check look first-check decided cells
+    plus-term with-term fold value-of size-to scaled monic between subtract downwards euclid gcd image-of-values image-of
     count-decided not-below-decided key-decided plain-term-decided term-decided number-decided checks-append list-checks point-checks image-checks same-numbers
     image-passes image-agrees image-test clash wrong-image-test
 wrong-images-refuted = each-tested wrong-image-test ImageRefuted image-refuted wrong-images refl

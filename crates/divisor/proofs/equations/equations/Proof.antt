@@ -81,7 +81,6 @@ point-equations-requires c κs =
     record {
       table = adds-ready _ (l .inv .added .adds)
           (empty-ready (a .p) (a .columns) (s .pre .listed) (record { some = omega (arith, s .pre .columns-are, s .pre .some); most = s .pre .most }));
-      small = s .pre .small;
       three = ap length (part-is 3 (l .i) (a .points .now)) ∙ part-length 3 (l .i) (a .points .now) (omega (arith, s .pre .threes));
       eight = subst (Eight (a .p)) (sym (part-is 8 (l .i) (a .work .now))) (s .pre .images (l .i) i);
       behind = omega (arith, e);

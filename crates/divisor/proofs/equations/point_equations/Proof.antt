@@ -7,12 +7,9 @@ use Prim.Native.Nat.{ℕ, _-_, _%_, _<_, _≤_}
 use native.Mathlib.Omega.{arith}
 use native.Mathlib.Nat.{mod-lt, zero-add}
 use lib.ListN.{getD}
-use Rattle.field.specs.elements.Plain.{has-modulus}
-use Rattle.field.specs.modulus.Laws.{listed-above, listed-positive}
+use Rattle.field.specs.declared.elements.Element.{Element}
+use Rattle.field.specs.modulus.Laws.{listed-positive}
 use Rattle.field.specs.Contract.{element, difference-of}
-use Rattle.poly.specs.Coefficients.{Eight}
-use Rattle.poly.specs.value.PowersModel.{powers}
-use Rattle.poly.specs.value.PowersLaws.{powers-eight, powers-of}
 use Rattle.divisor.specs.declared.table.Table.{Table}
 use Rattle.divisor.specs.table.Model.{with-row, TableReady}
 use Rattle.divisor.specs.equations.Model.{EquationReady, IsEquation, Equations-to}
@@ -29,62 +26,36 @@ record Passing (p : ℕ) (skeleton point image : List ℕ) (column : ℕ) (s₀ 
   equations : Equations-to i p s₀ skeleton point image column s
 
 abbrev Inv-loop : tie.InvT-loop
-Inv-loop p skeleton point image column ys zs ws s₀ i₀ s i = Passing p skeleton point image column s₀ s i
+Inv-loop p skeleton point image column y z w s₀ i₀ s i = Passing p skeleton point image column s₀ s i
 
 abbrev μ-loop : tie.MeasureT-loop
-μ-loop p skeleton point image column ys zs ws s₀ i₀ s i = 8 - i
+μ-loop p skeleton point image column y z w s₀ i₀ s i = 8 - i
 
--- from where each number of the point is an element: where the function began, and with the tables worked so far
-abbrev opened : tie.After-of Inv-loop μ-loop → tie.Start Inv-loop μ-loop
-opened c = c .before .before .before .before .before
-
-abbrev one-table : tie.After-of2 Inv-loop μ-loop → tie.After-powers Inv-loop μ-loop
-one-table c = c .before .before
-
-abbrev two-tables : tie.After-of3 Inv-loop μ-loop → tie.After-powers2 Inv-loop μ-loop
-two-tables c = c .before .before
-
--- at the loop: the tables of powers are the model's
+-- at the loop: the elements of the point, and where the function began
 module _ (l : tie.At-loop Inv-loop μ-loop) where
-  abbrev at-z : tie.After-powers2 Inv-loop μ-loop
-  at-z = two-tables (l .before .before)
+  abbrev at-w : tie.After-of3 Inv-loop μ-loop
+  at-w = l .before
 
-  abbrev at-y : tie.After-powers Inv-loop μ-loop
-  at-y = one-table (at-z .before)
+  abbrev at-z : tie.After-of2 Inv-loop μ-loop
+  at-z = at-w .before .before
+
+  abbrev at-y : tie.After-of Inv-loop μ-loop
+  at-y = at-z .before .before
 
   abbrev start : tie.Start Inv-loop μ-loop
-  start = opened (at-y .before)
+  start = at-y .before .before .before .before .before
 
   abbrev coordinate : ℕ → ℕ
   coordinate k = getD (start .args .point .now) k 0
 
-  abbrev ys : List ℕ
-  ys = at-y .powers .result
+  abbrev y : Element
+  y = at-y .of .result
 
-  abbrev zs : List ℕ
-  zs = at-z .powers2 .result
+  abbrev z : Element
+  z = at-z .of2 .result
 
-  abbrev ws : List ℕ
-  ws = l .before .powers3 .result
-
-  y-table : ys ≡ powers (start .args .p) (coordinate 0)
-  y-table = powers-of (at-y .before .of .ensures) (at-y .powers .ensures)
-
-  z-table : zs ≡ powers (start .args .p) (coordinate 1)
-  z-table = powers-of (at-z .before .of2 .ensures) (at-z .powers2 .ensures)
-
-  w-table : ws ≡ powers (start .args .p) (coordinate 2)
-  w-table = powers-of (l .before .before .of3 .ensures) (l .before .powers3 .ensures)
-
-powers-requires : tie.Need-powers-requires Inv-loop μ-loop
-powers-requires c κs = has-modulus (c .of .ensures) (listed-positive (opened c .pre .table .listed))
-
-powers-requires-2 : tie.Need-powers-requires-2 Inv-loop μ-loop
-powers-requires-2 c κs = has-modulus (c .of2 .ensures) (listed-positive (opened (one-table c .before) .pre .table .listed))
-
-powers-requires-3 : tie.Need-powers-requires-3 Inv-loop μ-loop
-powers-requires-3 c κs =
-    has-modulus (c .of3 .ensures) (listed-positive (opened (one-table (two-tables c .before) .before) .pre .table .listed))
+  abbrev w : Element
+  w = at-w .of3 .result
 
 loop-holds : tie.Need-loop-holds Inv-loop μ-loop
 loop-holds c = record { within = omega arith; equations = point-start _ _ _ _ _ _ }
@@ -124,29 +95,28 @@ equation-requires : tie.Need-equation-requires Inv-loop μ-loop
 equation-requires c κs =
     let s = start (loop c) in
     let a = s .args in
-    let above = listed-above (s .pre .table .listed) in
-    subst (λ u. EquationReady (u .modulus) (ys (loop c)) (zs (loop c)) (ws (loop c)) (a .skeleton .now) (a .column) (u .value)) (sym (u-is c))
+    subst (EquationReady (y (loop c)) (z (loop c)) (w (loop c)) (a .skeleton .now) (a .column)) (sym (u-is c))
     record {
       listed = s .pre .table .listed;
-      y-powers = subst (Eight (a .p)) (sym (y-table (loop c))) (powers-eight (a .p) _ above);
-      z-powers = subst (Eight (a .p)) (sym (z-table (loop c))) (powers-eight (a .p) _ above);
-      w-powers = subst (Eight (a .p)) (sym (w-table (loop c))) (powers-eight (a .p) _ above);
-      small = s .pre .small;
+      y-same = ap (λ e. e .modulus) (at-y (loop c) .of .ensures);
+      z-same = ap (λ e. e .modulus) (at-z (loop c) .of2 .ensures);
+      w-same = ap (λ e. e .modulus) (at-w (loop c) .of3 .ensures);
       behind = s .pre .behind;
       within = omega (arith, s .pre .within, s .pre .table .columns .most);
-      below = opposite-below c;
     }
 
 -- the equation made is that of x^i at the point
 is-equation : (c : tie.After-equation Inv-loop μ-loop) → let a = start (loop (c .before)) .args in
-    IsEquation (a .p) (powers (a .p) (coordinate (loop (c .before)) 0)) (powers (a .p) (coordinate (loop (c .before)) 1))
-    (powers (a .p) (coordinate (loop (c .before)) 2)) (a .skeleton .now) (loop (c .before) .loop .i) (a .column) (opposite (c .before)) (c .equation .result)
+    IsEquation (a .p) (coordinate (loop (c .before)) 0) (coordinate (loop (c .before)) 1) (coordinate (loop (c .before)) 2) (a .skeleton .now)
+    (loop (c .before) .loop .i) (a .column) (opposite (c .before)) (c .equation .result)
 is-equation c =
     let at = loop (c .before) in
     let a = start at .args in
-    subst₃ (λ ys zs ws. IsEquation (a .p) ys zs ws (a .skeleton .now) (at .loop .i) (a .column) (opposite (c .before)) (c .equation .result))
-    (y-table at) (z-table at) (w-table at)
-    (subst (λ u. IsEquation (u .modulus) (ys at) (zs at) (ws at) (a .skeleton .now) (at .loop .i) (a .column) (u .value) (c .equation .result))
+    subst₃ (λ y z w. IsEquation (a .p) (y .value) (z .value) (w .value) (a .skeleton .now) (at .loop .i) (a .column) (opposite (c .before))
+    (c .equation .result))
+    (at-y at .of .ensures) (at-z at .of2 .ensures) (at-w at .of3 .ensures)
+    (subst (λ u. IsEquation (u .modulus) (y at .value) (z at .value) (w at .value) (a .skeleton .now) (at .loop .i) (a .column) (u .value)
+    (c .equation .result))
     (u-is (c .before)) (c .equation .ensures))
 
 -- the table so far is ready
@@ -200,7 +170,6 @@ returns c =
 
 pub point-equations-spec : {M : Type 1} → statement M
 point-equations-spec =
-    tie.close (tie.spec Inv-loop μ-loop (λ c. search needs) (λ c κs. search needs) powers-requires (λ c. search needs) (λ c κs. search needs)
-    powers-requires-2 (λ c. search needs) (λ c κs. search needs) powers-requires-3 loop-holds (λ c κs. search needs) (λ c. search needs)
-    (λ c. search needs) (λ c κs. search needs) difference-requires (λ c. search needs) equation-requires (λ c κs. search needs) with-added-requires
-    (λ c. search needs) (λ c. search needs) loop-again returns)
+    tie.close (tie.spec Inv-loop μ-loop (λ c. search needs) (λ c κs. search needs) (λ c. search needs) (λ c κs. search needs) (λ c. search needs)
+    (λ c κs. search needs) loop-holds (λ c κs. search needs) (λ c. search needs) (λ c. search needs) (λ c κs. search needs) difference-requires
+    (λ c. search needs) equation-requires (λ c κs. search needs) with-added-requires (λ c. search needs) (λ c. search needs) loop-again returns)

@@ -24,20 +24,20 @@ loop-holds c = record { within = omega arith; same = refl }
 
 returns : tie.Need-returns Inv-loop μ-loop
 returns c =
-    let l = c .before .before in
-    sym (l .loop .inv .same ∙ size-found (l .before .args .t1) (omega arith) (c .if1 .taken))
+    let l = c .before .before .before in
+    sym (l .loop .inv .same ∙ size-found (l .before .args .f .now) (omega arith) (c .if1 .taken))
 
 loop-again : tie.Need-loop-again Inv-loop μ-loop
 loop-again c =
-    let l = c .before .before in
-    record { within = omega arith; same = l .loop .inv .same ∙ size-down (l .before .args .t1) (omega arith) (c .if1 .left) }
+    let l = c .before .before .before in
+    record { within = omega arith; same = l .loop .inv .same ∙ size-down (l .before .args .f .now) (omega arith) (c .if1 .left) }
 
 returns-2 : tie.Need-returns-2 Inv-loop μ-loop
 returns-2 c =
     let l = c .before in
-    sym (l .loop .inv .same ∙ size-none (l .before .args .t1) (omega arith))
+    sym (l .loop .inv .same ∙ size-none (l .before .args .f .now) (omega arith))
 
 pub size-spec : {M : Type 1} → statement M
 size-spec =
-    tie.close (tie.spec Inv-loop μ-loop loop-holds (λ c. search needs) (λ c. search needs) (λ c. search needs) returns (λ c. search needs)
-    (λ c. search needs) loop-again returns-2)
+    tie.close (tie.spec Inv-loop μ-loop (λ c. search needs) loop-holds (λ c. search needs) (λ c. search needs) (λ c. search needs)
+    (λ c. search needs) returns (λ c. search needs) (λ c. search needs) loop-again returns-2)

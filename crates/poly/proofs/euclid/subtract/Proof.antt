@@ -27,17 +27,17 @@ loop-holds c = part-start (omega (arith, c .pre .power)) (c .pre .eight)
 
 minus-product-requires : tie.Need-minus-product-requires Inv-loop μ-loop
 minus-product-requires c κs =
-    let s = turn (c .before) .before in
-    can-subtract (c .before .of .ensures) refl (omega (arith, s .pre .below)) (omega (arith, s .pre .below))
+    let s = turn (c .before .before) .before in
+    can-subtract (c .before .before .of .ensures) refl (omega (arith, s .pre .below)) (omega (arith, s .pre .below))
 
 loop-again : tie.Need-loop-again Inv-loop μ-loop
 loop-again c =
-    let at = turn (c .before .before) in
+    let at = turn (c .before .before .before) in
     let l = at .loop in
     let a = at .before .args in
     part-next (l .inv) (omega arith) (omega arith)
-    (ap (λ (v : Element). v .value) (minus-product-is refl (c .before .of2 .ensures) (c .before .before .of .ensures) (c .minus-product .ensures))
-    ∙ ap (λ (x : ℕ). (x + (a .c .modulus - a .c .value) * getD (a .t4) (l .i - a .k) 0) % a .c .modulus) (l .inv .filled .left (l .i) (omega arith)))
+    (ap (λ (v : Element). v .value) (minus-product-is refl (c .before .of2 .ensures) (c .before .before .before .of .ensures) (c .minus-product .ensures))
+    ∙ ap (λ (x : ℕ). (x + (a .c .modulus - a .c .value) * getD (a .g .now) (l .i - a .k) 0) % a .c .modulus) (l .inv .filled .left (l .i) (omega arith)))
 
 returns : tie.Need-returns Inv-loop μ-loop
 unfolding subtract

@@ -1,144 +1,207 @@
--- `poly::value::value` meets its contract: the loop keeps the model's answer on the terms that are left (`Valuing`); the measure is their number.
+-- `poly::value::value` meets its contract: the loop keeps the value of the terms that it has passed, and y^b z^c of the last of them (`Valuing`);
+-- the measure is how many terms are left.
 use borrow.Author.Needs.{needs}
-use mathlib.Core.Path.{_≡_, sym, ap, ap₂, _∙_, subst}
-use Prim.Native.Nat.{ℕ, _+_, _-_, _*_, _/_, _%_, _<_}
-use native.Mathlib.Omega.{arith}
+use mathlib.Core.Path.{_≡_, sym, ap, _∙_, subst}
 use mathlib.Core.List.{List}
-use lib.ListN.{length, getD, set}
-use mir.Syntax.{w64}
-use mir.Val.{Fits}
+use Prim.Native.Nat.{ℕ, suc, _+_, _-_, _*_, _/_, _%_, _^_, _≤_, _<_}
+use native.Mathlib.Omega.{arith}
+use lib.ListN.{length, getD, drop, List·getD-eq-default}
 use Rattle.field.specs.declared.elements.Element.{Element}
 use Rattle.field.specs.Contract.{element}
-use Rattle.field.specs.loops.Fold.{Folding, folding-start, folding-next, folding-end}
-use Rattle.field.specs.elements.Plain.{has-modulus, product-is, plus-product-is}
-use Rattle.poly.specs.Coefficients.{Eight}
-use Rattle.poly.specs.Keys.{exponents}
+use Rattle.field.specs.elements.Plain.{has-modulus, plus-product-is}
+use Rattle.poly.specs.declared.key.Key.{Key}
+use Rattle.poly.specs.Keys.{keys, exponents}
 use Rattle.poly.specs.Terms.{key-of, coefficient-of}
-use Rattle.poly.specs.value.Model.{plus-term, with-term, value-of}
-use Rattle.poly.specs.value.ModelLaws.{set-eight, zeros-eight, plus-term-below}
+use Rattle.poly.specs.list.Falling.{falling-key, falling-coefficient, falling-rises}
+use Rattle.poly.specs.value.Monomial.{head, monomial}
+use Rattle.poly.specs.value.Model.{plus-term, value-of}
+use Rattle.poly.specs.value.PowerLaws.{factors-again, times-power-is, rises, risen-is, head-none}
+use Rattle.poly.specs.value.ModelLaws.{value-of-none, value-of-stored, term-in-parts}
 use Rattle.poly.proofs.value.value.Statement.{statement}
 use Rattle.poly.proofs.value.value.Tie as tie
 
--- what the loop keeps: eight numbers, which the terms that are left make the value of all
-record Valuing (p : ℕ) (ys zs ws terms old : List ℕ) (i : ℕ) (r : List ℕ) : Type 0 where
-  numbers : Eight p r
-  folding : Folding (with-term p ys zs ws) terms old i r
+-- what the loop keeps, where the terms from i on are passed
+record Valuing (p : ℕ) (point terms r : List ℕ) (yz : Element) (before : Key) (i : ℕ) : Type 0 where
+  within : i ≤ length terms
+  value : r ≡ value-of p point (drop i terms)
+  key : before .bits ≡ key-of (getD terms i 0)
+  number : yz ≡ element p (head (getD point 0 0) (getD point 1 0) (before .bits) % p)
 
 abbrev Inv-loop : tie.InvT-loop
-Inv-loop p terms ys zs ws r₀ i₀ r i = Valuing p ys zs ws terms r₀ i r
+Inv-loop p point terms r₀ y z w yz₀ before₀ i₀ r yz before i = Valuing p point terms r yz before i
 
 abbrev μ-loop : tie.MeasureT-loop
-μ-loop p terms ys zs ws r₀ i₀ r i = length terms - i
+μ-loop p point terms r₀ y z w yz₀ before₀ i₀ r yz before i = i
 
--- where the turn and the function begin, from where the power of x is known
-abbrev turn : tie.After-x Inv-loop μ-loop → tie.In-loop Inv-loop μ-loop
-turn c = c .before .before .before
+-- from where the loop begins: the three numbers of the point, and where the function begins
+module _ (c : tie.After-one Inv-loop μ-loop) where
+  abbrev at-w : tie.After-of3 Inv-loop μ-loop
+  at-w = c .before .before
 
-abbrev start : tie.After-x Inv-loop μ-loop → tie.Start Inv-loop μ-loop
-start c = turn c .before .before .before
+  abbrev at-z : tie.After-of2 Inv-loop μ-loop
+  at-z = at-w .before .before
 
--- where the power of x is known, from where that of y is, and so on
-abbrev at-x : tie.After-y Inv-loop μ-loop → tie.After-x Inv-loop μ-loop
-at-x c = c .before .before .before
+  abbrev at-y : tie.After-of Inv-loop μ-loop
+  at-y = at-z .before .before
 
-abbrev at-y : tie.After-z Inv-loop μ-loop → tie.After-y Inv-loop μ-loop
-at-y c = c .before .before .before
+  abbrev start : tie.Start Inv-loop μ-loop
+  start = at-y .before .before .before .before
 
-abbrev at-z : tie.After-w Inv-loop μ-loop → tie.After-z Inv-loop μ-loop
-at-z c = c .before .before .before
+  abbrev p : ℕ
+  p = start .args .p
 
-abbrev at-w : tie.After-plus-product Inv-loop μ-loop → tie.After-w Inv-loop μ-loop
-at-w c = c .before .before .before
+  abbrev point : List ℕ
+  point = start .args .point .now
 
-abbrev from-w : tie.After-w Inv-loop μ-loop → tie.After-x Inv-loop μ-loop
-from-w c = at-x (at-y (at-z c))
+  abbrev terms : List ℕ
+  terms = start .args .terms .now
 
--- the power of x of the term at hand
+  positive : 0 < p
+  positive = omega (arith, start .pre .above)
+
+-- a turn: the place of its term, the term and its key
+module _ (c : tie.After-of4 Inv-loop μ-loop) where
+  abbrev turn : tie.In-loop Inv-loop μ-loop
+  turn = c .before .before
+
+  abbrev ready : tie.After-one Inv-loop μ-loop
+  ready = turn .before .before
+
+  abbrev i : ℕ
+  i = turn .before .loop .i
+
+  there : i - 1 < length (terms ready)
+  there = omega (arith, turn .loop-test .taken, turn .before .loop .inv .within)
+
+  abbrev t : ℕ
+  t = getD (terms ready) (i - 1) 0
+
+  rising : turn .before .loop .before .bits ≤ c .of4 .result .bits
+  rising =
+      let e : suc (i - 1) ≡ i = omega (arith, turn .loop-test .taken) in
+      omega (
+        arith,
+        turn .before .loop .inv .key,
+        c .of4 .ensures,
+        subst (λ (k : ℕ). key-of (getD (terms ready) k 0) ≤ key-of t) e
+            (falling-rises (p ready) keys (terms ready) (start ready .pre .right .falls) (i - 1) there),
+      )
+
+-- with the term's power of w worked, and then y^b z^c
+module _ (c : tie.After-times-power Inv-loop μ-loop) where
+  abbrev keyed : tie.After-of4 Inv-loop μ-loop
+  keyed = c .before .before .before .before
+
+  w-worked : let m = p (ready keyed) in
+      c .times-power .result ≡ element m ((coefficient-of (t keyed) * getD (point (ready keyed)) 2 0 ^ c .before .w .result) % m)
+  w-worked =
+      times-power-is (c .before .before .of5 .ensures ∙ ap (element (p (ready keyed))) (c .before .before .before .coefficient-of .ensures))
+      (at-w (ready keyed) .of3 .ensures) (c .before .w .result) (c .times-power .ensures)
+
+module _ (c : tie.After-risen Inv-loop μ-loop) where
+  abbrev worked : tie.After-of4 Inv-loop μ-loop
+  worked = keyed (c .before)
+
+  yz-worked : let m = p (ready worked) in let at = point (ready worked) in
+      c .risen .result ≡ element m (head (getD at 0 0) (getD at 1 0) (worked .of4 .result .bits) % m)
+  yz-worked = risen-is (at-y (ready worked) .of .ensures) (at-z (ready worked) .of2 .ensures) (worked .of4 .result .bits) (c .risen .ensures)
+
+-- the power of x
 x-small : (c : tie.After-x Inv-loop μ-loop) → c .x .result < 8
-x-small c = omega (arith, start c .pre .keys (turn c .before .loop .i) (turn c .loop-test .taken))
-
-positive : (c : tie.After-x Inv-loop μ-loop) → 0 < start c .args .p
-positive c = omega (arith, start c .pre .y-powers .below 0)
-
--- the first product, and the second
-first : (c : tie.After-product Inv-loop μ-loop) → let y = c .before .before in let a = start (at-x y) .args in
-    c .product .result ≡ element (a .p) ((y .before .before .coefficient-of .result * getD (a .t2) (y .y .result) 0) % a .p)
-first c = let y = c .before .before in product-is (y .before .of2 .ensures) (c .before .of3 .ensures) (c .product .ensures)
-
-second : (c : tie.After-product2 Inv-loop μ-loop) → let z = c .before .before in let y = at-y z in let a = start (at-x y) .args in
-    c .product2 .result
-    ≡ element (a .p) ((y .before .before .coefficient-of .result * getD (a .t2) (y .y .result) 0) % a .p * getD (a .t3) (z .z .result) 0 % a .p)
-second c = let z = c .before .before in product-is (first (z .before)) (c .before .of4 .ensures) (c .product2 .ensures)
-
--- what the steps on a term make is what the model adds
-added : (p : ℕ) (ys zs ws r : List ℕ) (t : ℕ) {k c x y z w s : ℕ} → k ≡ key-of t → c ≡ coefficient-of t
-    → x ≡ exponents k .x → y ≡ exponents k .y → z ≡ exponents k .z → w ≡ exponents k .w
-    → s ≡ (getD r x 0 + c * getD ys y 0 % p * getD zs z 0 % p * getD ws w 0) % p
-    → s ≡ plus-term p ys zs ws t (getD r (exponents (key-of t) .x) 0)
-unfolding plus-term
-added p ys zs ws r t ek ec ex ey ez ew es = cc
-
--- the count of terms fits, and so does the next place
-one-more : (c : tie.In-loop Inv-loop μ-loop) → Fits w64 (c .before .loop .i + 1)
-one-more c = omega arith
+x-small c =
+    let k = worked (c .before) in
+    omega (arith, c .x .ensures, k .of4 .ensures, falling-key (p (ready k)) keys (terms (ready k)) (start (ready k) .pre .right .falls) (i k - 1) (there k))
 
 loop-holds : tie.Need-loop-holds Inv-loop μ-loop
 loop-holds c =
-    record { numbers = zeros-eight (c .before .args .p) (omega (arith, c .before .pre .y-powers .below 0)); folding = folding-start }
-
-product-requires : tie.Need-product-requires Inv-loop μ-loop
-product-requires c κs = let y = c .before in has-modulus (y .before .of2 .ensures) (positive (at-x y))
-
-product-requires-2 : tie.Need-product-requires-2 Inv-loop μ-loop
-product-requires-2 c κs = has-modulus (first (c .before .before)) (positive (at-x (at-y (c .before))))
-
-array-read-of-4 : tie.Need-array-read-of-4 Inv-loop μ-loop
-array-read-of-4 c = let l = x-small (from-w (c .before)) in omega arith
-
-plus-product-requires : tie.Need-plus-product-requires Inv-loop μ-loop
-plus-product-requires c κs = has-modulus (c .of6 .ensures) (positive (from-w (c .before .before)))
-
-array-write-r : tie.Need-array-write-r Inv-loop μ-loop
-array-write-r c = let l = x-small (from-w (at-w c)) in omega arith
-
-add-i : tie.Need-add-i Inv-loop μ-loop
-add-i c = omega (arith, one-more (turn (from-w (at-w c))))
-
-loop-less : tie.Need-loop-less Inv-loop μ-loop
-loop-less c = omega (arith, turn (from-w (at-w c)) .loop-test .taken)
-
-loop-again : tie.Need-loop-again Inv-loop μ-loop
-loop-again c =
-    let with-w = at-w c in
-    let with-z = at-z with-w in
-    let with-y = at-y with-z in
-    let with-x = at-x with-y in
-    let l = turn with-x .before .loop in
-    let a = start with-x .args in
-    let t = getD (a .terms .now) (l .i) 0 in
-    let new = c .plus-product .result .value in
-    let x : with-x .x .result ≡ exponents (key-of t) .x = with-x .x .ensures ∙ ap (λ (k : ℕ). k / 512) (with-x .before .of .ensures) in
-    let v : new ≡ plus-term (a .p) (a .t2) (a .t3) (a .t4) t (getD (l .r) (exponents (key-of t) .x) 0) =
-    added (a .p) (a .t2) (a .t3) (a .t4) (l .r) t (with-x .before .of .ensures) (with-y .before .before .coefficient-of .ensures)
-    (with-x .x .ensures) (with-y .y .ensures) (with-z .z .ensures) (with-w .w .ensures)
-    (ap (λ (e : Element). e .value)
-    (plus-product-is (second (with-w .before)) (c .before .before .of5 .ensures) (c .before .of6 .ensures) (c .plus-product .ensures))) in
     record {
-      numbers =
-          set-eight (a .p) (l .r) (with-x .x .result) new (l .inv .numbers)
-          (subst (λ (n : ℕ). n < a .p) (sym v) (plus-term-below (a .p) (a .t2) (a .t3) (a .t4) (positive with-x) t (getD (l .r) (exponents (key-of t) .x) 0)));
-      folding = folding-next (l .inv .folding) (turn with-x .loop-test .taken) (ap₂ (set (l .r)) x v);
+      within = omega arith;
+      value = value-of-none (p c) (point c) (terms c) (length (terms c)) (omega arith);
+      key = let e : getD (terms c) (length (terms c)) 0 ≡ 0 = List·getD-eq-default (terms c) 0 (omega arith) in sym (ap key-of e);
+      number = c .one .ensures ∙ ap (element (p c)) (head-none (p c) (getD (point c) 0 0) (getD (point c) 1 0) (start c .pre .above));
     }
 
+times-power-requires : tie.Need-times-power-requires Inv-loop μ-loop
+times-power-requires c κs =
+    let k = c .before .before .before in
+    let l = falling-coefficient (p (ready k)) keys (terms (ready k)) (start (ready k) .pre .right .falls) (i k - 1) (there k) in
+    record {
+      factors =
+          factors-again (c .before .of5 .ensures) (omega (arith, c .before .before .coefficient-of .ensures, l))
+          (ap (λ (e : Element). e .modulus) (at-w (ready k) .of3 .ensures));
+      three-bits = omega (arith, c .w .ensures);
+    }
+
+risen-requires : tie.Need-risen-requires Inv-loop μ-loop
+risen-requires c κs =
+    let k = keyed c in
+    rises (at-y (ready k) .of .ensures) (at-z (ready k) .of2 .ensures) _ _ (start (ready k) .pre .above) (turn k .before .loop .inv .number) (rising k)
+
+plus-product-requires : tie.Need-plus-product-requires Inv-loop μ-loop
+plus-product-requires c κs = has-modulus (c .of6 .ensures) (positive (ready (worked (c .before .before .before))))
+
+loop-again : tie.Need-loop-again Inv-loop μ-loop
+unfolding plus-term
+loop-again c =
+    let with-x = c .before .before .before in
+    let with-yz = with-x .before in
+    let k = worked with-yz in
+    let l = turn k .before .loop in
+    let m = p (ready k) in
+    let at = point (ready k) in
+    let bits = k .of4 .ensures in
+    let y = getD at 0 0 in
+    let z = getD at 1 0 in
+    let w = getD at 2 0 in
+    let c₀ = coefficient-of (t k) in
+    let sum = getD (l .r) (with-x .x .result) 0 in
+    record {
+      within = omega (arith, l .inv .within);
+      value =
+          value-of-stored m at (terms (ready k)) (i k) (omega (arith, turn k .loop-test .taken)) (l .inv .within) (l .inv .value)
+          (with-x .x .ensures ∙ ap (λ (n : ℕ). n / 512) bits)
+          (ap (λ (e : Element). e .value)
+          (plus-product-is (w-worked (with-yz .before)) (yz-worked with-yz) (c .before .of6 .ensures) (c .plus-product .ensures))
+          ∙ term-in-parts m c₀ (with-yz .before .before .w .result) y z w (k .of4 .result .bits) sum (with-yz .before .before .w .ensures)
+          ∙ ap (λ (n : ℕ). (sum + c₀ * monomial y z w n) % m) bits);
+      key = bits;
+      number = yz-worked with-yz;
+    }
+
+-- behind the loop: the first term's power of x
+module _ (c : tie.After-x2 Inv-loop μ-loop) where
+  abbrev ended : tie.At-loop Inv-loop μ-loop
+  ended = c .before .before .before .before
+
+  first-power : c .x2 .result ≡ exponents (key-of (getD (terms (ended .before)) 0 0)) .x
+  first-power = c .x2 .ensures ∙ ap (λ (n : ℕ). n / 512) (c .before .of7 .ensures)
+
+element-copy-out-of : tie.Need-element-copy-out-of Inv-loop μ-loop
+element-copy-out-of c = let l = x-small c in omega arith
+
+element-write-r : tie.Need-element-write-r Inv-loop μ-loop
+element-write-r c = let l = x-small (c .before .before .before) in omega arith
+
+element-copy-out-result : tie.Need-element-copy-out-result Inv-loop μ-loop
+element-copy-out-result c =
+    let s = start (ended c .before) in
+    let l = falling-key (s .args .p) keys (s .args .terms .now) (s .pre .right .falls) 0 (s .pre .right .some) in
+    omega (arith, first-power c, l)
+
 returns : tie.Need-returns Inv-loop μ-loop
-unfolding value-of
-returns c = folding-end (c .before .loop .inv .folding) (c .loop-test .left)
+returns c =
+    let l = ended (c .before) in
+    let e : l .loop .i ≡ 0 = omega arith in
+    record {
+      value = l .loop .inv .value ∙ ap (λ (n : ℕ). value-of (p (l .before)) (point (l .before)) (drop n (terms (l .before)))) e;
+      leading = ap (λ (n : ℕ). getD (l .loop .r) n 0) (first-power (c .before));
+    }
 
 pub value-spec : {M : Type 1} → statement M
 value-spec =
-    tie.close (tie.spec Inv-loop μ-loop loop-holds (λ c. search needs) (λ c. search needs) (λ c κs. search needs) (λ c κs. search needs)
-    (λ c. search needs) (λ c κs. search needs) (λ c κs. search needs) (λ c κs. search needs) (λ c. search needs) (λ c. search needs)
-    (λ c. search needs) (λ c κs. search needs) product-requires (λ c κs. search needs) (λ c. search needs) (λ c. search needs) (λ c. search needs)
-    (λ c κs. search needs) product-requires-2 (λ c κs. search needs) (λ c. search needs) (λ c. search needs) (λ c. search needs)
-    (λ c κs. search needs) (λ c. search needs) array-read-of-4 (λ c κs. search needs) plus-product-requires (λ c. search needs) array-write-r add-i
-    loop-less loop-again returns)
+    tie.close (tie.spec Inv-loop μ-loop (λ c. search needs) (λ c κs. search needs) (λ c. search needs) (λ c κs. search needs) (λ c. search needs)
+    (λ c κs. search needs) (λ c κs. search needs) (λ c. search needs) loop-holds (λ c. search needs) (λ c. search needs) (λ c. search needs)
+    (λ c. search needs) (λ c κs. search needs) (λ c κs. search needs) (λ c κs. search needs) (λ c κs. search needs) times-power-requires
+    risen-requires (λ c κs. search needs) (λ c. search needs) (λ c. search needs) element-copy-out-of (λ c κs. search needs) plus-product-requires
+    (λ c. search needs) element-write-r (λ c. search needs) loop-again (λ c. search needs) (λ c κs. search needs) (λ c κs. search needs)
+    (λ c. search needs) (λ c. search needs) element-copy-out-result returns)
