@@ -3,7 +3,8 @@ pub mod Model
 pub mod Rows
 pub mod RowLaws
 pub mod Turns
+pub mod Adding
+pub mod System
 pub mod Laws
 pub mod RowValue
-pub mod PointTurns
 pub mod Solutions

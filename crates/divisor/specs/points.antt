@@ -2,7 +2,6 @@
 pub mod Model
 pub mod PartsModel
 pub mod Parts
-pub mod Turns
 pub mod Looking
 pub mod Seen
 pub mod Stores

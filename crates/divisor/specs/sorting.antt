@@ -2,4 +2,5 @@
 pub mod Turns
 pub mod Model
 pub mod Laws
+pub mod Places
 pub mod Kept

@@ -1,21 +1,23 @@
 // The equations, one at a time into the table: at each kept point, for each power of x, the skeleton polynomial less the multiplier times
 // the image's coefficient is 0.
 ghost use mathlib.Core.Path.{_≡_};
-ghost use Prim.Native.Nat.{_+_, _-_, _/_};
-ghost use lib.ListN.{length};
-ghost use Rattle.divisor.specs.equations.Model.{EquationReady, IsEquation, PointReady, Equations-to};
-ghost use Rattle.divisor.specs.points.Model.{next-column, ColumnReady, EquationsReady, Equations-before};
-use crate::sorting::Sizes;
+ghost use Prim.Native.Nat.{_+_, _-_};
+ghost use Rattle.divisor.specs.equations.Model.{EquationReady, IsEquation, next-column, ColumnReady, OneOf, IsEquationAt, CanAdd, AddsFirst, CanSolve, Solves};
+use crate::sorting::Places;
+use crate::table::Column;
 use crate::table::MOST_COLUMNS;
 use crate::table::Row;
+use crate::table::Solved;
 use crate::table::Table;
 use field::COORDINATES;
 use field::Element;
 use field::KeyBits;
 use field::Residue;
 use poly::POWERS;
-use poly::Size;
 use poly::key::Key;
+
+// Equations are counted in 16 bits, like columns: there are at most eight for each of 32 points.
+pub(crate) type Count = u16;
 
 // The equation of x^i at a point: a number for each key, u in the multiplier's column.
 fn equation(
@@ -45,36 +47,6 @@ fn equation(
     row
 }
 
-// The equations of a point, for each power of x, into the table.
-fn point_equations(
-    t: Table,
-    p: Residue,
-    skeleton: &[KeyBits],
-    point: &[Residue],
-    image: &[Residue],
-    column: usize,
-) -> Table
-    requires { ⌜ PointReady p t (now skeleton) (now point) (now image) column ⌝ }
-    ensures { λ r. ⌜ Equations-to 8 p t (now (skeleton .entry)) (now (point .entry)) (now (image .entry)) column r ⌝ }
-{
-    let y = Element::of(p, point[0]);
-    let z = Element::of(p, point[1]);
-    let w = Element::of(p, point[2]);
-    let mut s = t;
-    let mut i: usize = 0;
-    while i < POWERS {
-        let zero = Element::zero(p);
-        let u = zero.difference(Element::of(p, image[i]));
-        let e = equation(y, z, w, skeleton, i as KeyBits, column, u);
-        // An equation without entries says nothing: adding it would only copy the table.
-        if crate::table::first_entry(e) < MOST_COLUMNS {
-            s = crate::table::with_added(s, e, p);
-        }
-        i += 1;
-    }
-    s
-}
-
 // The column of the next kept point's multiplier: the last for the first point, else behind the keys, in the order kept.
 fn column_of(keys: usize, kept: usize, columns: usize) -> usize
     requires { ⌜ ColumnReady keys kept columns ⌝ }
@@ -86,40 +58,69 @@ fn column_of(keys: usize, kept: usize, columns: usize) -> usize
     keys + kept - 1
 }
 
-// The equations of the kept points, those whose size is the least, one after the other into one table. The first one's multiplier is fixed
-// at 1, in the last column; the others' stand behind the skeleton, in the order lent.
-pub(crate) fn equations(
+// Equation k of n: of the kept point k / 8, for the power k % 8 of x.
+fn equation_at(
     p: Residue,
     skeleton: &[KeyBits],
     points: &[Residue],
-    sizes: Sizes,
-    least: Size,
-    columns: usize,
+    places: Places,
     work: &[Residue],
-) -> Table
-    requires { ⌜ EquationsReady p (now skeleton) (now points) sizes (now work) least columns ⌝ }
-    ensures { λ r. ⌜ Equations-before (length (now (points .entry)) / 3) p (now (skeleton .entry)) (now (points .entry)) sizes
-        (now (work .entry)) least columns r ⌝ }
+    n: Count,
+    k: Count,
+) -> Row
+    requires { ⌜ OneOf p (now skeleton) (now points) places (now work) n k ⌝ }
+    ensures { λ r. ⌜ IsEquationAt p (now (skeleton .entry)) (now (points .entry)) places (now (work .entry)) n k r ⌝ }
+{
+    let kept = k as usize / POWERS;
+    let power = k as usize % POWERS;
+    let i = places[kept] as usize;
+    let at = COORDINATES * i;
+    let y = Element::of(p, points[at]);
+    let z = Element::of(p, points[at + 1]);
+    let w = Element::of(p, points[at + 2]);
+    let zero = Element::zero(p);
+    let u = zero.difference(Element::of(p, work[POWERS * i + power]));
+    let columns = skeleton.len() + n as usize / POWERS;
+    let column = column_of(skeleton.len(), kept, columns);
+    equation(y, z, w, skeleton, power as KeyBits, column, u)
+}
+
+// The n equations of the kept points into the table that is lent, one at a time.
+fn add_equations(
+    t: &mut Table,
+    p: Residue,
+    skeleton: &[KeyBits],
+    points: &[Residue],
+    places: Places,
+    work: &[Residue],
+    n: Count,
+)
+    requires { ⌜ CanAdd p (now t) (now skeleton) (now points) places (now work) n ⌝ }
+    ensures { λ _. ⌜ AddsFirst n p (now (t .entry)) (now (skeleton .entry)) (now (points .entry)) places (now (work .entry)) n (now (t .exit)) ⌝ }
+{
+    let mut k: Count = 0;
+    while k < n {
+        let e = equation_at(p, skeleton, points, places, work, n, k);
+        crate::table::add_equation(t, e, p);
+        k += 1;
+    }
+}
+
+// How many solutions the n equations of the kept points have, and the values of the only one. The first point's multiplier is fixed at 1, in the
+// last column; the others' stand behind the skeleton, in the order lent. The one table is a local of this function.
+pub(crate) fn solved(
+    p: Residue,
+    skeleton: &[KeyBits],
+    points: &[Residue],
+    places: Places,
+    work: &[Residue],
+    n: Count,
+    columns: Column,
+) -> Solved
+    requires { ⌜ CanSolve p (now skeleton) (now points) places (now work) n columns ⌝ }
+    ensures { λ r. ⌜ Solves p (now (skeleton .entry)) (now (points .entry)) places (now (work .entry)) n columns r ⌝ }
 {
     let mut t = Table::empty(columns);
-    let mut kept: usize = 0;
-    let mut i: usize = 0;
-    while i < points.len() / COORDINATES {
-        if sizes[i] == least {
-            let column = column_of(skeleton.len(), kept, columns);
-            let at = COORDINATES * i;
-            let image = POWERS * i;
-            t = point_equations(
-                t,
-                p,
-                skeleton,
-                &points[at..at + COORDINATES],
-                &work[image..image + POWERS],
-                column,
-            );
-            kept += 1;
-        }
-        i += 1;
-    }
-    t
+    add_equations(&mut t, p, skeleton, points, places, work, n);
+    crate::table::solution(&t.cells, columns, p)
 }

@@ -6,11 +6,14 @@ ghost use Rattle.field.specs.Refusal.{Passes};
 ghost use Rattle.poly.specs.Room.{work-room};
 ghost use Prim.Native.Nat.{_≤_};
 ghost use lib.ListN.{length};
+use crate::equations::Count;
+use crate::table::Column;
 use field::COORDINATES;
 use field::Fault;
 use field::KeyBits;
 use field::Residue;
 use field::Term;
+use poly::POWERS;
 use poly::rooms::WORK_ROOM;
 
 mod checks;
@@ -86,9 +89,10 @@ fn answer(
     }
     let bad = sorting::alike(sizes, n, 0);
     let kept = sorting::alike(sizes, n, least);
-    let columns = skeleton.len() + kept;
-    let table = equations::equations(p, skeleton, points, sizes, least, columns, work);
-    let solved = table::solution(table, p);
+    let places = sorting::places_of(sizes, n, least);
+    let equations = (POWERS * kept) as Count;
+    let columns = (skeleton.len() + kept) as Column;
+    let solved = equations::solved(p, skeleton, points, places, work, equations, columns);
     let verdict = verdict::settle(p, first, second, skeleton, solved, out, work);
     CandidateRecord {
         fault: Fault::at(verdict.number, 0),

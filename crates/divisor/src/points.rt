@@ -1,6 +1,7 @@
 // The images of the points in the work room: eight numbers for each, the first point's first.
 ghost use mathlib.Core.Path.{_≡_};
-ghost use Rattle.divisor.specs.points.Model.{LookReady, Looks, StoreReady, stored};
+ghost use Rattle.divisor.specs.points.Model.{LookReady, Looks, StoreReady};
+ghost use Rattle.divisor.specs.points.PartsModel.{stored};
 ghost use Prim.Native.Nat.{_/_};
 ghost use lib.ListN.{length};
 use crate::sorting::Sizes;
@@ -14,7 +15,7 @@ use poly::POWERS;
 // Eight numbers into the work room, from a place on.
 fn store(coefficients: Eight, at: usize, work: &mut [Residue])
     requires { ⌜ StoreReady at (now work) ⌝ }
-    ensures { λ _. ⌜ now (work .exit) ≡ stored coefficients at (now (work .entry)) ⌝ }
+    ensures { λ _. ⌜ now (work .exit) ≡ stored 8 coefficients at (now (work .entry)) ⌝ }
 {
     let mut j: usize = 0;
     while j < POWERS {

@@ -3,8 +3,7 @@
 // no solution.
 ghost use mathlib.Core.Path.{_≡_};
 ghost use Rattle.field.specs.Contract.{element};
-ghost use Rattle.poly.specs.Search.{Searched};
-ghost use Rattle.divisor.specs.table.Model.{most-columns, Entry, Columns, Column, Back, TableReady, StepReady, empty-table, minus, scaled-row, with-row, kind, value, values, solved};
+ghost use Rattle.divisor.specs.table.Model.{AtColumn, CanSubtract, CanKeep, CellsReady, Back, TableReady, StepReady, Reduces, row-in, table-of-cells, empty-table, minus, scaled-row, with-row, keeping, kind, value, values, solved};
 use field::Element;
 use field::MOST_KEYS;
 use field::MOST_POINTS;
@@ -13,16 +12,30 @@ use field::Residue;
 // An unknown for each key that a skeleton can have, and a multiplier for each point, of which the first is fixed.
 pub(crate) const MOST_COLUMNS: usize = MOST_KEYS + MOST_POINTS;
 
+const MOST_CELLS: usize = MOST_COLUMNS * MOST_COLUMNS;
+
+// Columns are counted in 16 bits: on a 32-bit core a 64-bit count takes two registers.
+pub(crate) type Column = u16;
+
 pub(crate) type Cells = [Residue; MOST_COLUMNS];
+
+// The cells of the rows, one row after the other.
+type TableCells = [Residue; MOST_CELLS];
 
 pub(crate) struct Row {
     pub cells: Cells,
 }
 
-// `columns` is one more than the number of unknowns.
+// The table is lent and changed in place; nothing copies it. `columns` is one more than the number of unknowns.
 pub(crate) struct Table {
-    pub rows: [Row; MOST_COLUMNS],
-    pub columns: usize,
+    pub cells: TableCells,
+    pub columns: Column,
+}
+
+// What is left of an equation: the row to keep, and the column to keep it in; where nothing is left, the number of columns.
+struct Reduced {
+    pub row: Row,
+    pub column: Column,
 }
 
 // How many solutions the equations have.
@@ -40,122 +53,105 @@ pub(crate) struct Solved {
 
 impl Table {
     // No row is kept.
-    pub(crate) fn empty(columns: usize) -> Table
+    pub(crate) fn empty(columns: Column) -> Table
         ensures { λ r. ⌜ r ≡ empty-table columns ⌝ }
     {
-        let row = Row {
-            cells: [0; MOST_COLUMNS],
-        };
         Table {
-            rows: [row; MOST_COLUMNS],
+            cells: [0; MOST_CELLS],
             columns,
         }
     }
 }
 
-// The first column whose cell is not 0, or the number of columns where there is none.
-pub(crate) fn first_entry(row: Row) -> usize
-    ensures { λ r. ⌜ Searched (Entry row) most-columns r ⌝ }
+// The row less the multiple of the row kept in column j that makes its cell there 0. Before column j both have zeros, and nothing changes there.
+fn subtract(row: &mut Cells, cells: &TableCells, j: Column, columns: Column, p: Residue)
+    requires { ⌜ CanSubtract p (record { cells = now row }) (now cells) j columns ⌝ }
+    ensures { λ _. ⌜ record { cells = now (row .exit) } ≡ minus p (record { cells = now (row .entry) }) (row-in (now (cells .entry)) j) j columns ⌝ }
 {
-    let mut j: usize = 0;
-    while j < MOST_COLUMNS {
-        if row.cells[j] != 0 {
-            return j;
-        }
-        j += 1;
-    }
-    j
-}
-
-// The row less the multiple of the pivot's row that makes its cell in column j 0. Before column j both have zeros, and nothing changes there.
-fn subtract(row: &mut Cells, pivot: Row, j: usize, columns: usize, p: Residue)
-    requires { ⌜ Column p (record { cells = now row }) j columns ⌝ }
-    ensures { λ _. ⌜ record { cells = now (row .exit) } ≡ minus p (record { cells = now (row .entry) }) pivot j columns ⌝ }
-{
-    let factor = Element::of(p, row[j]);
+    let at = MOST_COLUMNS * j as usize;
+    let factor = Element::of(p, row[j as usize]);
     let mut i = j;
     while i < columns {
-        let cell = Element::of(p, row[i]);
-        let next = cell.minus_product(factor, Element::of(p, pivot.cells[i]));
-        row[i] = next.value;
+        let cell = Element::of(p, row[i as usize]);
+        let next = cell.minus_product(factor, Element::of(p, cells[at + i as usize]));
+        row[i as usize] = next.value;
         i += 1;
     }
 }
 
 // The row times the inverse of its cell in column j, which becomes 1.
-fn scaled(row: Row, j: usize, columns: usize, p: Residue) -> Row
-    requires { ⌜ Column p row j columns ⌝ }
-    ensures { λ r. ⌜ r ≡ scaled-row p row j columns ⌝ }
+fn scale(row: &mut Cells, j: Column, columns: Column, p: Residue)
+    requires { ⌜ AtColumn p (record { cells = now row }) j columns ⌝ }
+    ensures { λ _. ⌜ record { cells = now (row .exit) } ≡ scaled-row p (record { cells = now (row .entry) }) j columns ⌝ }
 {
-    let mut r = row;
-    let first = Element::of(p, r.cells[j]);
+    let first = Element::of(p, row[j as usize]);
     let inverse = first.inverse();
     let mut i = j;
     while i < columns {
-        let next = inverse.product(Element::of(p, r.cells[i]));
-        r.cells[i] = next.value;
+        let next = inverse.product(Element::of(p, row[i as usize]));
+        row[i as usize] = next.value;
         i += 1;
     }
-    r
 }
 
-// One more equation: column after column the kept row is taken off, and the equation is kept in the first column where none is and its cell is not 0.
-// The table is copied once, at the top: with a copy where a row is kept there would be two tables to hand back, and each way out would copy again.
-pub(crate) fn with_equation(t: Table, e: Row, p: Residue) -> Table
-    requires { ⌜ StepReady p t e ⌝ }
-    ensures { λ r. ⌜ r ≡ with-row p t e ⌝ }
+// The step: column after column the kept row is taken off the equation, and it is to be kept in the first column where no row is and its cell is not 0.
+fn reduce(cells: &TableCells, columns: Column, e: Row, p: Residue) -> Reduced
+    requires { ⌜ StepReady p (table-of-cells (now cells) columns) e ⌝ }
+    ensures { λ r. ⌜ Reduces p (table-of-cells (now (cells .entry)) columns) e r ⌝ }
 {
-    let columns = t.columns;
-    let mut s = t;
     let mut row = e;
-    let mut j: usize = 0;
+    let mut j: Column = 0;
     while j < columns {
-        if row.cells[j] != 0 {
-            let pivot = s.rows[j];
-            if pivot.cells[j] == 0 {
-                s.rows[j] = scaled(row, j, columns, p);
-                return s;
+        if row.cells[j as usize] != 0 {
+            if cells[MOST_COLUMNS * j as usize + j as usize] == 0 {
+                scale(&mut row.cells, j, columns, p);
+                return Reduced { row, column: j };
             }
-            subtract(&mut row.cells, pivot, j, columns, p);
+            subtract(&mut row.cells, cells, j, columns, p);
         }
         j += 1;
     }
-    s
+    Reduced { row, column: j }
 }
 
-// The same on a table that is lent.
+// The row that a step hands back among the others, if there is one to keep.
+fn keep(cells: &mut TableCells, columns: Column, left: Reduced)
+    requires { ⌜ CanKeep (now cells) columns left ⌝ }
+    ensures { λ _. ⌜ now (cells .exit) ≡ keeping (now (cells .entry)) columns left ⌝ }
+{
+    if left.column < columns {
+        let at = MOST_COLUMNS * left.column as usize;
+        let row = left.row;
+        let mut i: usize = 0;
+        while i < MOST_COLUMNS {
+            cells[at + i] = row.cells[i];
+            i += 1;
+        }
+    }
+}
+
+// One more equation in the table that is lent: what the step leaves of it is kept.
 pub(crate) fn add_equation(t: &mut Table, e: Row, p: Residue)
     requires { ⌜ StepReady p (now t) e ⌝ }
     ensures { λ _. ⌜ now (t .exit) ≡ with-row p (now (t .entry)) e ⌝ }
 {
-    let next = with_equation(*t, e, p);
-    *t = next;
-}
-
-// The lender: by value outside, lent inside, so that a loop over equations carries the table by value.
-pub(crate) fn with_added(t: Table, e: Row, p: Residue) -> Table
-    requires { ⌜ StepReady p t e ⌝ }
-    ensures { λ r. ⌜ r ≡ with-row p t e ⌝ }
-{
-    let mut s = t;
-    add_equation(&mut s, e, p);
-    s
+    let columns = t.columns;
+    let left = reduce(&t.cells, columns, e, p);
+    keep(&mut t.cells, columns, left);
 }
 
 // None where a row is kept in the last column; several where a column of an unknown has none.
-fn kind_of(t: Table) -> Kind
-    requires { ⌜ Columns (t .columns) ⌝ }
-    ensures { λ r. ⌜ r ≡ kind t ⌝ }
+fn kind_of(cells: &TableCells, columns: Column) -> Kind
+    requires { ⌜ CellsReady (now cells) columns ⌝ }
+    ensures { λ r. ⌜ r ≡ kind (table-of-cells (now (cells .entry)) columns) ⌝ }
 {
-    let last = t.columns - 1;
-    let end = t.rows[last];
-    if end.cells[last] != 0 {
+    let last = columns - 1;
+    if cells[MOST_COLUMNS * last as usize + last as usize] != 0 {
         return Kind::None;
     }
-    let mut j: usize = 0;
+    let mut j: Column = 0;
     while j < last {
-        let row = t.rows[j];
-        if row.cells[j] == 0 {
+        if cells[MOST_COLUMNS * j as usize + j as usize] == 0 {
             return Kind::Several;
         }
         j += 1;
@@ -164,14 +160,18 @@ fn kind_of(t: Table) -> Kind
 }
 
 // The unknown of column j, by its row, from the values of those behind it; the last one is 1.
-fn value_at(row: Row, values: Cells, j: usize, last: usize, p: Residue) -> Element
-    requires { ⌜ Back p row j last ⌝ }
-    ensures { λ r. ⌜ r ≡ element p (value p row values j last) ⌝ }
+fn value_at(cells: &TableCells, values: &Cells, j: Column, last: Column, p: Residue) -> Element
+    requires { ⌜ Back p (now cells) (now values) j last ⌝ }
+    ensures { λ r. ⌜ r ≡ element p (value p (row-in (now (cells .entry)) j) (now (values .entry)) j last) ⌝ }
 {
-    let mut sum = Element::of(p, row.cells[last]);
+    let at = MOST_COLUMNS * j as usize;
+    let mut sum = Element::of(p, cells[at + last as usize]);
     let mut k = j + 1;
     while k < last {
-        sum = sum.plus_product(Element::of(p, row.cells[k]), Element::of(p, values[k]));
+        sum = sum.plus_product(
+            Element::of(p, cells[at + k as usize]),
+            Element::of(p, values[k as usize]),
+        );
         k += 1;
     }
     let zero = Element::zero(p);
@@ -179,28 +179,27 @@ fn value_at(row: Row, values: Cells, j: usize, last: usize, p: Residue) -> Eleme
 }
 
 // Back substitution, from the last unknown to the first.
-fn values_of(t: Table, p: Residue) -> Cells
-    requires { ⌜ TableReady p t ⌝ }
-    ensures { λ r. ⌜ r ≡ values p t ⌝ }
+fn values_of(cells: &TableCells, columns: Column, p: Residue) -> Cells
+    requires { ⌜ TableReady p (table-of-cells (now cells) columns) ⌝ }
+    ensures { λ r. ⌜ r ≡ values p (table-of-cells (now (cells .entry)) columns) ⌝ }
 {
-    let last = t.columns - 1;
+    let last = columns - 1;
     let mut values: Cells = [0; MOST_COLUMNS];
     let mut j = last;
     while j > 0 {
         j -= 1;
-        let row = t.rows[j];
-        let value = value_at(row, values, j, last, p);
-        values[j] = value.value;
+        let value = value_at(cells, &values, j, last, p);
+        values[j as usize] = value.value;
     }
     values
 }
 
 // How many solutions the equations have, and the values of the only one.
-pub(crate) fn solution(t: Table, p: Residue) -> Solved
-    requires { ⌜ TableReady p t ⌝ }
-    ensures { λ r. ⌜ r ≡ solved p t ⌝ }
+pub(crate) fn solution(cells: &TableCells, columns: Column, p: Residue) -> Solved
+    requires { ⌜ TableReady p (table-of-cells (now cells) columns) ⌝ }
+    ensures { λ r. ⌜ r ≡ solved p (table-of-cells (now (cells .entry)) columns) ⌝ }
 {
-    let kind = kind_of(t);
+    let kind = kind_of(cells, columns);
     let zeros: Cells = [0; MOST_COLUMNS];
     match kind {
         Kind::None => Solved {
@@ -213,7 +212,7 @@ pub(crate) fn solution(t: Table, p: Residue) -> Solved
         },
         Kind::One => Solved {
             kind: Kind::One,
-            values: values_of(t, p),
+            values: values_of(cells, columns, p),
         },
     }
 }

@@ -92,13 +92,14 @@ fn subtract(q: Element, shift: usize, divisor: &[Term], cells: &mut [Residue])
 }
 
 // The steps of a division, where the cells from `top` on are 0. Each leading term that can be divided gives a term of the quotient, stored at
-// its key; the search for the next one is left at the first that cannot.
+// its key; the search for the next one is left at the first that cannot. Keys are counted in 16 bits: on a 32-bit core a 64-bit count takes two
+// registers.
 fn steps(
     divisor: &[Term],
     lead: KeyBits,
     inverse: Element,
     bound: Key,
-    top: usize,
+    top: KeyBits,
     work: &mut [Residue],
 ) -> bool
     requires { ⌜ CanStep (record { modulus = inverse .modulus; terms = now divisor; lead = lead; inverse = inverse .value; bound = bound .bits })
@@ -111,7 +112,6 @@ fn steps(
       bound = bound .bits;
     }) (now (work .entry)) (now (work .exit)) r ⌝ }
 {
-    let low = lead as usize;
     let mut k = top;
     let mut whole = true;
     'steps: loop {
@@ -120,17 +120,18 @@ fn steps(
                 break 'steps;
             }
             k -= 1;
-            if work[k] != 0 {
-                if !fits(k as KeyBits, lead, bound) {
+            if work[k as usize] != 0 {
+                if !fits(k, lead, bound) {
                     whole = false;
                     break 'steps;
                 }
                 break;
             }
         }
-        let q = Element::of(inverse.modulus, work[k]).product(inverse);
-        work[CELLS + (k - low)] = q.value;
-        subtract(q, k - low, divisor, work);
+        let shift = (k - lead) as usize;
+        let q = Element::of(inverse.modulus, work[k as usize]).product(inverse);
+        work[CELLS + shift] = q.value;
+        subtract(q, shift, divisor, work);
     }
     whole
 }
@@ -153,7 +154,7 @@ pub(crate) fn divide(p: Residue, dividend: &[Term], divisor: &[Term], work: &mut
     let inverse = coefficient.inverse();
     let lead = Key::of(first);
     let highest = Key::of(dividend[0]);
-    let top = highest.bits as usize + 1;
+    let top = highest.bits + 1;
     spread(dividend, work);
     steps(divisor, lead.bits, inverse, bound, top, work)
 }

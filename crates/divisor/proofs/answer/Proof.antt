@@ -10,8 +10,8 @@ use Rattle.poly.specs.rooms.Laws.{zeroed-length}
 use Rattle.divisor.specs.Candidate.{Call, candidate-call, most-points}
 use Rattle.divisor.specs.points.PartsModel.{Within}
 use Rattle.divisor.specs.checks.Passed.{look-ready}
-use Rattle.divisor.specs.sorting.Kept.{within, room-after, SomeGood, ready-equations, count-small, counts-fit}
-use Rattle.divisor.specs.answer.Laws.{nothing-good, ready-table, ready-verdict, answered-so}
+use Rattle.divisor.specs.sorting.Kept.{within, room-after, SomeGood, can-solve, count-small, counts-fit, columns-fit}
+use Rattle.divisor.specs.answer.Laws.{nothing-good, ready-verdict, answered-so}
 use borrow.Author.Needs.{needs}
 use Rattle.divisor.proofs.answer.Statement.{statement}
 use Rattle.divisor.proofs.answer.Tie as tie
@@ -68,12 +68,15 @@ good c = record {
 fit : (c : tie.After-alike2) → c .before .alike .result + c .alike2 .result ≤ length (start (seen c) .args .points .now) / 3
 fit c = counts-fit (good c) (c .before .alike .result) (c .before .alike .ensures)
 
--- after the verdict: the solution and the counts of points, and at the end: the verdict
-abbrev solved : tie.After-settle → tie.After-solution
+-- after the verdict: the solution, the places and the counts of points, and at the end: the verdict
+abbrev solved : tie.After-settle → tie.After-solved
 solved c = c .before .before .before
 
+abbrev placed : tie.After-solved → tie.After-places-of
+placed c = c .before .before
+
 abbrev counted : tie.After-settle → tie.After-alike2
-counted c = solved c .before .before .before
+counted c = placed (solved c) .before
 
 abbrev settled : tie.After-at → tie.After-settle
 settled c = c .before .before .before .before .before
@@ -104,26 +107,35 @@ alike-requires c κs = points-within (looked (c .before))
 alike-requires-2 : tie.Need-alike-requires-2
 alike-requires-2 c κs = points-within (looked (c .before .before))
 
+places-of-requires : tie.Need-places-of-requires
+places-of-requires c κs = points-within (seen c)
+
+mul-equations : tie.Need-mul-equations
+mul-equations c = let small = count-small (good (c .before)) in search needs
+
+cast-equations : tie.Need-cast-equations
+cast-equations c = let small = count-small (good (c .before)) in search needs
+
 add-columns : tie.Need-add-columns
-add-columns c = let small = count-small (good c) in omega arith
+add-columns c = let small = columns-fit (good (c .before)) .most in search needs
 
-equations-requires : tie.Need-equations-requires
-equations-requires c κs = ready-equations (good (c .before))
+cast-columns : tie.Need-cast-columns
+cast-columns c = let small = columns-fit (good (c .before)) .most in search needs
 
-solution-requires : tie.Need-solution-requires
-solution-requires c κs = ready-table (good (c .before .before)) (c .equations .result) (c .equations .ensures)
+solved-requires : tie.Need-solved-requires
+solved-requires c κs = let s = c .before in can-solve (good (s .before)) (s .places-of .result) (s .places-of .ensures)
 
 settle-requires : tie.Need-settle-requires
 settle-requires c κs =
     let s = c .before .before in
-    let t = s .before in
-    ready-verdict (good (t .before .before)) (t .equations .result) (t .equations .ensures) (s .solution .result) (s .solution .ensures)
-
-sub-t31 : tie.Need-sub-t31
-sub-t31 c = omega (arith, fit (counted (settled c)))
+    let at = placed s in
+    ready-verdict (good (at .before)) (at .places-of .result) (at .places-of .ensures) (s .solved .result) (s .solved .ensures)
 
 sub-t32 : tie.Need-sub-t32
 sub-t32 c = omega (arith, fit (counted (settled c)))
+
+sub-t33 : tie.Need-sub-t33
+sub-t33 c = omega (arith, fit (counted (settled c)))
 
 same-length-3 : tie.Need-same-length-3
 same-length-3 c =
@@ -135,13 +147,13 @@ returns-2 : tie.Need-returns-2
 returns-2 c =
     let v = settled c in
     let s = solved v in
-    let t = s .before in
+    let at = placed s in
     let e = counted v in
-    answered-so (good e) (t .equations .result) (t .equations .ensures) (s .solution .result) (s .solution .ensures)
+    answered-so (good e) (at .places-of .result) (at .places-of .ensures) (s .solved .result) (s .solved .ensures)
     (e .before .alike .result) (e .before .alike .ensures) (v .settle .result) (v .settle .ensures) (c .at .result) (c .at .ensures)
 
 pub answer-spec : {M : Type 1} → statement M
 answer-spec =
-    tie.close (tie.spec look-requires least-size-requires no-good-point-requires (λ c. search needs) returns alike-requires alike-requires-2 add-columns
-    equations-requires solution-requires settle-requires (λ c κs. search needs) (λ c. search needs) (λ c. search needs) sub-t31 sub-t32
-    (λ c. search needs) same-length-3 returns-2)
+    tie.close (tie.spec look-requires least-size-requires no-good-point-requires (λ c. search needs) returns alike-requires alike-requires-2
+    places-of-requires mul-equations cast-equations add-columns cast-columns solved-requires settle-requires (λ c κs. search needs) (λ c. search needs)
+    (λ c. search needs) sub-t32 sub-t33 (λ c. search needs) same-length-3 returns-2)

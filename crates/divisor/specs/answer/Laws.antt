@@ -1,7 +1,7 @@
 -- From what the calls of the routine give back to the promise of the call, where the inputs pass.
-use mathlib.Core.Path.{_≡_, sym, _∙_, ap, ap₂, subst}
+use mathlib.Core.Path.{_≡_, sym, _∙_, ap, subst}
 use mathlib.Core.List.{List}
-use Prim.Native.Nat.{ℕ, zero, suc, _+_, _-_, _≤_, _<_}
+use Prim.Native.Nat.{ℕ, zero, suc, _+_, _-_, _*_, _≤_, _<_}
 use native.Mathlib.Omega.{arith}
 use lib.ListN.{length, getD, take}
 use Rattle.field.specs.Moduli.{Listed}
@@ -17,20 +17,22 @@ use Rattle.divisor.specs.declared.table.Table.{Table}
 use Rattle.divisor.specs.declared.verdict.Ruling.{Ruling}
 use Rattle.divisor.specs.Rule.{Kept}
 use Rattle.divisor.specs.Candidate.{Call, table, prime, Numbers, monomials, Candidate}
-use Rattle.divisor.specs.table.Model.{TableReady, empty-table, solved}
+use Rattle.divisor.specs.table.Model.{empty-table, solved}
 use Rattle.divisor.specs.table.Meaning.{added, rows-of, Says}
-use Rattle.divisor.specs.table.Kept.{empty-ready}
-use Rattle.divisor.specs.table.Added.{adds-ready}
 use Rattle.divisor.specs.table.Answer.{table-answers, solved-below, solved-length}
 use Rattle.divisor.specs.equations.Rows.{kept-rows, all-rows}
-use Rattle.divisor.specs.sorting.Model.{sizes-of, least, alike}
-use Rattle.divisor.specs.points.Model.{Looks, Equations-before}
+use Rattle.divisor.specs.equations.Model.{AddsFirst, Solves}
+use Rattle.divisor.specs.equations.Adding.{rows-ready, table-solvable}
+use Rattle.divisor.specs.equations.System.{system-rows}
+use Rattle.divisor.specs.sorting.Model.{sizes-of, least, alike, places-before, HasPlaces}
+use Rattle.divisor.specs.points.Model.{Looks}
 use Rattle.divisor.specs.verdict.Model.{NoGoodPoint, VerdictReady, Settles, Settled, MakesDivisor, unsolvable, several, rejected, accepted}
 use Rattle.divisor.specs.checks.Passed.{point-count, looks-of, right-lists, keys-most, output-fits}
 use Rattle.divisor.specs.sorting.Laws.{least-is}
 use Rattle.divisor.specs.monic.Terms.{AllBelow, all-below}
 use Rattle.divisor.specs.answer.Assembled as assembled
 use Rattle.divisor.specs.sorting.Kept.{SomeGood, KeptPoints, room-after, same-room, sizes-are, columns-fit, kept-points}
+use Rattle.divisor.specs.sorting.Kept.{counted-places, place-is, ready-system, can-solve}
 
 module _ (c : Call) (pass : Passes (table c)) (after sizes : List ℕ)
     (look : Looks (point-count c) (c .modulus) (c .first-list) (c .second-list) (c .points) (c .work) after sizes) where
@@ -68,46 +70,47 @@ module _ {c : Call} {after sizes : List ℕ} {m count : ℕ} (good : SomeGood c 
   abbrev ks : List (Kept (Numbers c listed))
   ks = kept .others
 
-  module _ (t : Table) (made : Equations-before (point-count c) (c .modulus) (c .skeleton) (c .points) sizes after m (length (c .skeleton) + count) t) where
-    pub ready-table : TableReady (c .modulus) t
-    ready-table = adds-ready p (made .adds) (empty-ready p _ listed (columns-fit good))
+  abbrev unknowns : ℕ
+  unknowns = length (c .skeleton) + length ks
 
-    abbrev unknowns : ℕ
-    unknowns = length (c .skeleton) + length ks
+  abbrev equations : List (List (Fp p))
+  equations = all-rows (Numbers c listed) (monomials c listed) k ks
 
-    abbrev equations : List (List (Fp p))
-    equations = all-rows (Numbers c listed) (monomials c listed) k ks
+  module _ (places : List ℕ) (at : HasPlaces m sizes (point-count c) places) where
+    -- what a table of the equations says of those of the rule
+    module _ (t : Table) (made : AddsFirst (8 * count) (c .modulus) (empty-table (length (c .skeleton) + count)) (c .skeleton) (c .points) places after
+        (8 * count) t) where
+      means : rows-of p unknowns (made .rows) ≡ equations
+      means =
+          let e = kept .count-is in
+          system-rows P (c .skeleton) (c .points) after (places-before m sizes (point-count c)) (ready-system good places at) (omega arith)
+          (omega (arith, counted-places good places at)) (λ a l. place-is good places at a (omega arith)) made
+          ∙ ap (kept-rows (Numbers c listed) (monomials c listed) (length ks)) (kept .in-room)
 
-    means : rows-of p unknowns (made .rows) ≡ equations
-    means =
-        let e = kept .count-is in
-        let a : length (c .skeleton) + count - 1 ≡ unknowns = omega arith in
-        let i = good .is-count in
-        let b : alike m (take (point-count c) sizes) - 1 ≡ length ks = omega arith in
-        ap (λ (x : ℕ). rows-of p x (made .rows)) (sym a) ∙ made .means P
-        ∙ ap₂ (kept-rows (Numbers c listed) (monomials c listed)) b (kept .in-room)
+      -- what the kind and the values say of the equations of the rule
+      says : Says p P unknowns equations (solved p t .kind) (solved p t .values)
+      says =
+          let e = kept .count-is in
+          let l = columns-fit good .most in
+          let a : length (c .skeleton) + count ≡ suc unknowns = omega arith in
+          subst (λ (rs : List (List (Fp p))). Says p P unknowns rs (solved p t .kind) (solved p t .values)) means
+          (subst (λ (u : Table). Says p P unknowns (rows-of p unknowns (made .rows)) (solved p u .kind) (solved p u .values))
+          (sym (made .is ∙ ap (λ (x : ℕ). added p (empty-table x) (made .rows)) a))
+          (table-answers p P unknowns (omega arith) (made .rows) listed (rows-ready made (ready-system good places at))))
 
-    -- what the kind and the values say of the equations of the rule
-    says : Says p P unknowns equations (solved p t .kind) (solved p t .values)
-    says =
-        let e = kept .count-is in
-        let l = columns-fit good .most in
-        let a : length (c .skeleton) + count ≡ suc unknowns = omega arith in
-        subst (λ (rs : List (List (Fp p))). Says p P unknowns rs (solved p t .kind) (solved p t .values)) means
-        (subst (λ (u : Table). Says p P unknowns (rows-of p unknowns (made .rows)) (solved p u .kind) (solved p u .values))
-        (sym (made .adds .is ∙ ap (λ (x : ℕ). added p (empty-table x) (made .rows)) a))
-        (table-answers p P unknowns (omega arith) (made .rows) listed (made .adds .ready)))
+    module _ (s : Solved) (h : Solves (c .modulus) (c .skeleton) (c .points) places after (8 * count) (length (c .skeleton) + count) s) where
+      says-so : Says p P unknowns equations (s .kind) (s .values)
+      says-so = subst (λ (y : Solved). Says p P unknowns equations (y .kind) (y .values)) (sym (h .is)) (says (h .table) (h .made))
 
-    module _ (s : Solved) (is-solved : s ≡ solved (c .modulus) t) where
       says-as : (x : Kind) → s .kind ≡ x → Says p P unknowns equations x (s .values)
-      says-as x e = subst (λ (y : Kind). Says p P unknowns equations y (s .values)) e
-          (subst (λ (y : Solved). Says p P unknowns equations (y .kind) (y .values)) (sym is-solved) says)
+      says-as x e = subst (λ (y : Kind). Says p P unknowns equations y (s .values)) e says-so
 
       below : (i : ℕ) → getD (s .values) i 0 < p
-      below = subst (λ (y : Solved). (i : ℕ) → getD (y .values) i 0 < p) (sym is-solved) (solved-below p t ready-table)
+      below = subst (λ (y : Solved). (i : ℕ) → getD (y .values) i 0 < p) (sym (h .is))
+          (solved-below p (h .table) (table-solvable (can-solve good places at) (h .made) .0))
 
       long : length (c .skeleton) ≤ length (s .values)
-      long = let e = ap (λ (y : Solved). length (y .values)) is-solved ∙ solved-length p t in let l = keys-most c pass in omega arith
+      long = let e = ap (λ (y : Solved). length (y .values)) (h .is) ∙ solved-length p (h .table) in let l = keys-most c pass in omega arith
 
       first-below : AllBelow p (take (length (c .skeleton)) (s .values))
       first-below = all-below p (length (c .skeleton)) (s .values) below

@@ -1,7 +1,7 @@
 -- The points one after the other, with the records of their images: what the code has seen is what the rule speaks of.
 use mathlib.Core.Path.{_≡_, refl, sym, _∙_, ap, ap₂, subst}
 use mathlib.Core.Bool.{Bool, true, false}
-use mathlib.Core.List.{List, [], _∷_, _++_, append-assoc, append-nil}
+use mathlib.Core.List.{List, [], _∷_, _++_, map, map-append, append-assoc, append-nil}
 use Prim.Native.Nat.{ℕ, zero, suc, _+_, _*_, _/_, _≤_}
 use native.Mathlib.Omega.{arith}
 use lib.Dec.{eqb}
@@ -15,9 +15,9 @@ use Rattle.poly.specs.PointValue.{Point}
 use Rattle.poly.specs.ImageCall.{point-of}
 use Rattle.divisor.specs.Rule.{Kept}
 use Rattle.divisor.specs.Candidate.{most-points, point-at, points-of}
-use Rattle.divisor.specs.sorting.Model.{sizes-of, kept-of}
-use Rattle.divisor.specs.equations.Model.{kept-numbers}
-use Rattle.divisor.specs.points.Model.{image-at, look-at, LookReady, Looks, kept-before}
+use Rattle.divisor.specs.sorting.Model.{sizes-of, places-before, kept-of}
+use Rattle.divisor.specs.equations.Model.{image-at, kept-numbers, kept-at}
+use Rattle.divisor.specs.points.Model.{look-at, LookReady, Looks, kept-before}
 use Rattle.divisor.specs.sorting.Laws.{Looked, nowhere, one}
 use Rattle.divisor.specs.points.Looking.{look-answers}
 
@@ -99,7 +99,7 @@ module _ {p N : ℕ} {A B points before after sizes : List ℕ} (few : N ≤ mos
     -- one more point, kept or not
     one-more : (i n : ℕ) → i + suc n ≡ N
         → so-far i ++ rest i (suc n) ≡ so-far (suc i) ++ rest (suc i) n
-    unfolding kept-before kept-of
+    unfolding places-before kept-of
     one-more i n e =
         ap (λ (l : List (Point (Modulo p P .ring))). so-far i ++ kept-of P m l (looks-from p A B points i (suc n)))
         (points-next P points i n (omega arith))
@@ -110,10 +110,15 @@ module _ {p N : ℕ} {A B points before after sizes : List ℕ} (few : N ≤ mos
         by : Bool → List ℕ → Kepts
         by b image = elim b as (λ _. Kepts) [ true ↦ kept-numbers p P (point-at points i) image ∷ rest (suc i) n | false ↦ rest (suc i) n ]
 
+        here : List ℕ → Kepts
+        here = map (kept-at P points after)
+
         go : (b : Bool) → so-far i ++ by b (image-at after i)
-            ≡ (so-far i ++ elim b as (λ _. Kepts) [ true ↦ kept-numbers p P (point-at points i) (image-at after i) ∷ [] | false ↦ [] ]) ++ rest (suc i) n
-        go true = sym (append-assoc (so-far i) (kept-numbers p P (point-at points i) (image-at after i) ∷ []) (rest (suc i) n))
-        go false = sym (append-assoc (so-far i) [] (rest (suc i) n))
+            ≡ here (places-before m sizes i ++ elim b as (λ _. List ℕ) [ true ↦ i ∷ [] | false ↦ [] ]) ++ rest (suc i) n
+        go true =
+            sym (append-assoc (so-far i) (here (i ∷ [])) (rest (suc i) n))
+            ∙ ap (_++ rest (suc i) n) (sym (map-append (kept-at P points after) (places-before m sizes i) (i ∷ [])))
+        go false = ap (λ (ps : List ℕ). here ps ++ rest (suc i) n) (sym (append-nil (places-before m sizes i)))
 
     kept-from : (i n : ℕ) → i + n ≡ N → so-far i ++ rest i n ≡ so-far N
     unfolding kept-of
@@ -126,5 +131,5 @@ module _ {p N : ℕ} {A B points before after sizes : List ℕ} (few : N ≤ mos
     kept-from i (suc n) e = one-more i n e ∙ kept-from (suc i) n (omega arith)
 
     pub kept-seen : kept-before P m points sizes after N ≡ kept-of P m (points-of p P points) (looks-from p A B points 0 N)
-    unfolding kept-before
+    unfolding places-before
     kept-seen = sym (kept-from 0 N (omega arith))

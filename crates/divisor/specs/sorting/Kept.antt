@@ -2,22 +2,24 @@
 use mathlib.Core.Path.{_≡_, refl, sym, _∙_, ap, subst}
 use mathlib.Core.Logic.{inl, inr}
 use mathlib.Core.List.{List, [], _∷_}
-use Prim.Native.Nat.{ℕ, suc, _+_, _-_, _≤_, _<_}
+use Prim.Native.Nat.{ℕ, suc, _+_, _-_, _*_, _≤_, _<_}
 use native.Mathlib.Omega.{arith}
-use lib.ListN.{length, take}
+use lib.ListN.{length, getD, take}
 use lib.Seq.{length-take-le}
 use Rattle.field.specs.Moduli.{Listed}
 use Rattle.field.specs.Prime.{Prime}
 use Rattle.field.specs.Refusal.{Passes}
-use Rattle.poly.specs.Coefficients.{Eight}
 use Rattle.poly.specs.Room.{work-room, cleared}
 use Rattle.poly.specs.rooms.Laws.{zeroed-same}
 use Rattle.divisor.specs.Rule.{Kept}
 use Rattle.divisor.specs.Candidate.{most-points, Call, table, prime, Numbers, A, B, lent-points}
 use Rattle.divisor.specs.table.Model.{Columns}
 use Rattle.divisor.specs.points.PartsModel.{Within}
-use Rattle.divisor.specs.sorting.Model.{sizes-of, least, alike, kept-of}
-use Rattle.divisor.specs.points.Model.{Looks, kept-before, EquationsReady}
+use Rattle.divisor.specs.points.Parts.{part-at}
+use Rattle.divisor.specs.sorting.Model.{sizes-of, least, alike, places-before, HasPlaces, kept-of}
+use Rattle.divisor.specs.sorting.Places.{places-count, place-below}
+use Rattle.divisor.specs.equations.Model.{SystemReady, CanSolve}
+use Rattle.divisor.specs.points.Model.{Looks, kept-before}
 use Rattle.divisor.specs.checks.Passed.{point-count, looks-of, right-lists, keys-most, right-points, few-points, work-fits}
 use Rattle.divisor.specs.checks.Passed.{look-ready, looked}
 use Rattle.divisor.specs.sorting.Laws.{alike-most, alike-two, Least, AtLeast, least-is, kept-count}
@@ -94,18 +96,36 @@ module _ {c : Call} {after sizes : List ℕ} {m count : ℕ} (good : SomeGood c 
   columns-fit =
       record { some = let k = some-kept in let i = good .is-count in omega arith; most = let k = count-small in let s = keys-most c pass in omega arith }
 
-  pub ready-equations : EquationsReady (c .modulus) (c .skeleton) (c .points) sizes after m (length (c .skeleton) + count)
-  ready-equations = record {
-    listed = listed;
-    threes = right-points c pass .threes;
-    few = right-points c pass .few;
-    count = good .look .sized .long;
-    room = room-after c pass after sizes (good .look);
-    images = λ i l. subst (Eight (c .modulus)) (sym (good .look .images i l)) (look-eight (look-ready c pass) i);
-    some = some-kept;
-    columns-are = ap (length (c .skeleton) +_) (good .is-count);
-    most = columns-fit .most;
-  }
+  -- the kept points' places, in an array
+  module _ (places : List ℕ) (at : HasPlaces m sizes (point-count c) places) where
+    long : n ≤ length sizes
+    long = within c pass after sizes (good .look) .within
+
+    pub counted-places : length (places-before m sizes (point-count c)) ≡ count
+    counted-places = places-count m sizes n long ∙ sym (good .is-count)
+
+    pub place-is : (a : ℕ) → a < count → getD places a 0 ≡ getD (places-before m sizes (point-count c)) a 0
+    place-is a l = at .done a (omega (arith, counted-places))
+
+    place-fits : (a : ℕ) → a < count → getD places a 0 < n
+    place-fits a l = omega (arith, place-is a l, place-below m sizes n a (omega (arith, counted-places)))
+
+    pub ready-system : SystemReady (c .modulus) (c .skeleton) (c .points) places after (8 * count)
+    ready-system = record {
+      listed = listed;
+      eights = omega arith;
+      few = omega (arith, at .long, count-small);
+      most = omega (arith, columns-fit .most);
+      coordinates = λ a l. omega (arith, place-fits a (omega arith), right-points c pass .threes);
+      room = λ a l. omega (arith, place-fits a (omega arith), few-points c pass, room-after c pass after sizes (good .look));
+      below = λ a j l b.
+          let i = getD places a 0 in
+          let same = ap (λ (f : List ℕ). getD f j 0) (good .look .images i (place-fits a (omega arith))) in
+          omega (arith, part-at 8 i after j b, same, look-eight (look-ready c pass) i .below j);
+    }
+
+    pub can-solve : CanSolve (c .modulus) (c .skeleton) (c .points) places after (8 * count) (length (c .skeleton) + count)
+    can-solve = record { system = ready-system; some = omega (arith, some-kept, good .is-count); columns-are = omega arith }
 
   abbrev d : ℕ
   d = m - 1

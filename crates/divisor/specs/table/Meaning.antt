@@ -1,6 +1,5 @@
 -- What the equation table means: the numbers of a row are its entries in the field, the rows on the diagonal are algebra's table, column by column,
 -- and a kind with its values says how many solutions the equations have.
-use mathlib.Core.Path.{_≡_}
 use mathlib.Core.Bool.{Bool, true, false}
 use mathlib.Core.List.{List, [], _∷_, map}
 use Prim.Native.Nat.{ℕ, zero, suc}
@@ -55,11 +54,6 @@ rows-of p n es = map (row-of p n) es
 abbrev pub AllReady : ℕ → List Row → Type 0
 AllReady p [] = Unit {0}
 AllReady p (e ∷ es) = RowReady p e × AllReady p es
-
--- r is t with these equations added
-pub record Adds (p : ℕ) (t : Table) (es : List Row) (r : Table) : Type 0 where
-  pub ready : AllReady p es
-  pub is : r ≡ added p t es
 
 -- what a kind and values say of equations of n unknowns modulo a prime
 abbrev pub Says : (p : ℕ) → Prime p → (n : ℕ) → List (List (Fp p)) → Kind → List ℕ → Type 0

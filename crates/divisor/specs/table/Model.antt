@@ -3,7 +3,7 @@ use mathlib.Core.Path.{_≡_}
 use mathlib.Core.Bool.{true, false}
 use mathlib.Core.List.{List, []}
 use Prim.Native.Nat.{ℕ, zero, suc, _+_, _-_, _*_, _%_, _<_, _≤_}
-use lib.Dec.{eqb}
+use lib.Dec.{eqb, ltb}
 use lib.ListN.{length, getD, set, replicate}
 use Rattle.field.specs.Moduli.{Listed}
 use Rattle.field.specs.Fp.{el, inv}
@@ -11,14 +11,19 @@ use Rattle.field.specs.loops.Filled.{cells, between}
 use Rattle.field.specs.loops.Fold.{fold, upwards, downwards}
 use Rattle.divisor.specs.declared.table.Row.{Row}
 use Rattle.divisor.specs.declared.table.Table.{Table}
+use Rattle.divisor.specs.declared.table.Reduced.{Reduced}
 use Rattle.divisor.specs.declared.table.Kind.{Kind}
 use Rattle.divisor.specs.declared.table.Kind.the-variants.{None, One, Several}
 use Rattle.divisor.specs.declared.table.Solved.{Solved}
 use Rattle.divisor.specs.Candidate.{most-keys, most-points}
+use Rattle.divisor.specs.points.PartsModel.{part, stored}
 
 -- an unknown for each key, and a multiplier for each point, of which the first is fixed
 abbrev pub most-columns : ℕ
 most-columns = most-keys + most-points
+
+abbrev pub most-cells : ℕ
+most-cells = most-columns * most-columns
 
 abbrev pub no-row : Row
 no-row = record { cells = [] }
@@ -26,12 +31,16 @@ no-row = record { cells = [] }
 abbrev pub cell : Row → ℕ → ℕ
 cell e k = getD (e .cells) k 0
 
--- the row has an entry in column k
-abbrev pub Entry : Row → ℕ → Type 0
-Entry e k = ¬ (cell e k ≡ 0)
+-- the row kept in column j: the cells have one row after the other
+abbrev pub row-in : List ℕ → ℕ → Row
+row-in cells j = record { cells = part most-columns j cells }
 
 abbrev pub row-at : Table → ℕ → Row
-row-at t j = getD (t .rows) j no-row
+row-at t j = row-in (t .cells) j
+
+-- the table of these cells
+abbrev pub table-of-cells : List ℕ → ℕ → Table
+table-of-cells cells columns = record { cells = cells; columns = columns }
 
 abbrev pub diagonal : Table → ℕ → ℕ
 diagonal t j = cell (row-at t j) j
@@ -40,7 +49,7 @@ abbrev pub zeros : List ℕ
 zeros = replicate most-columns 0
 
 abbrev pub empty-table : ℕ → Table
-empty-table columns = record { rows = replicate most-columns (record { cells = zeros }); columns = columns }
+empty-table columns = table-of-cells (replicate most-cells 0) columns
 
 -- the row e with h in the columns from j up to n
 abbrev pub altered : ℕ → ℕ → (ℕ → ℕ) → Row → Row
@@ -54,9 +63,13 @@ minus p e d j columns = altered j columns (λ k. (cell e k + (p - cell e j) * ce
 abbrev pub scaled-row : ℕ → Row → ℕ → ℕ → Row
 scaled-row p e j columns = altered j columns (λ k. inv (el p (cell e j)) .val * cell e k % p) e
 
+-- the cells with the row e kept in column j
+abbrev pub with-cells : List ℕ → ℕ → Row → List ℕ
+with-cells cells j e = stored most-columns (e .cells) (most-columns * j) cells
+
 -- the equation kept in column j
 abbrev pub kept : ℕ → Table → ℕ → Row → Table
-kept p t j e = record { rows = set (t .rows) j (scaled-row p e j (t .columns)); columns = t .columns }
+kept p t j e = table-of-cells (with-cells (t .cells) j (scaled-row p e j (t .columns))) (t .columns)
 
 -- the equation e at the columns from j on, n of them
 unfoldable pub insert : ℕ → ℕ → ℕ → Table → Row → Table
@@ -74,6 +87,10 @@ insert (suc n) j p t e =
 -- one more equation
 abbrev pub with-row : ℕ → Table → Row → Table
 with-row p t e = insert (t .columns) 0 p t e
+
+-- the cells with what a step hands back, if it is to be kept
+unfoldable pub keeping : List ℕ → ℕ → Reduced → List ℕ
+keeping cells columns r = elim (ltb (r .column) columns) [ true ↦ with-cells cells (r .column) (r .row) | false ↦ cells ]
 
 -- whether a row is kept in each of n columns from j on
 unfoldable pub kind-from : ℕ → ℕ → Table → Kind
@@ -127,7 +144,7 @@ pub record RowReady (p : ℕ) (e : Row) : Type 0 where
 pub record TableReady (p : ℕ) (t : Table) : Type 0 where
   pub listed : Listed p
   pub columns : Columns (t .columns)
-  pub size : length (t .rows) ≡ most-columns
+  pub size : length (t .cells) ≡ most-cells
   pub below : (i k : ℕ) → cell (row-at t i) k < p
 
 -- what a step asks for
@@ -135,8 +152,14 @@ pub record StepReady (p : ℕ) (t : Table) (e : Row) : Type 0 where
   pub table : TableReady p t
   pub row : RowReady p e
 
+-- what a step hands back of the equation e: to keep it is to add the equation
+pub record Reduces (p : ℕ) (t : Table) (e : Row) (r : Reduced) : Type 0 where
+  pub size : length (r .row .cells) ≡ most-columns
+  pub within : r .column ≤ t .columns
+  pub adds : table-of-cells (keeping (t .cells) (t .columns) r) (t .columns) ≡ with-row p t e
+
 -- what work on a row at a column asks for
-pub record Column (p : ℕ) (e : Row) (j columns : ℕ) : Type 0 where
+pub record AtColumn (p : ℕ) (e : Row) (j columns : ℕ) : Type 0 where
   pub listed : Listed p
   pub size : length (e .cells) ≡ most-columns
   pub below : cell e j < p
@@ -144,9 +167,27 @@ pub record Column (p : ℕ) (e : Row) (j columns : ℕ) : Type 0 where
   pub within : j < columns
   pub most : columns ≤ most-columns
 
+-- and with the row kept there
+pub record CanSubtract (p : ℕ) (e : Row) (cells : List ℕ) (j columns : ℕ) : Type 0 where
+  pub row : AtColumn p e j columns
+  pub size : length cells ≡ most-cells
+
+-- what keeping a row asks for
+pub record CanKeep (cells : List ℕ) (columns : ℕ) (r : Reduced) : Type 0 where
+  pub size : length cells ≡ most-cells
+  pub row : length (r .row .cells) ≡ most-columns
+  pub most : columns ≤ most-columns
+
+-- what the kind asks for
+pub record CellsReady (cells : List ℕ) (columns : ℕ) : Type 0 where
+  pub size : length cells ≡ most-cells
+  pub fit : Columns columns
+
 -- what the value of an unknown asks for
-pub record Back (p : ℕ) (e : Row) (j last : ℕ) : Type 0 where
+pub record Back (p : ℕ) (cells values : List ℕ) (j last : ℕ) : Type 0 where
   pub listed : Listed p
-  pub below : cell e last < p
+  pub size : length cells ≡ most-cells
+  pub below : cell (row-in cells j) last < p
   pub within : j < last
   pub most : last < most-columns
+  pub known : length values ≡ most-columns

@@ -1,12 +1,19 @@
--- Rows that are altered from a column on: each altered place has its new number, and all numbers stay below p.
+-- The cells of a row, in the list of all; and rows that are altered from a column on: each altered place has its new number, and all numbers stay
+-- below p.
 use mathlib.Core.Path.{_≡_, _∙_}
-use Prim.Native.Nat.{ℕ, _<_, _≤_}
+use mathlib.Core.List.{List}
+use Prim.Native.Nat.{ℕ, _+_, _*_, _<_, _≤_}
 use native.Mathlib.Nat.{mod-lt}
 use native.Mathlib.Omega.{arith}
+use lib.ListN.{getD}
 use Rattle.field.specs.loops.Filled.{between}
 use Rattle.field.specs.loops.Cells.{cells-length, cells-at, cells-all, between-in, between-all}
 use Rattle.divisor.specs.declared.table.Row.{Row}
-use Rattle.divisor.specs.table.Model.{most-columns, cell, altered, minus, scaled-row, RowReady}
+use Rattle.divisor.specs.points.Parts.{part-at}
+use Rattle.divisor.specs.table.Model.{most-columns, cell, row-in, altered, minus, scaled-row, RowReady}
+
+pub cell-in : (cells : List ℕ) (j k : ℕ) → k < most-columns → cell (row-in cells j) k ≡ getD cells (most-columns * j + k) 0
+cell-in cells j = part-at most-columns j cells
 
 pub altered-at : (j n : ℕ) (h : ℕ → ℕ) (e : Row) (k : ℕ) → j ≤ k → k < n → k < most-columns → cell (altered j n h e) k ≡ h k
 altered-at j n h e k from to small =

@@ -7,7 +7,6 @@ use native.Mathlib.Decide.{ℕ-discrete}
 use native.Mathlib.Omega.{arith}
 use lib.Dec.{eqb}
 use borrow.Author.Tests.{ne-eqb}
-use lib.Seq.{getD-set-same, getD-set-other}
 use Rattle.algebra.specs.Field.{Field}
 use Rattle.algebra.specs.Models.Elimination.{Table as Equations, solvable, failed, free, pivot, times, plus-times, step}
 use Rattle.field.specs.Prime.{Prime}
@@ -16,11 +15,11 @@ use Rattle.field.specs.elements.Fp.{el-nonzero}
 use Rattle.field.specs.Modulo.{Modulo}
 use Rattle.divisor.specs.declared.table.Row.{Row}
 use Rattle.divisor.specs.declared.table.Table.{Table}
-use Rattle.divisor.specs.table.Model.{most-columns, no-row, row-at, cell, diagonal, minus, scaled-row, kept, insert, with-row, RowReady, TableReady}
+use Rattle.divisor.specs.table.Model.{most-columns, row-at, cell, diagonal, minus, scaled-row, kept, insert, with-row, RowReady, TableReady}
 use Rattle.divisor.specs.monic.Decided.{decided-yes, decided-no}
 use Rattle.divisor.specs.table.Columns.{last-solvable, last-failed, column-free, column-pivot, same-row, columns-same}
 use Rattle.divisor.specs.table.Rows.{minus-ready}
-use Rattle.divisor.specs.table.Kept.{insert-all}
+use Rattle.divisor.specs.table.Kept.{kept-here, kept-other, insert-all}
 use Rattle.divisor.specs.table.Turns.{insert-at-zero, insert-at-free, insert-at-kept}
 use Rattle.divisor.specs.table.Entries.{minus-entries, scaled-entries, scaled-diagonal, zero-times}
 use Rattle.divisor.specs.table.Meaning.{entries, column, last-column, columns-of, row-of, table-of}
@@ -29,7 +28,7 @@ use Rattle.divisor.specs.table.Meaning.{entries, column, last-column, co
 insert-before : (n j p : ℕ) (t : Table) (e : Row) (k : ℕ) → k < j → row-at (insert n j p t e) k ≡ row-at t k
 insert-before n j p t e k h =
     insert-all p t (λ u. row-at u k ≡ row-at t k) (λ f. Unit {0}) (λ i f u. tt) refl n j
-    (λ i l f u. getD-set-other (t .rows) i k (scaled-row p f i (t .columns)) no-row (λ (q : k ≡ i). omega arith)) e tt
+    (λ i l m f u. kept-other p t i f k (λ (q : k ≡ i). omega arith)) e tt
 
 -- a step of the field's table at one column
 module _ (p : ℕ) (P : Prime p) where
@@ -64,7 +63,7 @@ module _ (p : ℕ) (P : Prime p) where
       most = ready .columns .most
 
       kept-row : row-at (kept p t i e) i ≡ scaled-row p e i (t .columns)
-      kept-row = getD-set-same (t .rows) i (scaled-row p e i (t .columns)) no-row (omega (arith, ready .size))
+      kept-row = kept-here p t i e (ready .size) (omega (arith, most))
 
       kept-diagonal : ¬ (cell e i ≡ 0) → ¬ (diagonal (kept p t i e) i ≡ 0)
       kept-diagonal z q =
@@ -73,7 +72,7 @@ module _ (p : ℕ) (P : Prime p) where
       kept-behind : (n : ℕ) → columns-of p (kept p t i e) (suc i) n ≡ columns-of p t (suc i) n
       kept-behind n =
           columns-same p t (kept p t i e) (suc i) n
-          (λ k l. getD-set-other (t .rows) i k (scaled-row p e i (t .columns)) no-row (λ (q : k ≡ i). omega arith))
+          (λ k l. kept-other p t i e k (λ (q : k ≡ i). omega arith))
 
       -- the last column
       last-step : columns-of p (insert 1 i p t e) i zero ≡ step K (columns-of p t i zero) (el p (cell e i) ∷ [])

@@ -1,15 +1,16 @@
 -- The table's models one turn at a time, as the loops of the code move.
 use mathlib.Core.Path.{_≡_, refl, sym, ap, _∙_, subst}
+use mathlib.Core.List.{List}
 use Prim.Native.Nat.{ℕ, zero, suc, _+_, _-_, _<_, _≤_}
 use native.Mathlib.Numerals.{add-one}
 use native.Mathlib.Decide.{ℕ-discrete}
 use native.Mathlib.Omega.{arith}
-use borrow.Author.Tests.{eq-eqb, ne-eqb}
-use Rattle.poly.specs.Search.{Searched}
+use borrow.Author.Tests.{eq-eqb, ne-eqb, lt-ltb, le-ltb}
 use Rattle.divisor.specs.declared.table.Row.{Row}
 use Rattle.divisor.specs.declared.table.Table.{Table}
+use Rattle.divisor.specs.declared.table.Reduced.{Reduced}
 use Rattle.divisor.specs.declared.table.Kind.the-variants.{None, One, Several}
-use Rattle.divisor.specs.table.Model.{most-columns, row-at, cell, Entry, diagonal, minus, kept, insert, with-row, kind-from, kind}
+use Rattle.divisor.specs.table.Model.{row-at, cell, diagonal, minus, with-cells, kept, insert, keeping, kind-from, kind}
 
 -- a step at one column
 module _ (p : ℕ) (t : Table) (e : Row) (j n : ℕ) where
@@ -52,16 +53,15 @@ module _ (p : ℕ) (t : Table) (e : Row) (j : ℕ) where
   unfolding insert
   insert-end h = let q : t .columns - j ≡ 0 = omega arith in ap (λ n. insert n j p t e) q
 
--- an equation without entries adds nothing
-insert-blank : (p : ℕ) (t : Table) (e : Row) (n j : ℕ) → ((k : ℕ) → k < j + n → cell e k ≡ 0) → insert n j p t e ≡ t
-insert-blank p t e zero j z = (unfold insert in refl)
-insert-blank p t e (suc n) j z =
-    insert-at-zero p t e j n (z j (omega arith)) ∙ insert-blank p t e n (suc j) (λ k l. z k (omega arith))
+-- what a step hands back
+module _ (cells : List ℕ) (columns : ℕ) (r : Reduced) where
+  pub keeping-kept : r .column < columns → keeping cells columns r ≡ with-cells cells (r .column) (r .row)
+  unfolding keeping
+  keeping-kept h = rw (lt-ltb (r .column) columns h, keeping)
 
-pub blank-adds-nothing : (p : ℕ) (t : Table) (e : Row) → t .columns ≤ most-columns → (place : ℕ) → most-columns ≤ place → Searched (Entry e) most-columns place
-    → with-row p t e ≡ t
-blank-adds-nothing p t e most place past searched =
-    insert-blank p t e (t .columns) 0 (λ k l. elim (ℕ-discrete (cell e k) 0) [ yes q ↦ q | no q ↦ absurd (searched .before k (omega arith) q) ])
+  pub keeping-none : columns ≤ r .column → keeping cells columns r ≡ cells
+  unfolding keeping
+  keeping-none h = rw (le-ltb (r .column) columns h, keeping)
 
 module _ (t : Table) where
   pub kind-none : ¬ (diagonal t (t .columns - 1) ≡ 0) → kind t ≡ None

@@ -3,7 +3,7 @@ use borrow.Author.Needs.{needs}
 use mathlib.Core.Path.{_≡_, refl, sym, _∙_, ap}
 use Prim.Native.Nat.{ℕ, zero, suc, _+_, _-_}
 use native.Mathlib.Omega.{arith}
-use Rattle.divisor.specs.points.Model.{next-column}
+use Rattle.divisor.specs.equations.Model.{next-column}
 use Rattle.divisor.proofs.equations.column_of.Statement.{statement}
 use Rattle.divisor.proofs.equations.column_of.Tie as tie
 

@@ -101,6 +101,13 @@ inverse-requires c κs =
 shared-slice-read-of : tie.Need-shared-slice-read-of
 shared-slice-read-of c = omega (arith, start (c .before) .pre .lists .some-dividend)
 
+add-top : tie.Need-add-top
+add-top c =
+    let h = c .before in
+    let z = start (h .before .before) in
+    let key = falling-keys (z .args .p) keys (z .args .dividend .now) (z .pre .lists .dividend-falls) 0 (z .pre .lists .some-dividend) in
+    record { fits = omega (arith, h .of3 .ensures, key) }
+
 spread-requires : tie.Need-spread-requires
 spread-requires c κs =
     let of2 = c .before .before .before .before in
@@ -128,5 +135,5 @@ returns-2 c =
 pub divide-spec : {M : Type 1} → statement M
 divide-spec =
     tie.close (tie.spec most-requires most-requires-2 (λ c κs. search needs) returns sub-of (λ c. search needs) (λ c κs. search needs)
-    (λ c κs. search needs) inverse-requires (λ c κs. search needs) shared-slice-read-of (λ c κs. search needs) (λ c. search needs) (λ c. search needs)
-    spread-requires steps-requires (λ c. search needs) returns-2)
+    (λ c κs. search needs) inverse-requires (λ c κs. search needs) shared-slice-read-of (λ c κs. search needs) add-top spread-requires
+    steps-requires (λ c. search needs) returns-2)

@@ -35,18 +35,18 @@ record Stepping (d : Setting) (before work : List ℕ) (k : ℕ) (whole : Bool) 
   going : Going d before work k
 
 abbrev Inv-loop : tie.InvT-loop
-Inv-loop divisor lead inverse bound top work low k₀ whole₀ k whole =
+Inv-loop divisor lead inverse bound top work k₀ whole₀ k whole =
     Passing (setting divisor lead inverse (bound .bits)) work k₀ k whole₀ whole
 
 abbrev μ-loop : tie.MeasureT-loop
-μ-loop divisor lead inverse bound top work low k₀ whole₀ k whole = k
+μ-loop divisor lead inverse bound top work k₀ whole₀ k whole = k
 
 abbrev Inv-steps : tie.InvT-steps
-Inv-steps divisor lead inverse bound top work₀ low k₀ whole₀ work k whole =
+Inv-steps divisor lead inverse bound top work₀ k₀ whole₀ work k whole =
     Stepping (setting divisor lead inverse (bound .bits)) work₀ work k whole
 
 abbrev μ-steps : tie.MeasureT-steps
-μ-steps divisor lead inverse bound top work₀ low k₀ whole₀ work k whole = k
+μ-steps divisor lead inverse bound top work₀ k₀ whole₀ work k whole = k
 
 -- where the function begins
 abbrev start : tie.At-loop Inv-loop μ-loop Inv-steps μ-steps → tie.Start Inv-loop μ-loop Inv-steps μ-steps
@@ -113,14 +113,11 @@ loop-again c =
     let passed = going-passed (d l) (work l) (l .loop .k) (going l .cells) (t .loop-test .left) (c .if1 .left) in
     record { within = omega arith; same = l .loop .inv .same ∙ passed; answer = l .loop .inv .answer }
 
+sub-shift : tie.Need-sub-shift Inv-loop μ-loop Inv-steps μ-steps
+sub-shift c = below c
+
 product-requires : tie.Need-product-requires Inv-loop μ-loop Inv-steps μ-steps
 product-requires c κs = has-modulus (c .of .ensures) (start (at (c .before .before)) .pre .positive)
-
-sub-work : tie.Need-sub-work Inv-loop μ-loop Inv-steps μ-steps
-sub-work c = below (fit c)
-
-sub-subtract : tie.Need-sub-subtract Inv-loop μ-loop Inv-steps μ-steps
-sub-subtract c = below (fit c)
 
 subtract-requires : tie.Need-subtract-requires Inv-loop μ-loop Inv-steps μ-steps
 subtract-requires c κs =
@@ -165,7 +162,7 @@ returns-2 c =
 
 pub steps-spec : {M : Type 1} → statement M
 steps-spec =
-    tie.close (tie.spec Inv-loop μ-loop Inv-steps μ-steps steps-holds (λ c. search needs) (λ c. search needs) (λ c. search needs) (λ c. search needs)
-    (λ c. search needs) (λ c κs. search needs) (λ c. search needs) loop-again (λ c. search needs) (λ c. search needs) (λ c κs. search needs)
-    product-requires sub-work (λ c. search needs) (λ c. search needs) (λ c. search needs) sub-subtract subtract-requires (λ c. search needs)
-    steps-again (λ c. search needs) returns (λ c. search needs) returns-2)
+    tie.close (tie.spec Inv-loop μ-loop Inv-steps μ-steps steps-holds (λ c. search needs) (λ c. search needs) (λ c. search needs)
+    (λ c. search needs) (λ c. search needs) (λ c κs. search needs) (λ c. search needs) loop-again sub-shift (λ c. search needs) (λ c. search needs)
+    (λ c. search needs) (λ c. search needs) (λ c κs. search needs) product-requires (λ c. search needs) (λ c. search needs) (λ c. search needs)
+    subtract-requires (λ c. search needs) steps-again (λ c. search needs) returns (λ c. search needs) returns-2)

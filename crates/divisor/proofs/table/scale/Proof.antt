@@ -1,4 +1,4 @@
--- `divisor::table::scaled` meets its contract. The loop's invariant is that of `subtract`, with the row times the inverse, which is the field's by the
+-- `divisor::table::scale` meets its contract. The loop's invariant is that of `subtract`, with the row times the inverse, which is the field's by the
 -- link of `field`. The measure is the number of columns left.
 use Rattle.field.specs.modulus.Laws.{listed-prime}
 use Rattle.field.specs.Contract.{element, product-of, Invertible, Inverse}
@@ -9,17 +9,17 @@ use native.Mathlib.Omega.{arith}
 use lib.ListN.{getD}
 use Rattle.field.specs.loops.Filled.{FilledPart}
 use Rattle.field.specs.loops.Cells.{part-start, part-next, part-end}
-use Rattle.divisor.specs.table.Model.{most-columns, cell, altered}
+use Rattle.divisor.specs.table.Model.{most-columns, altered}
 use borrow.Author.Needs.{needs}
-use Rattle.divisor.proofs.table.scaled.Statement.{statement}
-use Rattle.divisor.proofs.table.scaled.Tie as tie
+use Rattle.divisor.proofs.table.scale.Statement.{statement}
+use Rattle.divisor.proofs.table.scale.Tie as tie
 
 abbrev Inv-loop : tie.InvT-loop
-Inv-loop j columns p r₀ inverse i₀ r i =
-    FilledPart j columns (λ k. inverse .value * getD (r₀ .cells) k 0 % p) most-columns (r₀ .cells) i (r .cells)
+Inv-loop row₀ j columns p inverse i₀ row i =
+    FilledPart j columns (λ k. inverse .value * getD row₀ k 0 % p) most-columns row₀ i row
 
 abbrev μ-loop : tie.MeasureT-loop
-μ-loop j columns p r₀ inverse i₀ r i = columns - i
+μ-loop row₀ j columns p inverse i₀ row i = columns - i
 
 -- with the inverse made: where the function began
 abbrev start : tie.After-inverse Inv-loop μ-loop → tie.Start Inv-loop μ-loop
@@ -27,7 +27,7 @@ start c = c .before .before .before
 
 -- what the inverse is
 is-inverse : (c : tie.After-inverse Inv-loop μ-loop) → let a = start c .args in
-    Inverse (element (a .p) (cell (a .row) (a .j))) (c .inverse .result)
+    Inverse (element (a .p) (getD (a .row .now) (a .j) 0)) (c .inverse .result)
 is-inverse c = subst (λ e. Inverse e (c .inverse .result)) (c .before .of .ensures) (c .inverse .ensures)
 
 inverse-requires : tie.Need-inverse-requires Inv-loop μ-loop
@@ -43,7 +43,7 @@ loop-again c =
     let inverse = loop .before in
     let s = start inverse in
     let made = c .product .ensures ∙ ap (product-of (inverse .inverse .result)) (cell-made .of2 .ensures)
-    ∙ ap (λ m. element m (inverse .inverse .result .value * cell (loop .loop .r) (loop .loop .i) % m)) (is-inverse inverse .same) in
+    ∙ ap (λ m. element m (inverse .inverse .result .value * getD (loop .loop .row) (loop .loop .i) 0 % m)) (is-inverse inverse .same) in
     part-next (loop .loop .inv) (cell-made .before .before .loop-test .taken) (s .pre .most)
     (ap (λ e. e .value) made ∙ ap (λ x. inverse .inverse .result .value * x % s .args .p) (loop .loop .inv .filled .left (loop .loop .i) (omega arith)))
 
@@ -54,10 +54,10 @@ returns c =
     let a = s .args in
     let is = inverse-val _ _ (listed-prime (s .pre .listed)) (is-inverse (loop .before)) in
     ap (λ x. record { cells = x }) (part-end (loop .loop .inv) (c .loop-test .left))
-    ∙ ap (λ f. altered (a .j) (a .columns) (λ k. f * cell (a .row) k % a .p) (a .row)) is
+    ∙ ap (λ f. altered (a .j) (a .columns) (λ k. f * getD (a .row .now) k 0 % a .p) (record { cells = a .row .now })) is
 
-pub scaled-spec : {M : Type 1} → statement M
-scaled-spec =
+pub scale-spec : {M : Type 1} → statement M
+scale-spec =
     tie.close (tie.spec Inv-loop μ-loop (λ c. search needs) (λ c. search needs) (λ c κs. search needs) inverse-requires loop-holds
-    (λ c. search needs) (λ c. search needs) (λ c κs. search needs) (λ c κs. search needs) (λ c. search needs) (λ c. search needs) (λ c. search needs)
-    (λ c. search needs) loop-again returns)
+    (λ c. search needs) (λ c. search needs) (λ c. search needs) (λ c κs. search needs) (λ c κs. search needs) (λ c. search needs) (λ c. search needs)
+    (λ c. search needs) (λ c. search needs) (λ c. search needs) loop-again returns)

@@ -1,0 +1,2 @@
+-- What the walks over the equations share.
+pub mod Passed

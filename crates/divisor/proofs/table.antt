@@ -1,0 +1,2 @@
+-- What the walks over the table share.
+pub mod Apart
