@@ -1,5 +1,6 @@
 -- What a designer means by cancelled, stated over the promise of the key alone: what was struck out, that the transfer function is the same, and that
--- nothing is left to be struck out that contains x. And that the key strikes out what the candidate finds, stated over the promises of two calls.
+-- nothing is left to be struck out that contains x. What the number c is. And that the key strikes out what the candidate finds, stated over the
+-- promises of two calls.
 use mathlib.Core.Path.{_≡_}
 use mathlib.Core.List.{List}
 use lib.ListN.{take}

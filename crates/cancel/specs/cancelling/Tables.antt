@@ -70,15 +70,15 @@ module _ (c : CancelCall) where
   abbrev pub Lent : ℕ → Type 0
   Lent room = RoomFor (length (c .numerator-output)) (length (c .denominator-output)) room
 
-  -- the candidate's output is too short exactly where one of the key's outputs is
-  short-too : (room : ℕ) → Lent room → Passes inputs → room < length (c .skeleton) → TooShort c
-  short-too room (none-lent s) pass l = s
-  short-too room (enough n d) pass l = absurd (let f = few-keys pass in omega arith)
+  -- the candidate's room is too short exactly where one of the key's outputs is
+  output-short : (room : ℕ) → Lent room → Passes inputs → room < length (c .skeleton) → TooShort c
+  output-short room (none-lent s) pass l = s
+  output-short room (enough n d) pass l = absurd (let f = few-keys pass in omega arith)
 
-  long-too : (room : ℕ) → Lent room → Passes inputs → TooShort c → room < length (c .skeleton)
-  long-too room (none-lent t) pass s = some-keys pass
-  long-too room (enough n d) pass (inl l) = absurd (omega arith)
-  long-too room (enough n d) pass (inr l) = absurd (omega arith)
+  room-short : (room : ℕ) → Lent room → Passes inputs → TooShort c → room < length (c .skeleton)
+  room-short room (none-lent t) pass s = some-keys pass
+  room-short room (enough n d) pass (inl l) = absurd (omega arith)
+  room-short room (enough n d) pass (inr l) = absurd (omega arith)
 
   module _ (output : List ℕ) (lent : Lent (length output)) where
     abbrev candidate-rooms : List Line
@@ -88,11 +88,11 @@ module _ (c : CancelCall) where
     refused-too f h = refuses-alike inputs candidate-rooms rooms f rooms-alike h
       where
         rooms-alike : Passes inputs → Refuses candidate-rooms f → Refuses rooms f
-        rooms-alike pass (inl h) = inl (h .0, h .1, (short-too (length output) lent pass (h .2 .0), h .2 .1))
-        rooms-alike pass (inr h) = inr (placed-never (λ s. never-placed (h .0) (long-too (length output) lent pass s)), h .1)
+        rooms-alike pass (inl h) = inl (h .0, h .1, (output-short (length output) lent pass (h .2 .0), h .2 .1))
+        rooms-alike pass (inr h) = inr (placed-never (λ s. never-placed (h .0) (room-short (length output) lent pass s)), h .1)
 
     pub passed-too : Passes (table (divisor-call c output)) → Passes (cancel-table c)
     passed-too h =
         let front = passes-front inputs candidate-rooms h in
         let back = passes-back inputs candidate-rooms h in
-        passes-append inputs rooms front (placed-never (λ s. never-placed (back .0) (long-too (length output) lent front s)), back .1)
+        passes-append inputs rooms front (placed-never (λ s. never-placed (back .0) (room-short (length output) lent front s)), back .1)
