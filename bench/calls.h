@@ -1,4 +1,4 @@
-/* The library's five calls that are measured, by the types that their plain C twins have too. A length is 64 bits wide in the proved module,
+/* The library's six calls that are measured, by the types that their plain C twins have too. A length is 64 bits wide in the proved module,
    also where the module is compiled for a core whose own size_t has 32. */
 #ifndef CALLS_H
 #define CALLS_H
@@ -23,10 +23,16 @@ typedef void write_call(uint16_t modulus, const uint32_t *first, length first_te
 
 typedef void shorter_call(const uint32_t *first, length first_terms, const uint32_t *second, length second_terms, length part[2]);
 
+typedef void cancel_call(uint16_t modulus, const uint32_t *numerator, length numerator_terms, const uint32_t *denominator, length denominator_terms,
+                         const uint16_t *skeleton, length keys, const uint16_t *points, length numbers,
+                         uint32_t *numerator_out, length numerator_room, uint32_t *denominator_out, length denominator_room,
+                         uint16_t *work, length work_numbers, length record[8]);
+
 candidate_call balungkiro_candidate;
 quotient_call balungkiro_quotient;
 image_call balungkiro_image;
 write_call balungkiro_write;
 shorter_call balungkiro_shorter_part;
+cancel_call balungkiro_cancel;
 
 #endif

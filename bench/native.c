@@ -13,14 +13,14 @@
 enum { KEYS = 4096, WORK_ROOM = 8192, MOST_BYTES = 2884, BUFFER = MOST_BYTES + 16, PAINT = 0x5a, ROUNDS = 101 };
 
 /* What a round of calls uses. */
-static uint32_t out[KEYS];
+static uint32_t out[KEYS], denominator_out[KEYS];
 static uint16_t work[WORK_ROOM];
 static uint16_t coefficients[8];
 static uint8_t buffer[BUFFER];
-static length record[7];
+static length record[8];
 static const workload *now;
 static nmod_mpoly_ctx_t ring;
-static nmod_mpoly_t first, second, divisor, found;
+static nmod_mpoly_t first, second, divisor, found, first_over, second_over;
 
 static void fail(const char *what) {
     fprintf(stderr, "bench: %s: %s\n", now->name, what);
@@ -35,6 +35,7 @@ static void fail(const char *what) {
 #define WRITE(f) f(now->modulus, now->first, now->first_terms, now->second, now->second_terms, now->skeleton, now->keys, now->points, now->numbers, buffer, BUFFER, record)
 /* A part is two numbers without a fault; they stand behind the number, which stays 0. */
 #define SHORTER(f) f(now->first, now->first_terms, now->second, now->second_terms, record + 1)
+#define CANCEL(f) f(now->modulus, now->first, now->first_terms, now->second, now->second_terms, now->skeleton, now->keys, now->points, now->numbers, out, KEYS, denominator_out, KEYS, work, WORK_ROOM, record)
 
 static void library_candidate(void) { CANDIDATE(balungkiro_candidate); }
 static void twin_of_candidate(void) { CANDIDATE(twin_candidate); }
@@ -65,6 +66,13 @@ static void twin_of_write(void) { WRITE(twin_write); }
 static void library_shorter(void) { SHORTER(balungkiro_shorter_part); }
 static void twin_of_shorter(void) { SHORTER(twin_shorter_part); }
 
+static void library_cancel(void) { CANCEL(balungkiro_cancel); }
+static void twin_of_cancel(void) { CANCEL(twin_cancel); }
+static void flint_cofactors(void) {
+    if (!nmod_mpoly_gcd_cofactors(found, first_over, second_over, first, second, ring))
+        fail("FLINT gives no cofactors");
+}
+
 /* Agreement. */
 
 static void to_flint(nmod_mpoly_t f, const uint32_t *terms, length n) {
@@ -86,28 +94,31 @@ static void same_terms(const uint32_t *a, length n, nmod_mpoly_t f) {
 
 static void forget(void) {
     memset(out, 0, sizeof out);
+    memset(denominator_out, 0, sizeof denominator_out);
     memset(buffer, PAINT, sizeof buffer);
     memset(record, 0, sizeof record);
 }
 
-/* Calls the library, then the twin: the same record, the same numbers in the output, the same bytes in the whole buffer. */
+/* Calls the library, then the twin: the same record, the same numbers in both outputs, the same bytes in the whole buffer. */
 static void same(void (*library)(void), void (*twin)(void), const char *what) {
-    static uint32_t library_out[KEYS];
+    static uint32_t library_out[KEYS], library_denominator[KEYS];
     static uint8_t library_buffer[BUFFER];
     uint16_t library_coefficients[8];
-    length library_record[7];
+    length library_record[8];
     forget();
     library();
     if (record[0] != 0)
         fail("refused");
     memcpy(library_out, out, sizeof out);
+    memcpy(library_denominator, denominator_out, sizeof denominator_out);
     memcpy(library_coefficients, coefficients, sizeof coefficients);
     memcpy(library_buffer, buffer, sizeof buffer);
     memcpy(library_record, record, sizeof record);
     forget();
     twin();
-    if (memcmp(library_out, out, sizeof out) || memcmp(library_coefficients, coefficients, sizeof coefficients) ||
-        memcmp(library_buffer, buffer, sizeof buffer) || memcmp(library_record, record, sizeof record))
+    if (memcmp(library_out, out, sizeof out) || memcmp(library_denominator, denominator_out, sizeof denominator_out) ||
+        memcmp(library_coefficients, coefficients, sizeof coefficients) || memcmp(library_buffer, buffer, sizeof buffer) ||
+        memcmp(library_record, record, sizeof record))
         fail(what);
 }
 
@@ -123,6 +134,17 @@ static void agree_on_algebra(void) {
     same(library_image, twin_of_image, "image: the twin's answer is not the library's");
 }
 
+/* FLINT's cofactors have to be the key's, by one constant such that the second is monic. */
+static void agree_on_key(void) {
+    same(library_cancel, twin_of_cancel, "cancel: the twin's answer is not the library's");
+    flint_cofactors();
+    ulong inverse = n_invmod(nmod_mpoly_get_term_coeff_ui(second_over, 0, ring), now->modulus);
+    nmod_mpoly_scalar_mul_ui(first_over, first_over, inverse, ring);
+    nmod_mpoly_scalar_mul_ui(second_over, second_over, inverse, ring);
+    same_terms(out, record[6], first_over);
+    same_terms(denominator_out, record[7], second_over);
+}
+
 static void agree_on_lists(void) {
     same(library_write, twin_of_write, "write: the twin's answer is not the library's");
     same(library_shorter, twin_of_shorter, "shorter part: the twin's answer is not the library's");
@@ -136,6 +158,7 @@ static const service algebra[] = {
     {"candidate", {library_candidate, twin_of_candidate, flint_gcd}},
     {"two divisions", {library_divisions, twin_divisions, flint_divisions}},
     {"image", {library_image, twin_of_image, NULL}},
+    {"cancel", {library_cancel, twin_of_cancel, flint_cofactors}},
 };
 
 static const service lists[] = {
@@ -201,12 +224,14 @@ static void into_ring(void) {
     nmod_mpoly_init(second, ring);
     nmod_mpoly_init(divisor, ring);
     nmod_mpoly_init(found, ring);
+    nmod_mpoly_init(first_over, ring);
+    nmod_mpoly_init(second_over, ring);
     to_flint(first, now->first, now->first_terms);
     to_flint(second, now->second, now->second_terms);
     to_flint(divisor, now->divisor, now->divisor_terms);
 }
 
-/* The candidate, the divisions and the image only where the divisor is known; the file and the shorter part always. */
+/* The candidate, the divisions, the image and the key only where the divisor is known; the file and the shorter part always. */
 int main(void) {
     printf("| Workload  | Call          |   Library |    C twin |     FLINT | To twin  |  To FLINT |\n");
     printf("|-----------|---------------|-----------|-----------|-----------|----------|-----------|\n");
@@ -216,6 +241,7 @@ int main(void) {
         if (known) {
             into_ring();
             agree_on_algebra();
+            agree_on_key();
         }
         agree_on_lists();
         for (size_t s = 0; known && s < sizeof algebra / sizeof algebra[0]; s++)

@@ -1,6 +1,6 @@
-/* The rule of the candidate, the quotient, the image, the writer and the shorter leading part in plain C: the library's algorithms on the library's data (the work room, the
-   table of 64 rows, eight numbers for an image), with what C would have where the proved text has values: the table and its rows stand in one
-   place and are changed there. It is what the library's cost is held against; nothing else uses it. */
+/* The rule of the candidate, the quotient, the image, the writer, the shorter leading part and the Cancel key in plain C: the library's algorithms on
+   the library's data (the work room, the table of 64 rows, eight numbers for an image), with what C would have where the proved text has values: the
+   table and its rows stand in one place and are changed there. It is what the library's cost is held against; nothing else uses it. */
 #include <stdbool.h>
 #include <stddef.h>
 
@@ -464,6 +464,30 @@ void twin_candidate(uint16_t p, const uint32_t *first, length n, const uint32_t 
             next++;
         }
     record[0] = verdict(&t, p, first, n, second, m, skeleton, keys, out, work, &record[6]);
+}
+
+/* Each coefficient times the factor. */
+static void scale(uint16_t p, uint16_t factor, uint32_t *terms, size_t n) {
+    for (size_t i = 0; i < n; i++)
+        terms[i] = (uint32_t)key_of(terms[i]) << 16 | times(p, coefficient_of(terms[i]), factor);
+}
+
+/* Without room for its divisor the candidate refuses with 10, which is where a short output of the key stands. */
+void twin_cancel(uint16_t p, const uint32_t *numerator, length n, const uint32_t *denominator, length m, const uint16_t *skeleton, length keys,
+                 const uint16_t *points, length numbers, uint32_t *numerator_out, length numerator_room, uint32_t *denominator_out,
+                 length denominator_room, uint16_t *work, length work_numbers, length record[8]) {
+    uint32_t divisor[MOST_KEYS];
+    length quotient[3], room = numerator_room < KEYS || denominator_room < KEYS ? 0 : MOST_KEYS;
+    twin_candidate(p, numerator, n, denominator, m, skeleton, keys, points, numbers, divisor, room, work, work_numbers, record);
+    size_t terms = record[6];
+    record[7] = 0;
+    if (record[0])
+        return;
+    scale(p, coefficient_of(denominator[0]), divisor, terms);
+    twin_quotient(p, numerator, n, divisor, terms, numerator_out, numerator_room, work, work_numbers, quotient);
+    record[6] = quotient[2];
+    twin_quotient(p, denominator, m, divisor, terms, denominator_out, denominator_room, work, work_numbers, quotient);
+    record[7] = quotient[2];
 }
 
 /* How many terms have the highest power of x. */

@@ -1,4 +1,4 @@
-/* A workload: the inputs of a candidate call with its number, what is divided by what, and the point where the image is taken. */
+/* A workload: the inputs of a candidate call, which are the Cancel key's too, with its number; what is divided by what; and the point where the image is taken. */
 #ifndef WORKLOADS_H
 #define WORKLOADS_H
 

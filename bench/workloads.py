@@ -1,11 +1,12 @@
 #!/usr/bin/env python3
 """Writes the workloads of bench/run and bench/handheld as C arrays on standard output.
 
-Each of the first five is a candidate call whose divisor is known. The first is P10, the second has one point, where the first input loses its degree
-in x and the second keeps it; of the others the divisor is planted: the inputs are its products with two random polynomials, the skeleton is its
-monomials and the points are random. A seed fixes them. The divisor, made monic, is what library, twin and FLINT must all give. The quotient is the
-first input over it, the image is at the last point. What is written is the file of the candidate's lists. The sixth is the dearest call of each of
-the four kinds that is known; the shorter leading part is that of the two inputs.
+Each of the first six is a candidate call whose divisor is known. The first is P10, the second has one point, where the first input loses its degree
+in x and the second keeps it; of the others the divisor is planted: the inputs are its products with two polynomials, the skeleton is its monomials
+and the points are random. A seed fixes them. The divisor, made monic, is what library, twin and FLINT must all give. The quotient is the first input
+over it, the image is at the last point. What is written is the file of the candidate's lists. The sixth is the dearest candidate that is known, and
+so the dearest call of the Cancel key, which is given what the candidate is. The seventh is the dearest call of each of the other kinds, and a
+candidate that is refused late; the shorter leading part is that of the two inputs.
 """
 
 import random
@@ -62,8 +63,13 @@ def multiple(rng, p, g):
     """The multiple of g, a list of numbers, that is x^7 and terms below g's degree; and g = 1 gives eight terms."""
     if len(g) == 1:
         return [rng.randrange(1, p) for _ in range(8)]
-    rest = remainder([0] * 7 + [1], g, p)
-    return [-c % p for c in rest] + [0] * (7 - len(rest)) + [1]
+    return whole([0] * 7 + [1], g, p)
+
+
+def whole(f, g, p):
+    """f less its remainder by g, both lists of numbers."""
+    rest = remainder(f, g, p)
+    return [(a - b) % p for a, b in zip(f, rest + [0] * len(f))]
 
 
 def box(p, factors):
@@ -114,8 +120,34 @@ def long_candidate(rng, p, sizes, points):
     return first, second, g
 
 
+def long_multiple(rng, p, core, factors, beginnings):
+    """The core times five powers of x and a multiple of each factor: what it begins as, and a constant. So it has few terms, and a dense quotient."""
+    multiples = [whole(f, g, p) for f, g in zip(beginnings, factors)]
+    return multiply(core, box(p, [[rng.randrange(1, p) for _ in range(5)], *multiples]), p)
+
+
+def long():
+    """32 keys, 32 kept points, and inputs of 256 terms with quotients of 1,080 and 900.
+
+    The divisor is the core, x^3 + q (y-b) x^2 + r (z-c) x + s (w-d), times (y+b)(z+c)(w+d). The core times any other factor without x has y, z or w
+    where the divisor has 1 and the square alone, so the equations have one solution. The multiples differ so that no more divides both inputs.
+    """
+    rng = random.Random(7)
+    p = MODULUS
+    factors = [[rng.randrange(1, p), 1] for _ in range(3)]
+    core = {key(3, 0, 0, 0): 1}
+    for low, place, (b, _) in zip((1024, 512, 0), (64, 8, 1), factors):
+        q = rng.randrange(1, p)
+        core |= {low + place: q, low: -q * b % p}
+    five, six, both = [0] * 5 + [1], [0] * 6 + [1], [0] * 5 + [rng.randrange(1, p), 1]
+    first = long_multiple(rng, p, core, factors, (six, both, six))
+    second = long_multiple(rng, p, core, factors, (both, six, five))
+    assert len(first) == len(second) == 256, "not the longest inputs"
+    return accepted("long", p, first, second, multiply(core, box(p, ([1], *factors)), p), random_points(rng, p, 32))
+
+
 def worst():
-    """The dearest calls that are known: 32 keys and 32 kept points; a quotient of 625 steps with 256 terms each; an image of degree 0; and the
+    """A candidate with 32 keys and 32 kept points that is refused late; a quotient of 625 steps with 256 terms each; an image of degree 0; and the
     fullest file."""
     rng = random.Random(4)
     p, points = MODULUS, random_points(rng, MODULUS, 32)
@@ -155,6 +187,7 @@ def main():
         planted("classroom", 1, 6, 7, 6),
         planted("full", 2, 16, 15, 16),
         planted("wide", 6, 32, 7, 32),
+        long(),
         worst(),
     ]
     print("/* Made by bench/workloads.py. */")

@@ -2,14 +2,15 @@
  * A line is a service and its arguments, decimal; a list is its length and its numbers; a room that is lent is its length alone.
  *
  *   candidate MODULUS FIRST SECOND SKELETON POINTS OUTPUT WORK      quotient MODULUS FIRST SECOND OUTPUT WORK
+ *   cancel MODULUS NUMERATOR DENOMINATOR SKELETON POINTS NUMERATOR_OUTPUT DENOMINATOR_OUTPUT WORK
  *   image MODULUS FIRST SECOND POINT                                list TERMS, lists FIRST SECOND
  *   sum MODULUS VALUE MODULUS VALUE (difference, product)           inverse MODULUS VALUE
  *   write MODULUS FIRST SECOND SKELETON POINTS BUFFER               copy BYTES BUFFER
  *
- * The answer is the record; behind '|' the terms, and how many numbers of the output behind them, of the work room's first 8192 and of the rest
- * of the work room are as before the call, and how many of the work room are 0; or the eight coefficients; or the length of the leading part, of
- * two lists the shorter one's and which list it is the head of; or all bytes of the buffer. A copy is a case file read, and what was handed back
- * written: its answer is both records, then the buffer.
+ * The answer is the record; behind '|' the terms, of the key those of the numerator and behind a second '|' those of the denominator, and how many
+ * numbers of each output behind its terms, of the work room's first 8192 and of the rest of the work room are as before the call, and how many of
+ * the work room are 0; or the eight coefficients; or the length of the leading part, of two lists the shorter one's and which list it is the head
+ * of; or all bytes of the buffer. A copy is a case file read, and what was handed back written: its answer is both records, then the buffer.
  * Each number of a room is MARK before the call. A line that is not such a call is answered by 'not a call'. */
 #include "balungkiro.h"
 
@@ -22,7 +23,7 @@ enum { MOST_TERMS = 300, MOST_KEYS = 40, MOST_NUMBERS = 120, MOST_OUTPUT = 4200,
 
 static const char *rest;
 static int wrong;
-static uint32_t first[MOST_TERMS], second[MOST_TERMS], out[MOST_OUTPUT];
+static uint32_t first[MOST_TERMS], second[MOST_TERMS], out[MOST_OUTPUT], denominator_out[MOST_OUTPUT];
 static uint16_t skeleton[MOST_KEYS], points[MOST_NUMBERS], work[MOST_WORK];
 static uint8_t file[BALUNGKIRO_FILE], buffer[MOST_BUFFER];
 
@@ -72,16 +73,22 @@ static size_t lend_buffer(void)
     return number(MOST_BUFFER);
 }
 
-/* The lengths of the two rooms, and MARK in every number of them. */
-static void lend_rooms(size_t *output_count, size_t *work_count)
+/* The length of an output, and MARK in every number of it. */
+static size_t lend_output(uint32_t *output)
 {
     size_t i;
-    *output_count = number(MOST_OUTPUT);
-    *work_count = number(MOST_WORK);
     for (i = 0; i < MOST_OUTPUT; i++)
-        out[i] = MARK;
+        output[i] = MARK;
+    return number(MOST_OUTPUT);
+}
+
+/* The length of the work room, and MARK in every number of it. */
+static size_t lend_work(void)
+{
+    size_t i;
     for (i = 0; i < MOST_WORK; i++)
         work[i] = MARK;
+    return number(MOST_WORK);
 }
 
 /* Nothing is asked of the library where the line is not a call. */
@@ -103,19 +110,38 @@ static void print_record(const size_t *record, size_t count)
         printf(i == 0 ? "%zu" : " %zu", record[i]);
 }
 
-static void print_rooms(size_t count, size_t output_count, size_t work_count)
+static void print_terms(const uint32_t *output, size_t count)
 {
-    size_t i, output_left = 0, used_left = 0, work_left = 0, zeros = 0;
+    size_t i;
     printf(" |");
     for (i = 0; i < count; i++)
-        printf(" %lu", (unsigned long)out[i]);
+        printf(" %lu", (unsigned long)output[i]);
+}
+
+/* How many numbers of an output behind its terms are as before the call. */
+static size_t output_left(const uint32_t *output, size_t count, size_t output_count)
+{
+    size_t i, left = 0;
     for (i = count; i < output_count; i++)
-        output_left += out[i] == MARK;
+        left += output[i] == MARK;
+    return left;
+}
+
+static void print_work(size_t work_count)
+{
+    size_t i, used_left = 0, work_left = 0, zeros = 0;
     for (i = 0; i < work_count; i++) {
         *(i < BALUNGKIRO_WORK ? &used_left : &work_left) += work[i] == MARK;
         zeros += work[i] == 0;
     }
-    printf(" | %zu %zu %zu %zu\n", output_left, used_left, work_left, zeros);
+    printf(" %zu %zu %zu\n", used_left, work_left, zeros);
+}
+
+static void print_rooms(size_t count, size_t output_count, size_t work_count)
+{
+    print_terms(out, count);
+    printf(" | %zu", output_left(out, count, output_count));
+    print_work(work_count);
 }
 
 static void print_buffer(size_t count)
@@ -131,8 +157,7 @@ static void ask_candidate(void)
 {
     uint16_t p = small();
     size_t a = terms(first), b = terms(second), keys = numbers(skeleton, MOST_KEYS), n = numbers(points, MOST_NUMBERS);
-    size_t output_count, work_count, record[7];
-    lend_rooms(&output_count, &work_count);
+    size_t output_count = lend_output(out), work_count = lend_work(), record[7];
     if (!is_call())
         return;
     balungkiro_candidate(p, first, a, second, b, skeleton, keys, points, n, out, output_count, work, work_count, record);
@@ -140,11 +165,26 @@ static void ask_candidate(void)
     print_rooms(record[6], output_count, work_count);
 }
 
+static void ask_cancel(void)
+{
+    uint16_t p = small();
+    size_t a = terms(first), b = terms(second), keys = numbers(skeleton, MOST_KEYS), n = numbers(points, MOST_NUMBERS);
+    size_t numerator_count = lend_output(out), denominator_count = lend_output(denominator_out), work_count = lend_work(), record[8];
+    if (!is_call())
+        return;
+    balungkiro_cancel(p, first, a, second, b, skeleton, keys, points, n, out, numerator_count, denominator_out, denominator_count,
+                      work, work_count, record);
+    print_record(record, 8);
+    print_terms(out, record[6]);
+    print_terms(denominator_out, record[7]);
+    printf(" | %zu %zu", output_left(out, record[6], numerator_count), output_left(denominator_out, record[7], denominator_count));
+    print_work(work_count);
+}
+
 static void ask_quotient(void)
 {
     uint16_t p = small();
-    size_t a = terms(first), b = terms(second), output_count, work_count, record[3];
-    lend_rooms(&output_count, &work_count);
+    size_t a = terms(first), b = terms(second), output_count = lend_output(out), work_count = lend_work(), record[3];
     if (!is_call())
         return;
     balungkiro_quotient(p, first, a, second, b, out, output_count, work, work_count, record);
@@ -252,6 +292,8 @@ static void answer(const char *line)
     wrong = 0;
     if (asks(line, "candidate"))
         ask_candidate();
+    else if (asks(line, "cancel"))
+        ask_cancel();
     else if (asks(line, "quotient"))
         ask_quotient();
     else if (asks(line, "image"))

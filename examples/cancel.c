@@ -1,32 +1,43 @@
-/* Reads a case file from standard input and prints its common divisor, as the program `candidate` does:
- * number, place, d, bad, unlucky, kept; then, if accepted, a line for each term: coefficient, then the exponents of x, y, z, w. */
+/* The Cancel key. Reads a case file, its first list the numerator and its second the denominator, from standard input and prints the reduced
+ * transfer function: number, place, d, bad, unlucky, kept, count of terms of the numerator, count of terms of the denominator. Then, if accepted,
+ * the numerator over the denominator: a line for each term (coefficient, then the exponents of x, y, z, w), with the line '-----' between the two.
+ * A reader's refusal is number, place and six zeros. */
 #include "balungkiro.h"
 
 #include <stdio.h>
 
 /* What is lent: static, so that it is not on the stack. */
 static uint8_t file[BALUNGKIRO_FILE];
-static uint32_t first[BALUNGKIRO_TERMS], second[BALUNGKIRO_TERMS], out[BALUNGKIRO_KEYS];
+static uint32_t numerator[BALUNGKIRO_TERMS], denominator[BALUNGKIRO_TERMS];
+static uint32_t numerator_out[BALUNGKIRO_QUOTIENT], denominator_out[BALUNGKIRO_QUOTIENT];
 static uint16_t skeleton[BALUNGKIRO_KEYS], points[BALUNGKIRO_POINT_NUMBERS], work[BALUNGKIRO_WORK];
 
-static void print_term(uint32_t term)
+static void print_terms(const uint32_t *terms, size_t count)
 {
-    unsigned key = term >> 16, coefficient = term & 0xffff;
-    printf("%u %u %u %u %u\n", coefficient, key >> 9, key >> 6 & 7, key >> 3 & 7, key & 7);
+    size_t i;
+    for (i = 0; i < count; i++) {
+        unsigned key = terms[i] >> 16, coefficient = terms[i] & 0xffff;
+        printf("%u %u %u %u %u\n", coefficient, key >> 9, key >> 6 & 7, key >> 3 & 7, key & 7);
+    }
 }
 
 int main(void)
 {
-    size_t read[7], found[7], i;
-    balungkiro_read(file, fread(file, 1, sizeof file, stdin), first, second, skeleton, points, read);
+    size_t read[7], found[8], i;
+    balungkiro_read(file, fread(file, 1, sizeof file, stdin), numerator, denominator, skeleton, points, read);
     if (read[0] != 0) {
-        printf("%zu %zu 0 0 0 0\n", read[0], read[1]);
+        printf("%zu %zu 0 0 0 0 0 0\n", read[0], read[1]);
         return 0;
     }
-    balungkiro_candidate((uint16_t)read[2], first, read[3], second, read[4], skeleton, read[5], points, read[6],
-                         out, BALUNGKIRO_KEYS, work, BALUNGKIRO_WORK, found);
-    printf("%zu %zu %zu %zu %zu %zu\n", found[0], found[1], found[2], found[3], found[4], found[5]);
-    for (i = 0; i < found[6]; i++)
-        print_term(out[i]);
+    balungkiro_cancel((uint16_t)read[2], numerator, read[3], denominator, read[4], skeleton, read[5], points, read[6],
+                      numerator_out, BALUNGKIRO_QUOTIENT, denominator_out, BALUNGKIRO_QUOTIENT, work, BALUNGKIRO_WORK, found);
+    for (i = 0; i < 8; i++)
+        printf(i == 0 ? "%zu" : " %zu", found[i]);
+    printf("\n");
+    if (found[0] != 0)
+        return 0;
+    print_terms(numerator_out, found[6]);
+    printf("-----\n");
+    print_terms(denominator_out, found[7]);
     return 0;
 }

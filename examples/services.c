@@ -1,5 +1,6 @@
 /* Asks each service of the library where it answers and where it refuses, and prints the records with what is left in the buffers.
- * A = x^2 y - y and B = x + 1 modulo 17: A over B is xy - y. At y = 0 A is 0, and the x-leading coefficient of C = x^2 y + 5x + 5 is. */
+ * A = x^2 y - y and B = x + 1 modulo 17: A over B is xy - y. At y = 0 A is 0, and the x-leading coefficient of C = x^2 y + 5x + 5 is.
+ * D = 3x^2 + 6x + 3 is 3B^2: with B struck out, A over D is 6xy - 6y over x + 1. */
 #include "balungkiro.h"
 
 #include <stdio.h>
@@ -13,6 +14,7 @@ enum { X = 512, Y = 64, P = 17 };
 static const uint32_t A[] = { TERM(2 * X + Y, 1), TERM(Y, 16) };
 static const uint32_t B[] = { TERM(X, 1), TERM(0, 1) };
 static const uint32_t C[] = { TERM(2 * X + Y, 1), TERM(X, 5), TERM(0, 5) };
+static const uint32_t D[] = { TERM(2 * X, 3), TERM(X, 6), TERM(0, 3) };
 
 static void print_record(const char *call, const size_t *record, size_t count)
 {
@@ -67,6 +69,40 @@ static void candidate(const char *call, size_t room)
                          out, room, work, COUNT(work), record);
     print_record(call, record, COUNT(record));
     printf("  output %lu %lu\n", (unsigned long)out[0], (unsigned long)out[1]);
+}
+
+/* The terms of an output of the Cancel key, and how many of its numbers behind them are 9. */
+static void print_output(const char *name, const uint32_t *out, size_t terms, size_t count)
+{
+    size_t i, left = 0;
+    printf("  %s", name);
+    for (i = 0; i < terms; i++)
+        printf(" %lu", (unsigned long)out[i]);
+    for (i = terms; i < count; i++)
+        left += out[i] == 9;
+    printf(" | %zu left\n", left);
+}
+
+/* The Cancel key on A over D, with the powers of x from a degree down to 1 as skeleton and the points y = 0, 1, or the first of them. The numbers of
+ * the outputs and of the work room are 9 before the call, and each has one number more than is used. */
+static void cancel(const char *call, size_t degree, size_t point_count, size_t numerator_room, size_t denominator_room)
+{
+    static const uint16_t powers[] = { 2 * X, X, 0 }, points[] = { 0, 0, 0, 1, 0, 0 };
+    static uint32_t numerator[BALUNGKIRO_QUOTIENT + 1], denominator[BALUNGKIRO_QUOTIENT + 1];
+    static uint16_t work[BALUNGKIRO_WORK + 1];
+    size_t record[8], i, nonzero = 0;
+    for (i = 0; i < COUNT(numerator); i++)
+        numerator[i] = denominator[i] = 9;
+    for (i = 0; i < COUNT(work); i++)
+        work[i] = 9;
+    balungkiro_cancel(P, A, COUNT(A), D, COUNT(D), powers + 2 - degree, degree + 1, points, 3 * point_count,
+                      numerator, numerator_room, denominator, denominator_room, work, COUNT(work), record);
+    print_record(call, record, COUNT(record));
+    print_output("numerator", numerator, record[6], COUNT(numerator));
+    print_output("denominator", denominator, record[7], COUNT(denominator));
+    for (i = 0; i < COUNT(work); i++)
+        nonzero += work[i] != 0;
+    printf("  %zu not 0 in the work room\n", nonzero);
 }
 
 static void list(const char *call, const uint32_t *terms, size_t count)
@@ -174,6 +210,10 @@ int main(void)
     quotient("A over no list", A, COUNT(A), B, 0, BALUNGKIRO_WORK);
     candidate("candidate of A and B", 2);
     candidate("candidate in a short output", 1);
+    cancel("cancel of A over D", 1, 2, BALUNGKIRO_QUOTIENT + 1, BALUNGKIRO_QUOTIENT);
+    cancel("cancel at y=0 alone, where x^2 + 2x + 1 divides D but not A", 2, 1, BALUNGKIRO_QUOTIENT, BALUNGKIRO_QUOTIENT + 1);
+    cancel("cancel in a short output for the numerator", 1, 2, BALUNGKIRO_QUOTIENT - 1, BALUNGKIRO_QUOTIENT);
+    cancel("cancel in a short output for the denominator", 1, 2, BALUNGKIRO_QUOTIENT, BALUNGKIRO_QUOTIENT - 1);
     leading_parts();
     arithmetic(17, 5, 17, 9);
     arithmetic(65521, 65520, 65521, 65520);

@@ -52,7 +52,7 @@ enum {
     BALUNGKIRO_KEYS = 32,            /* the most keys of a skeleton */
     BALUNGKIRO_POINT_NUMBERS = 96,   /* the most numbers of points */
     BALUNGKIRO_COEFFICIENTS = 8,     /* of an image, x^0 to x^7 */
-    BALUNGKIRO_QUOTIENT = 4096,      /* the terms that a quotient's output has room for */
+    BALUNGKIRO_QUOTIENT = 4096,      /* the terms that a quotient's output, and each output of the Cancel key, has room for */
     BALUNGKIRO_WORK = 8192,          /* the numbers of the work room */
     BALUNGKIRO_FILE = 4096,          /* no byte of a case file after these changes what is read */
     BALUNGKIRO_MOST_BYTES = 2884     /* the bytes of the fullest case file: no file that is written is longer */
@@ -82,6 +82,26 @@ void balungkiro_quotient(uint16_t modulus,
                          uint32_t *out, size_t out_count,
                          uint16_t *work, size_t work_count,
                          size_t record[3]);
+
+/* The Cancel key: numerator N and denominator D without their common divisor G that balungkiro_candidate finds. It gives N' and D' with N = G N' c
+ * and D = G D' c for one number c, and D' has the leading coefficient 1; G has too, so c is the leading coefficient of D.
+ * On acceptance no common divisor of N and D has a higher degree in x than G, which is struck out; N D' = D N'; and N' and D' have no common
+ * divisor that contains x.
+ * Record: number, place, d, bad, unlucky, kept, as balungkiro_candidate gives them to N as its first list and D as its second; then the count of
+ * terms of N', then that of D'.
+ * Numbers 1 to 15. With 1 to 11 the last six are 0; with 12 bad is the number of points and the rest 0; with 13 to 15 both counts of terms are 0.
+ * numerator_out and denominator_out, each at least 4096 (10, where either is shorter): acceptance writes N' first in the one and D' first in the
+ * other and leaves the rest of both; a refusal leaves both unchanged.
+ * work, at least 8192 (11): as in balungkiro_candidate. */
+void balungkiro_cancel(uint16_t modulus,
+                       const uint32_t *numerator, size_t numerator_count,
+                       const uint32_t *denominator, size_t denominator_count,
+                       const uint16_t *skeleton, size_t skeleton_count,
+                       const uint16_t *points, size_t points_count,
+                       uint32_t *numerator_out, size_t numerator_out_count,
+                       uint32_t *denominator_out, size_t denominator_out_count,
+                       uint16_t *work, size_t work_count,
+                       size_t record[8]);
 
 /* The image at one point: the monic greatest common divisor of first and second there, as polynomials in x; where one of them is 0, the other
  * made monic.

@@ -1,11 +1,12 @@
-"""The bench examples P1 to P12 of docs/RULE.md, with the answers it gives, and those of points where one of the two values loses its degree."""
+"""The bench examples P1 to P12 of docs/RULE.md, with the answers it gives, those of points where one of the two values loses its degree,
+and the transfer function of a filter."""
 
 from typing import NamedTuple
 
 from case_file import Case
 from polynomials import add, key, multiply, term_list
 
-X, Y, ONE = key(1, 0, 0, 0), key(0, 1, 0, 0), key(0, 0, 0, 0)
+X, Y, Z, W, ONE = key(1, 0, 0, 0), key(0, 1, 0, 0), key(0, 0, 1, 0), key(0, 0, 0, 1), key(0, 0, 0, 0)
 X3 = 3 * X
 
 
@@ -19,6 +20,10 @@ class Example(NamedTuple):
 
 def _example(name, first, second, ys, skeleton, answer, p=17):
     points = [number for y in ys for number in (y, 0, 0)]
+    return _at_points(name, first, second, points, skeleton, answer, p)
+
+
+def _at_points(name, first, second, points, skeleton, answer, p):
     case = Case(p, term_list(first), term_list(second), skeleton, points)
     return Example(name, case, "".join(line + "\n" for line in answer))
 
@@ -28,16 +33,16 @@ def _swapped(example):
     return Example(f"{example.name}_swapped", example.case.swapped(), example.answer)
 
 
-def _sum(*terms):
-    """A polynomial modulo 17 from pairs of coefficient and key."""
+def _sum(*terms, p=17):
+    """A polynomial from pairs of coefficient and key."""
     total = {}
     for coefficient, monomial in terms:
-        total = add(total, {monomial: coefficient}, 17)
+        total = add(total, {monomial: coefficient}, p)
     return total
 
 
-def _product(left, right):
-    return multiply(left, right, 17)
+def _product(left, right, p=17):
+    return multiply(left, right, p)
 
 
 X_MINUS_Y = _sum((1, X), (-1, Y))
@@ -61,6 +66,15 @@ TEACHER = _example("teacher", TEACHER_FIRST, TEACHER_SECOND, [0], [X, ONE],
 ZERO_VALUE = _example("zero_value", _product(X_PLUS_1, {Y: 1}), TEACHER_SECOND, [0, 1], [X, ONE],
                       ["0 0 1 0 1 1", "1 1 0 0 0", "1 0 0 0 0"])
 
+# The twin-T notch filter with a follower, modulo 65521: x is s, y the resistor, z the capacitor, w the part of the output that is fed back, and
+# u = xyz. Cramer's rule on its three nodes has 2(u+1)(u^2+1) over 2(u+1)(u^2+4(1-w)u+1). At y=0 no x is left; at w=1 the two are equal.
+FILTER_P, U = 65521, X + Y + Z
+FILTER_SHARED = _sum((2, U), (2, ONE), p=FILTER_P)
+FILTER_FIRST = _product(FILTER_SHARED, _sum((1, 2 * U), (1, ONE), p=FILTER_P), FILTER_P)
+FILTER_SECOND = _product(FILTER_SHARED, _sum((1, 2 * U), (4, U), (-4, U + W), (1, ONE), p=FILTER_P), FILTER_P)
+FILTER = _at_points("filter", FILTER_FIRST, FILTER_SECOND, [0, 3, 5, 2, 3, 1, 2, 3, 5, 7, 4, 9, 10, 6, 2], [U, X + Y, X + Z, ONE],
+                    ["0 0 1 1 1 3", "1 1 1 1 0", "1 0 0 0 0"], FILTER_P)
+
 EXAMPLES = [
     _example("p1", _sum((1, 2 * X), (-1, ONE)), _sum((1, 2 * X), (2, X), (1, ONE)), [0], [X, ONE],
              ["0 0 1 0 0 1", "1 1 0 0 0", "1 0 0 0 0"]),
@@ -78,7 +92,7 @@ EXAMPLES = [
              ["0 0 3 1 1 2", "1 3 1 0 0", "16 3 0 0 0", "15 0 1 0 0"]),
     _example("p11", {X: 1, Y: 1}, {X: 1, Y: 1}, [1], [X, 7 * Y], ["15 0 1 0 0 1"], p=7),
     _example("p12", {Y: 3}, {Y: 3}, [2], [Y], ["0 0 0 0 0 1", "1 0 1 0 0"]),
-    TEACHER, _swapped(TEACHER), ZERO_VALUE, _swapped(ZERO_VALUE),
+    TEACHER, _swapped(TEACHER), ZERO_VALUE, _swapped(ZERO_VALUE), FILTER,
 ]
 
 

@@ -11,10 +11,11 @@ import bench
 import case_file
 import cases
 import damage
+import plans
 from arithmetic import arithmetic, leading_length, list_check, lists_check
-from candidate import candidate, image_at, quotient_terms
+from candidate import cancel, candidate, image_at, quotient_terms
 from polynomials import POWERS, key, term_list
-from refusals import COEFFICIENTS, KEYS, MODULI, QUOTIENT_TERMS, WORK_NUMBERS, Refusal
+from refusals import COEFFICIENTS, KEYS, MODULI, MOST_TERMS, QUOTIENT_TERMS, WORK_NUMBERS, Refusal
 
 NUMBERS = (*range(0, 18), *range(20, 28))
 X, ONE = key(1, 0, 0, 0), key(0, 0, 0, 0)
@@ -22,22 +23,33 @@ X_POWER, Y_POWER = X * COEFFICIENTS, key(0, 1, 0, 0) * COEFFICIENTS
 OPERATIONS = ("sum", "difference", "product")
 MARK = b"\x09"  # each byte of a buffer before the call
 MOST_READ = 4096  # no byte of a case file after these changes what is read
+KEY_ROOMS = (QUOTIENT_TERMS, QUOTIENT_TERMS, WORK_NUMBERS)  # what the Cancel key needs: two outputs and the work room
 
 
-# What the picker of the shorter leading part meets, and calls whose lists are swapped; each must occur.
+# What the picker of the shorter leading part and the Cancel key meet, and calls whose lists are swapped; each must occur.
 TIE, FIRST_SHORTER, SECOND_SHORTER = "picker: a tie", "picker: the first is shorter", "picker: the second is shorter"
 REFUSED = tuple(f"picker: refused with {number}" for number in range(2, 6))
 SWAPPED = "calls with their lists swapped"
-KINDS = (TIE, FIRST_SHORTER, SECOND_SHORTER, *REFUSED, SWAPPED)
+KEY_REFUSED = tuple(f"key: refused with {number}" for number in range(1, 16))
+KEY_SHORT = {  # whether the numerator's output is short, and whether the denominator's is
+    (True, False): "key: the numerator's output alone is short",
+    (False, True): "key: the denominator's output alone is short",
+    (True, True): "key: both outputs are short",
+}
+KEY_MONIC, KEY_SCALED = "key: accepted, c is 1", "key: accepted, c is not 1"
+KEY_LONGER = tuple(f"key: accepted, the {room} is longer than needed" for room in ("numerator's output", "denominator's output", "work room"))
+KEY_MANY = tuple(f"key: accepted, {name} has more than {MOST_TERMS} terms" for name in ("N'", "D'"))
+KEY_KINDS = (*KEY_REFUSED, *KEY_SHORT.values(), KEY_MONIC, KEY_SCALED, *KEY_LONGER, *KEY_MANY)
+KINDS = (TIE, FIRST_SHORTER, SECOND_SHORTER, *REFUSED, SWAPPED, *KEY_KINDS)
 
 
 class Call(NamedTuple):
-    """A label, the line, the line that answers it, and for some calls their kind."""
+    """A label, the line, the line that answers it, and for some calls their kinds."""
 
     label: str
     line: str
     answer: str
-    kind: str = ""
+    kinds: tuple = ()
 
 
 def _line(*parts):
@@ -48,23 +60,46 @@ def _line(*parts):
     return " ".join(map(str, words)) + "\n"
 
 
-def _rooms(number, terms, output_room, work_room):
-    """What is left of the rooms: as lent with 1 to 11, else the first 8192 numbers of the work room are 0."""
+def _rooms(number, work_room, *outputs):
+    """The terms in each output, and what is left of the rooms: of each output, a pair of terms and room, what is behind the terms;
+    the work room as lent with 1 to 11, else its first 8192 numbers are 0."""
     used = min(work_room, WORK_NUMBERS)
     refused = 1 <= number <= 11
-    left = [output_room - len(terms), used if refused else 0, work_room - used, 0 if refused else used]
-    return ["|", *terms, "|", *left]
+    written = [word for terms, _ in outputs for word in ("|", *terms)]
+    left = [room - len(terms) for terms, room in outputs]
+    return [*written, "|", *left, used if refused else 0, work_room - used, 0 if refused else used]
 
 
 def candidate_call(label, case, output_room=32, work_room=WORK_NUMBERS):
     r = candidate(case, output_room, work_room)
-    numbers = [r.number, r.place, r.d, r.bad, r.unlucky, r.kept, len(r.terms)]
     asked = _candidate_line(case, output_room, work_room)
-    return Call(label, asked, _line(*numbers, *_rooms(r.number, r.terms, output_room, work_room)))
+    return Call(label, asked, _line(*r.head(), len(r.terms), *_rooms(r.number, work_room, (r.terms, output_room))))
 
 
 def _candidate_line(case, output_room, work_room):
     return _line("candidate", case.modulus, case.first, case.second, case.skeleton, case.points, output_room, work_room)
+
+
+def cancel_call(label, case, rooms=KEY_ROOMS):
+    answer = cancel(case, *rooms)
+    asked = _line("cancel", case.modulus, case.first, case.second, case.skeleton, case.points, *rooms)
+    numerator_room, denominator_room, work_room = rooms
+    outputs = (answer.numerator, numerator_room), (answer.denominator, denominator_room)
+    told = _line(*answer.numbers(), *_rooms(answer.record.number, work_room, *outputs))
+    return Call(label, asked, told, tuple(_key_kinds(case, answer, rooms)))
+
+
+def _key_kinds(case, answer, rooms):
+    """What a call of the key meets."""
+    number = answer.record.number
+    if number:
+        yield KEY_REFUSED[number - 1]
+    if number == 10:
+        yield KEY_SHORT[tuple(room < QUOTIENT_TERMS for room in rooms[:2])]
+    if number == 0:
+        yield KEY_MONIC if case.second[0] % COEFFICIENTS == 1 else KEY_SCALED
+        yield from (kind for kind, room, needed in zip(KEY_LONGER, rooms, KEY_ROOMS) if room > needed)
+        yield from (kind for kind, terms in zip(KEY_MANY, (answer.numerator, answer.denominator)) if len(terms) > MOST_TERMS)
 
 
 def quotient_call(label, case, output_room=QUOTIENT_TERMS, work_room=WORK_NUMBERS):
@@ -74,7 +109,7 @@ def quotient_call(label, case, output_room=QUOTIENT_TERMS, work_room=WORK_NUMBER
     except Refusal as refusal:
         number, place = refusal.number, refusal.place
     asked = _line("quotient", case.modulus, case.first, case.second, output_room, work_room)
-    return Call(label, asked, _line(number, place, len(terms), *_rooms(number, terms, output_room, work_room)))
+    return Call(label, asked, _line(number, place, len(terms), *_rooms(number, work_room, (terms, output_room))))
 
 
 def image_call(label, case, point):
@@ -95,7 +130,7 @@ def _both_ways(call, asked, case, *rest):
     """The call, and where both lists pass the checks 1 to 5 its line with these swapped: the same answer is wanted."""
     yield call
     if int(call.answer.split()[0]) not in range(1, 6):
-        yield Call(f"{call.label}, lists swapped", asked(case.swapped(), *rest), call.answer, SWAPPED)
+        yield Call(f"{call.label}, lists swapped", asked(case.swapped(), *rest), call.answer, (SWAPPED,))
 
 
 def list_call(label, terms):
@@ -106,7 +141,7 @@ def list_call(label, terms):
 def lists_call(label, first, second):
     number, place, length, which = lists_check(first, second)
     kind = REFUSED[number - 2] if number else _picked(leading_length(first), leading_length(second))
-    return Call(label, _line("lists", first, second), _line(number, place, "|", length, which), kind)
+    return Call(label, _line("lists", first, second), _line(number, place, "|", length, which), (kind,))
 
 
 def _picked(first_length, second_length):
@@ -172,6 +207,7 @@ def run_only():
     yield quotient_call("x^2-1 by x+1", by_x_plus_1)
     yield quotient_call("x^2-1 by x^2+2x+1", p1)
     yield quotient_call("F by E", replace(p1, first=bench.case("p9").first, second=term_list(bench.E)))
+    yield from cancelled()
     yield from imaged()
     yield from calculated()
     yield list_call("leading part of F", bench.case("p9").first)
@@ -179,6 +215,35 @@ def run_only():
     yield list_call("leading part, no terms", [])
     yield from picked()
     yield from written()
+
+
+def cancelled():
+    """The Cancel key: what it strikes out, each of its refusals, and its rooms at their limits."""
+    notch, no_good_point, one_value = bench.case("filter"), bench.case("p2"), bench.case("zero_value")
+    only_second_divided = replace(one_value, skeleton=[2 * X, X, ONE], points=[0, 0, 0])
+    changed = {
+        **{name: bench.case(name) for name in ("filter", "p1", "p2", "p3", "p4", "p5", "p6", "p7", "p8", "p10", "p12")},
+        "filter upside down": notch.swapped(), "many terms": many_terms(), "many terms upside down": many_terms().swapped(),
+        "G divides the denominator alone": only_second_divided, "G divides the numerator alone": only_second_divided.swapped(),
+        "modulus 15": replace(notch, modulus=15), "no numerator": replace(notch, first=[]), "no denominator": replace(notch, second=[]),
+        "numerator coefficient 0": replace(notch, first=[X_POWER + 1, 0]), "denominator keys equal": replace(notch, second=[1, 1]),
+        "33 keys": replace(notch, skeleton=falling(33)), "key 4096": replace(notch, skeleton=[4096]),
+        "95 point numbers": replace(notch, points=[0] * 95), "point number 65521": replace(notch, points=[0, 0, 65521]),
+    }
+    for label, case in changed.items():
+        yield cancel_call(f"cancel, {label}", case)
+    for rooms in ((4095, 4096, 8192), (4096, 4095, 8192), (4095, 4095, 8192), (4095, 4096, 8191), (4096, 4096, 8191), (0, 4096, 8192),
+                  (4096, 0, 8192), (4096, 4096, 0), (4097, 4096, 8192), (4096, 4097, 8192), (4096, 4096, 8193)):
+        yield cancel_call("cancel, rooms {} {} {}".format(*rooms), notch, rooms)
+    yield cancel_call("cancel, point number 65521, short output", changed["point number 65521"], (4095, 4095, 8192))
+    yield cancel_call("cancel, no good point, short output", no_good_point, (4096, 4095, 8192))
+    yield cancel_call("cancel, no good point, short work room", no_good_point, (4096, 4096, 8191))
+
+
+def many_terms():
+    """128 monomials without x, times x^7 - 1 over 3x - 3: the numerator without x - 1 has 896 terms."""
+    numerator = [7 * X_POWER + k * COEFFICIENTS + 1 for k in reversed(range(128))] + [k * COEFFICIENTS + 16 for k in reversed(range(128))]
+    return case_file.Case(17, numerator, [X_POWER + 3, 14], [X, ONE], [1, 0, 0])
 
 
 def imaged():
@@ -296,6 +361,15 @@ def _seeded_candidate(rng):
     yield from _both_ways(candidate_call(name, case, *rooms), _candidate_line, case, *rooms)
 
 
+def _seeded_cancel(rng):
+    """A case, or one with long quotients, either way up; the rooms as needed or longer, in some calls one or two of them short."""
+    name, case = ("long quotients", plans.long_quotients(rng).case()) if rng.random() < 0.05 else _case(rng)
+    rooms = [needed + rng.choice((0, rng.randint(1, 100))) for needed in KEY_ROOMS]
+    for place in rng.sample(range(len(rooms)), rng.choice((0, 0, 0, 0, 1, 2))):
+        rooms[place] = rng.choice((KEY_ROOMS[place] - 1, rng.randrange(KEY_ROOMS[place])))
+    yield cancel_call(f"cancel, {name}", rng.choice((case, case.swapped())), rooms)
+
+
 def _seeded_quotient(rng):
     name, case = _case(rng)
     yield quotient_call(name, case, rng.choice((QUOTIENT_TERMS, 4200, QUOTIENT_TERMS - 1, 0)), _work(rng))
@@ -362,8 +436,8 @@ def _seeded_write(rng):
     yield write_call("write", case, rng.choice((needed, needed + rng.randint(1, 100), needed - 1, rng.randrange(needed), 0)))
 
 
-MAKERS = (_seeded_candidate, _seeded_candidate, _seeded_quotient, _seeded_image, _seeded_list, _seeded_lists, _seeded_arithmetic,
-          _seeded_inverse, _seeded_write)
+MAKERS = (_seeded_candidate, _seeded_candidate, _seeded_cancel, _seeded_cancel, _seeded_quotient, _seeded_image, _seeded_list,
+          _seeded_lists, _seeded_arithmetic, _seeded_inverse, _seeded_write)
 
 
 # Seeded files, whole and damaged, each into a buffer longer than the file.

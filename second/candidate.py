@@ -1,7 +1,7 @@
 #!/usr/bin/env python3
-"""The rule of the candidate, and what the programs print for a case file.
+"""The rule of the candidate and the Cancel key, and what the programs print for a case file.
 
-Run as a program it takes the name of a program (candidate, quotient, image,
+Run as a program it takes the name of a program (candidate, cancel, quotient, image,
 records, answers), reads standard input and prints what that program should print.
 """
 
@@ -10,12 +10,14 @@ from dataclasses import dataclass, field
 
 import case_file
 from polynomials import (
-    POWERS, exponents, image, monic, monomials_at, polynomial, quotient, term_list,
+    POWERS, exponents, image, monic, monomials_at, multiply, polynomial, quotient, term_list,
 )
 from refusals import (
     COEFFICIENTS, MOST_SKELETON_KEYS, QUOTIENT_TERMS, WORK_NUMBERS, Refusal,
     check_modulus_and_lists, check_point_numbers, check_rooms, check_skeleton,
 )
+
+FRACTION_BAR = "-----\n"
 
 
 @dataclass
@@ -30,41 +32,103 @@ class Record:
     kept: int = 0
     terms: list = field(default_factory=list)
 
+    def head(self):
+        return self.number, self.place, self.d, self.bad, self.unlucky, self.kept
+
+
+@dataclass
+class Cancelled:
+    """The Cancel key's answer: the candidate's record, and the terms of N' and D'."""
+
+    record: Record
+    numerator: list = field(default_factory=list)
+    denominator: list = field(default_factory=list)
+
+    def numbers(self):
+        """The key's own record: both counts of terms in place of one."""
+        return *self.record.head(), len(self.numerator), len(self.denominator)
+
 
 def candidate(case, output_room=MOST_SKELETON_KEYS, work_room=WORK_NUMBERS):
     """The candidate's record for a case whose values are not yet tested."""
     try:
-        check_modulus_and_lists(case.modulus, case.first, case.second)
-        check_skeleton(case.skeleton)
-        check_point_numbers(case.points, case.modulus)
+        _check_inputs(case)
         check_rooms(output_room, len(case.skeleton), work_room)
     except Refusal as refusal:
         return Record(refusal.number, refusal.place)
     return _candidate_by_rule(case)
 
 
+def _check_inputs(case):
+    """The tests 1 to 9, which candidate and Cancel key share."""
+    check_modulus_and_lists(case.modulus, case.first, case.second)
+    check_skeleton(case.skeleton)
+    check_point_numbers(case.points, case.modulus)
+
+
 def _candidate_by_rule(case):
+    record, divisor = _by_equations(case)
+    if divisor is None:
+        return record
+    if divides_both(divisor, polynomial(case.first), polynomial(case.second), case.modulus):
+        record.terms = term_list(divisor)
+    else:
+        record.number = 15
+    return record
+
+
+def _by_equations(case):
+    """The record and the divisor that the equations fix, not yet tried; or 12 to 14 and None."""
     p = case.modulus
     first, second = polynomial(case.first), polynomial(case.second)
     points = point_triples(case)
     images = [(point, image(first, second, point, p)) for point in points]
     good = [(point, u) for point, u in images if u is not None]
     if not good:
-        return Record(12, bad=len(points))
+        return Record(12, bad=len(points)), None
     d = min(len(u) - 1 for _, u in good)
     kept = kept_images(good, d)
     record = Record(0, 0, d, len(points) - len(good), len(good) - len(kept), len(kept))
     try:
         unknowns = len(case.skeleton) + len(kept) - 1
         solution = only_solution(equations(case.skeleton, kept, p), unknowns, p)
-        divisor = monic({k: c for k, c in zip(case.skeleton, solution) if c}, p)
-        if not divides_both(divisor, first, second, p):
-            raise Refusal(15)
     except Refusal as refusal:
         record.number = refusal.number
-        return record
-    record.terms = term_list(divisor)
-    return record
+        return record, None
+    return record, monic({k: c for k, c in zip(case.skeleton, solution) if c}, p)
+
+
+def cancel(case, numerator_room=QUOTIENT_TERMS, denominator_room=QUOTIENT_TERMS, work_room=WORK_NUMBERS):
+    """The Cancel key's answer for a case: its first list is the numerator, its second the denominator."""
+    try:
+        _check_inputs(case)
+        check_rooms(least_output(numerator_room, denominator_room), QUOTIENT_TERMS, work_room)
+    except Refusal as refusal:
+        return Cancelled(Record(refusal.number, refusal.place))
+    record, divisor = _by_equations(case)
+    if divisor is None:
+        return Cancelled(record)
+    quotients = [quotient(polynomial(terms), divisor, case.modulus) for terms in (case.first, case.second)]
+    return handed_out(record, *quotients, case.modulus)
+
+
+def least_output(numerator_room, denominator_room):
+    """The shorter of the two outputs, which has to be long enough."""
+    return min(numerator_room, denominator_room)
+
+
+def handed_out(record, numerator, denominator, p):
+    """Both quotients by the divisor, scaled; or 15 where the divisor does not divide one of the two."""
+    if numerator is None or denominator is None:
+        record.number = 15
+        return Cancelled(record)
+    return Cancelled(record, *map(term_list, scaled(numerator, denominator, p)))
+
+
+def scaled(numerator, denominator, p):
+    """Both times the number that makes the denominator monic."""
+    factor = {0: pow(denominator[max(denominator)], -1, p)}
+    return multiply(numerator, factor, p), multiply(denominator, factor, p)
 
 
 def point_triples(case):
@@ -158,8 +222,19 @@ def candidate_text(data):
         record = candidate(case_file.read(data))
     except Refusal as refusal:
         record = Record(refusal.number, refusal.place)
-    head = (record.number, record.place, record.d, record.bad, record.unlucky, record.kept)
-    return _line(*head) + _term_lines(record.terms)
+    return _line(*record.head()) + _term_lines(record.terms)
+
+
+def cancel_text(data):
+    """What the program `cancel` prints for a case file: the record, then numerator over denominator."""
+    try:
+        answer = cancel(case_file.read(data))
+    except Refusal as refusal:
+        answer = Cancelled(Record(refusal.number, refusal.place))
+    text = _line(*answer.numbers())
+    if answer.record.number:
+        return text
+    return text + _term_lines(answer.numerator) + FRACTION_BAR + _term_lines(answer.denominator)
 
 
 def quotient_text(data):
@@ -219,6 +294,7 @@ def answers_text(stream):
 
 PROGRAMS = {
     "candidate": candidate_text,
+    "cancel": cancel_text,
     "quotient": quotient_text,
     "image": image_text,
     "records": records_text,

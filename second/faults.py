@@ -1,10 +1,14 @@
-"""Deliberate faults of the second program, to see that a comparison reports them."""
+"""Deliberate faults of the second program, to see that a comparison reports them.
+
+Those of the Cancel key, which no program reaches, are reported with `--calls`.
+"""
 
 import candidate
-from polynomials import at_point, leading_part, monic_gcd
+from polynomials import at_point, leading_part, monic, monic_gcd, term_list
 
 true_equations = candidate.equations
 true_image = candidate.image
+true_handed_out = candidate.handed_out
 
 
 def multipliers_one(skeleton, kept, p):
@@ -42,12 +46,45 @@ def bad_by_first(first, second, point, p):
     return true_image(first, second, point, p)
 
 
+def key_numerator_unscaled(numerator, denominator, p):
+    """D' is made monic, and N' stays as it is."""
+    return numerator, monic(denominator, p)
+
+
+def key_not_monic(numerator, denominator, _p):
+    """N' and D' are the quotients as they are."""
+    return numerator, denominator
+
+
+def key_each_monic(numerator, denominator, p):
+    """N' and D' are made monic, each by a number of its own."""
+    return monic(numerator, p), monic(denominator, p)
+
+
+def key_one_output_tested(numerator_room, _denominator_room):
+    """The denominator's output may have any length."""
+    return numerator_room
+
+
+def key_written_with_15(record, numerator, denominator, p):
+    """Where D alone is divided, D' is handed out beside the refusal."""
+    answer = true_handed_out(record, numerator, denominator, p)
+    if numerator is None and denominator is not None:
+        answer.denominator = term_list(monic(denominator, p))
+    return answer
+
+
 FAULTS = {
     "multipliers-one": ("equations", multipliers_one),
     "divides-only-first": ("divides_both", divides_only_first),
     "unlucky-kept": ("kept_images", unlucky_kept),
     "divides-as-values": ("divides_both", divides_as_values),
     "bad-by-first": ("image", bad_by_first),
+    "key-numerator-unscaled": ("scaled", key_numerator_unscaled),
+    "key-not-monic": ("scaled", key_not_monic),
+    "key-each-monic": ("scaled", key_each_monic),
+    "key-one-output-tested": ("least_output", key_one_output_tested),
+    "key-written-with-15": ("handed_out", key_written_with_15),
 }
 
 

@@ -164,6 +164,16 @@ def powers_over_linear(rng):
     return Plan(p, divisor, cofactor, {0: random_coefficient(rng, p)}, {key(1, 0, 0, 0), 0}, points)
 
 
+def long_quotients(rng):
+    """x^7 - c^7 and x - c, each times a polynomial without x: A over x - c has more terms than a list may have."""
+    p = rng.choice(MODULI)
+    c = rng.randrange(1, p)
+    row = {VARIABLE_KEYS[0] * power: pow(c, 6 - power, p) for power in range(7)}
+    first, second = (random_polynomial(rng, p, count, (0, 7, 7, 7)) for count in (rng.randint(60, 128), rng.randint(1, 20)))
+    divisor = linear(0, c, p)
+    return Plan(p, divisor, multiply(row, first, p), second, set(divisor), random_points(rng, p, rng.randint(1, 4)))
+
+
 def monomial_divisor(rng):
     """B has one term, which divides A."""
     p = rng.choice(MODULI)

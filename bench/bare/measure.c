@@ -6,18 +6,20 @@
 #include "../workloads.h"
 #include "start.h"
 
-enum { KEYS = 4096, WORK_ROOM = 8192, MOST_BYTES = 2884, BUFFER = MOST_BYTES + 16, PAINT = 0x5a, TICK = 40 };
+enum { KEYS = 4096, WORK_ROOM = 8192, MOST_KEYS = 32, MOST_BYTES = 2884, BUFFER = MOST_BYTES + 16, PAINT = 0x5a, TICK = 40 };
 
 /* SysTick: its clock has 25 MHz, so with an instruction for each nanosecond a tick is 40 instructions. */
 #define SYSTICK ((volatile uint32_t *)0xe000e010)
 
 extern uint8_t stack_low[], library_start[], library_end[];
 
-static uint32_t out[KEYS];
+static uint32_t out[KEYS], denominator_out[KEYS];
 static uint16_t work[WORK_ROOM];
 static uint16_t coefficients[8];
 static uint8_t buffer[BUFFER], library_buffer[BUFFER];
-static length record[7];
+static uint32_t found[MOST_KEYS];
+static length found_terms;
+static length record[8];
 static const workload *now;
 
 #define CANDIDATE(f) f(now->modulus, now->first, now->first_terms, now->second, now->second_terms, now->skeleton, now->keys, now->points, now->numbers, out, now->keys, work, WORK_ROOM, record)
@@ -26,6 +28,7 @@ static const workload *now;
 #define WRITE(f) f(now->modulus, now->first, now->first_terms, now->second, now->second_terms, now->skeleton, now->keys, now->points, now->numbers, buffer, BUFFER, record)
 /* A part is two numbers without a fault; they stand behind the number, which stays 0. */
 #define SHORTER(f) f(now->first, now->first_terms, now->second, now->second_terms, record + 1)
+#define CANCEL(f) f(now->modulus, now->first, now->first_terms, now->second, now->second_terms, now->skeleton, now->keys, now->points, now->numbers, out, KEYS, denominator_out, KEYS, work, WORK_ROOM, record)
 
 static void library_candidate(void) { CANDIDATE(balungkiro_candidate); }
 static void twin_of_candidate(void) { CANDIDATE(twin_candidate); }
@@ -37,6 +40,14 @@ static void library_write(void) { WRITE(balungkiro_write); }
 static void twin_of_write(void) { WRITE(twin_write); }
 static void library_shorter(void) { SHORTER(balungkiro_shorter_part); }
 static void twin_of_shorter(void) { SHORTER(twin_shorter_part); }
+static void library_cancel(void) { CANCEL(balungkiro_cancel); }
+static void twin_of_cancel(void) { CANCEL(twin_cancel); }
+
+/* Both inputs over the divisor that the candidate found. */
+#define OVER_FOUND(terms, n) balungkiro_quotient(now->modulus, terms, n, found, found_terms, out, KEYS, work, WORK_ROOM, record)
+
+static void first_over_found(void) { OVER_FOUND(now->first, now->first_terms); }
+static void second_over_found(void) { OVER_FOUND(now->second, now->second_terms); }
 
 static void fail(const char *what) {
     print(now->name);
@@ -80,10 +91,10 @@ __attribute__((noinline)) static cost measured(void (*call)(void)) {
     return (cost){((before - after) & 0xffffff) * TICK, (uint32_t)(here - low)};
 }
 
-/* The bytes that a call is lent beside the stack: both lists, skeleton, points, output, work room and record. Of the buffer only
+/* The bytes that a call is lent beside the stack: both lists, skeleton, points, outputs, work room and record. Of the buffer only
    the file's bytes: how many they are is in the record of the call just made. */
 static uint32_t candidate_room(void) {
-    return (uint32_t)(4 * (now->first_terms + now->second_terms + now->keys) + 2 * (now->keys + now->numbers) + sizeof work + sizeof record);
+    return (uint32_t)(4 * (now->first_terms + now->second_terms + now->keys) + 2 * (now->keys + now->numbers) + sizeof work + 7 * sizeof record[0]);
 }
 static uint32_t quotient_room(void) { return (uint32_t)(4 * (now->dividend_terms + now->divisor_terms) + sizeof out + sizeof work + 3 * sizeof record[0]); }
 static uint32_t image_room(void) { return (uint32_t)(4 * (now->first_terms + now->second_terms) + 6 + sizeof coefficients + 3 * sizeof record[0]); }
@@ -91,6 +102,9 @@ static uint32_t write_room(void) {
     return (uint32_t)(4 * (now->first_terms + now->second_terms) + 2 * (now->keys + now->numbers) + record[2] + 3 * sizeof record[0]);
 }
 static uint32_t shorter_room(void) { return (uint32_t)(4 * (now->first_terms + now->second_terms) + 2 * sizeof record[0]); }
+static uint32_t cancel_room(void) {
+    return (uint32_t)(4 * (now->first_terms + now->second_terms) + 2 * (now->keys + now->numbers) + sizeof out + sizeof denominator_out + sizeof work + sizeof record);
+}
 
 typedef struct { const char *name; void (*library)(void), (*twin)(void); uint32_t (*room)(void); } service;
 
@@ -100,15 +114,19 @@ static const service services[] = {
     {"image", library_image, twin_of_image, image_room},
     {"write", library_write, twin_of_write, write_room},
     {"shorter", library_shorter, twin_of_shorter, shorter_room},
+    {"cancel", library_cancel, twin_of_cancel, cancel_room},
 };
 
-/* What a call leaves behind, as one number: the record, the output, the coefficients and the work room. */
+/* The number that a call has to give: the workload's for the candidate and the key, no other refuses. */
+static length number_of(const service *s) { return s->library == library_candidate || s->library == library_cancel ? now->number : 0; }
+
+/* What a call leaves behind, as one number: the record, both outputs, the coefficients and the work room. */
 static uint32_t left_behind(void) {
     uint32_t sum = 0;
-    for (size_t i = 0; i < 7; i++)
+    for (size_t i = 0; i < 8; i++)
         sum = sum * 31 + (uint32_t)record[i];
     for (size_t i = 0; i < KEYS; i++)
-        sum = sum * 31 + out[i];
+        sum = (sum * 31 + out[i]) * 31 + denominator_out[i];
     for (size_t i = 0; i < 8; i++)
         sum = sum * 31 + coefficients[i];
     for (size_t i = 0; i < WORK_ROOM; i++)
@@ -117,10 +135,10 @@ static uint32_t left_behind(void) {
 }
 
 static void forget(void) {
-    for (size_t i = 0; i < 7; i++)
+    for (size_t i = 0; i < 8; i++)
         record[i] = 0;
     for (size_t i = 0; i < KEYS; i++)
-        out[i] = 0;
+        out[i] = denominator_out[i] = 0;
     for (size_t i = 0; i < 8; i++)
         coefficients[i] = 0;
     for (size_t i = 0; i < BUFFER; i++)
@@ -143,7 +161,7 @@ static bool same_buffer(void) {
 static void report(const service *s) {
     forget();
     cost library = measured(s->library);
-    if (record[0] != (s->library == library_candidate ? now->number : 0))
+    if (record[0] != number_of(s))
         fail(": another number\n");
     uint32_t left = left_behind();
     keep_buffer();
@@ -172,17 +190,55 @@ static void report(const service *s) {
     print(" |\n");
 }
 
+/* What a quotient takes that has as many terms as the key's. */
+static uint32_t quotient_cost(void (*call)(void), length terms) {
+    cost c = measured(call);
+    if (record[0] != 0 || record[2] != terms)
+        fail(": a quotient is not the key's\n");
+    return c.instructions;
+}
+
+/* What the candidate takes, and the quotients of both inputs by what it finds. */
+static uint32_t parts_cost(length numerator_terms, length denominator_terms) {
+    cost candidate = measured(library_candidate);
+    found_terms = record[6];
+    for (size_t i = 0; i < found_terms; i++)
+        found[i] = out[i];
+    return candidate.instructions + quotient_cost(first_over_found, numerator_terms) + quotient_cost(second_over_found, denominator_terms);
+}
+
+static void report_key(void) {
+    forget();
+    cost key = measured(library_cancel);
+    uint32_t parts = parts_cost(record[6], record[7]), ratio = (key.instructions * 100 + parts / 2) / parts;
+    print("| ");
+    print_padded(now->name, 9);
+    print(" | ");
+    print_number(key.instructions, 12);
+    print(" | ");
+    print_number(parts, 27);
+    print(" | ");
+    print_number(ratio / 100, 0);
+    print(".");
+    print_number(ratio / 10 % 10, 0);
+    print_number(ratio % 10, 0);
+    print("  |\n");
+}
+
 int main(void) {
     SYSTICK[1] = 0xffffff;
     SYSTICK[2] = 0;
     SYSTICK[0] = 5;
     print("| Workload  | Call      | Instructions | Seconds  | Stack      | Memory     | Twin's       | Its stack  |\n");
     print("|-----------|-----------|--------------|----------|------------|------------|--------------|------------|\n");
-    for (int i = 0; i < WORKLOADS; i++) {
-        now = &workloads[i];
+    for (now = workloads; now < workloads + WORKLOADS; now++)
         for (size_t s = 0; s < sizeof services / sizeof services[0]; s++)
             report(&services[s]);
-    }
+    print("\n| Workload  | Cancel key   | Candidate and two quotients | Ratio |\n");
+    print("|-----------|--------------|-----------------------------|-------|\n");
+    for (now = workloads; now < workloads + WORKLOADS; now++)
+        if (now->number == 0)
+            report_key();
     print("\nThe library's code: ");
     print_number((uint32_t)(library_end - library_start), 0);
     print(" bytes.\n");

@@ -55,9 +55,13 @@ abbrev pub of-points : ℕ → List ℕ → List Line
 of-points p points =
     line POINTS_COUNT (whole (Count most-point-numbers points ⊎ (¬ (length points % 3 ≡ 0)))) ∷ line POINT_NUMBER (first (WrongNumber p points)) ∷ []
 
--- the refusals of the inputs, tested in this order; of the two rooms only the lengths matter
+-- the refusals of the inputs, tested in this order, and behind them those of the rooms
+abbrev pub of-inputs : ℕ → List ℕ → List ℕ → List ℕ → List ℕ → List Line → List Line
+of-inputs p A B ks points rooms = of-lists p A B ++ (of-skeleton ks ++ (of-points p points ++ rooms))
+
+-- of the two rooms only the lengths matter
 abbrev pub of-call : ℕ → List ℕ → List ℕ → List ℕ → List ℕ → ℕ → ℕ → List Line
-of-call p A B ks points output work = of-lists p A B ++ (of-skeleton ks ++ (of-points p points ++ of-rooms output (length ks) work))
+of-call p A B ks points output work = of-inputs p A B ks points (of-rooms output (length ks) work)
 
 abbrev pub table : Call → List Line
 table c = of-call (c .modulus) (c .first-list) (c .second-list) (c .skeleton) (c .points) (length (c .output)) (length (c .work))
@@ -94,6 +98,10 @@ module _ (c : Call) (listed : Listed (c .modulus)) where
   abbrev pub lent-points : List (Point (Numbers .ring))
   lent-points = points-of (c .modulus) prime (c .points)
 
+  -- what the rule answers to it
+  abbrev pub AnswerTo : CandidateRecord → Polynomial Numbers → Type 0
+  AnswerTo = RuleAnswer Numbers A B monomials lent-points
+
 -- what is answered, and the output and the work room afterwards
 pub record Result : Type 0 where
   pub found : CandidateRecord
@@ -111,8 +119,7 @@ refused-record f = record { fault = f; degree = 0; bad = 0; unlucky = 0; kept = 
 pub data Candidate (c : Call) : Result → Type 0 where
   refused : (f : Fault) → Refuses (table c) f
       → Candidate c (candidate-result (refused-record f) (c .output) (c .work))
-  answered : Passes (table c) → (listed : Listed (c .modulus)) (found : CandidateRecord) (G : Polynomial (Numbers c listed))
-      → RuleAnswer (Numbers c listed) (A c listed) (B c listed) (monomials c listed) (lent-points c listed) found G
+  answered : Passes (table c) → (listed : Listed (c .modulus)) (found : CandidateRecord) (G : Polynomial (Numbers c listed)) → AnswerTo c listed found G
       → Candidate c (candidate-result found (written (numbers-of (c .modulus) (prime c listed) G) (c .output)) (cleared (c .work)))
 
 -- the polynomial that is handed out: the terms first in the output

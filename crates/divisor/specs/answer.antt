@@ -3,3 +3,4 @@ pub mod Laws
 pub mod Assembled
 pub mod Determined
 pub mod CandidateDetermined
+pub mod Accepted

@@ -7,6 +7,7 @@ use Rattle.poly.specs.declared.ImageRecord.{ImageRecord}
 use Rattle.poly.specs.declared.Picked.{Picked}
 use Rattle.poly.specs.QuotientCall.{QuotientResult}
 use Rattle.divisor.specs.Candidate.{Result}
+use Rattle.cancel.specs.CancelCall.{CancelResult}
 use Rattle.case_file.specs.declared.Contents.{Contents}
 use Rattle.case_file.specs.WriteCall.{WriteResult}
 
@@ -43,6 +44,23 @@ of-candidate r =
     record {
       numbers = after-fault (f .fault) (f .degree ∷ f .bad ∷ f .unlucky ∷ f .kept ∷ f .terms ∷ []);
       output = r .output;
+      work = r .work;
+    }
+
+-- what a call with two outputs and a work room leaves
+pub record InThreeRooms : Type 0 where
+  pub numbers : List ℕ
+  pub numerator-output : List ℕ
+  pub denominator-output : List ℕ
+  pub work : List ℕ
+
+abbrev pub of-cancel : CancelResult → InThreeRooms
+of-cancel r =
+    let f = r .found in
+    record {
+      numbers = after-fault (f .fault) (f .degree ∷ f .bad ∷ f .unlucky ∷ f .kept ∷ f .numerator ∷ f .denominator ∷ []);
+      numerator-output = r .numerator-output;
+      denominator-output = r .denominator-output;
       work = r .work;
     }
 

@@ -11,10 +11,11 @@ ghost use Rattle.poly.specs.ShorterPart.{of-two-lists, ShorterHead};
 ghost use Rattle.poly.specs.QuotientCall.{quotient-call, Quotient};
 ghost use Rattle.poly.specs.ImageCall.{image-call, ImageAnswer};
 ghost use Rattle.divisor.specs.Candidate.{candidate-call, Candidate};
+ghost use Rattle.cancel.specs.CancelCall.{cancel-call, Cancel};
 ghost use Rattle.case_file.specs.Reading.{read};
 ghost use Rattle.case_file.specs.Handed.{contents};
 ghost use Rattle.case_file.specs.WriteCall.{write-call, Write};
-ghost use Rattle.handheld.specs.Layout.{Laid, of-fault, of-picked, of-answer, of-quotient, of-image, of-candidate, of-contents, of-write};
+ghost use Rattle.handheld.specs.Layout.{Laid, of-fault, of-picked, of-answer, of-quotient, of-image, of-candidate, of-cancel, of-contents, of-write};
 use case_file::Keys;
 use case_file::PointNumbers;
 use case_file::Terms;
@@ -50,6 +51,50 @@ pub extern "C" fn balungkiro_candidate(
         found.unlucky,
         found.kept,
         found.terms,
+    ];
+}
+
+// Numbers: number, place, d, bad, unlucky, kept, counts of the terms of both results.
+#[no_mangle]
+pub extern "C" fn balungkiro_cancel(
+    modulus: Residue,
+    numerator: &[Term],
+    denominator: &[Term],
+    skeleton: &[KeyBits],
+    points: &[Residue],
+    numerator_out: &mut [Term],
+    denominator_out: &mut [Term],
+    work: &mut [Residue],
+    numbers: &mut [usize; 8],
+)
+    ensures { λ _. ⌜ Laid of-cancel (Cancel (cancel-call modulus (now (numerator .entry)) (now (denominator .entry)) (now (skeleton .entry))
+        (now (points .entry)) (now («numerator_out» .entry)) (now («denominator_out» .entry)) (now (work .entry))))
+        (record {
+          numbers = now (numbers .exit);
+          numerator-output = now («numerator_out» .exit);
+          denominator-output = now («denominator_out» .exit);
+          work = now (work .exit);
+        }) ⌝ }
+{
+    let told = cancel::cancel(
+        modulus,
+        numerator,
+        denominator,
+        skeleton,
+        points,
+        numerator_out,
+        denominator_out,
+        work,
+    );
+    *numbers = [
+        told.fault.number as usize,
+        told.fault.place,
+        told.degree,
+        told.bad,
+        told.unlucky,
+        told.kept,
+        told.numerator,
+        told.denominator,
     ];
 }
 

@@ -8,9 +8,13 @@ use Rattle.field.specs.Refusal.{Line, line, whole}
 abbrev pub work-room : ℕ
 work-room = 8192
 
--- the lines of the two rooms, by their lengths and what the output needs
+-- the lines of the rooms, by when the output is too short and by the length of the work room
+abbrev pub room-lines : Type 0 → ℕ → List Line
+room-lines Short work = line OUTPUT_SHORT (whole Short) ∷ line WORK_SHORT (whole (work < work-room)) ∷ []
+
+-- of two rooms, by their lengths and what the output needs
 abbrev pub of-rooms : ℕ → ℕ → ℕ → List Line
-of-rooms output needed work = line OUTPUT_SHORT (whole (output < needed)) ∷ line WORK_SHORT (whole (work < work-room)) ∷ []
+of-rooms output needed work = room-lines (output < needed) work
 
 -- n numbers that are 0, and the rest left
 unfoldable pub zeroed : ℕ → List ℕ → List ℕ

@@ -1,13 +1,16 @@
--- A row of the proved table: what is asked, and the record and the terms that are to be found. Beside the rows, quotients, files, picked
--- parts, images and products. What it means that each holds.
+-- A row of the proved table: what is asked, and the record and the terms that are to be found. Beside the rows, quotients, cancelled
+-- fractions, files, picked parts, images and products. What it means that each holds.
 use mathlib.Core.Path.{_≡_}
+use mathlib.Core.Logic.{_⊎_, _↔_}
 use mathlib.Core.Bool.{true, false}
 use mathlib.Core.List.{List, [], _∷_}
-use Prim.Native.Nat.{ℕ, _≤_}
+use Prim.Native.Nat.{ℕ, _≤_, _<_}
 use lib.Dec.{eqb}
 use lib.ListN.{length}
 use denote.Ref.{RefT}
 use Rattle.algebra.specs.SeriesRing.{S4}
+use Rattle.field.specs.Numbers.{OUTPUT_SHORT}
+use Rattle.field.specs.Refusal.{fault}
 use Rattle.field.specs.Prime.{Prime}
 use Rattle.field.specs.Modulo.{Modulo}
 use Rattle.poly.specs.declared.ImageRecord.{ImageRecord}
@@ -20,7 +23,9 @@ use Rattle.poly.specs.QuotientCall.{QuotientCall, quotient-call, QuotientResult
 use Rattle.field.specs.Lent.{written}
 use Rattle.poly.specs.Room.{work-room, cleared}
 use Rattle.divisor.specs.declared.CandidateRecord.{CandidateRecord}
-use Rattle.divisor.specs.Candidate.{Call, Result, Candidate}
+use Rattle.divisor.specs.Candidate.{Call, Result, refused-record, Candidate}
+use Rattle.cancel.specs.declared.CancelRecord.{CancelRecord}
+use Rattle.cancel.specs.CancelCall.{CancelCall, cancel-call, CancelResult, cancel-result, with-both, Cancel}
 use Rattle.case_file.specs.declared.Contents.{Contents}
 use Rattle.case_file.specs.Reading.{read}
 use Rattle.case_file.specs.Handed.{contents}
@@ -79,6 +84,41 @@ quotient-result-of r output work = quotient-result (r .found) (written (r .terms
 abbrev pub QuotientHolds : QuotientRow → Type 0
 QuotientHolds r = (output work : List ℕ) → keys ≤ length output → work-room ≤ length work
     → Quotient (quotient-call-of r output work) (quotient-result-of r output work)
+
+-- A row of the Cancel key: the candidate's row with the same inputs, whose two lists are N and D and whose terms are G; the number c; and the record and
+-- the terms of N' and D' that are to be found. With a refusal c is of no account.
+pub record CancelRow : Type 0 where
+  pub divisor : Row
+  pub factor : ℕ
+  pub found : CancelRecord
+  pub numerator : List ℕ
+  pub denominator : List ℕ
+
+-- the key's call with the inputs of a candidate's row, two outputs and a work room
+abbrev pub cancel-call-of : Row → List ℕ → List ℕ → List ℕ → CancelCall
+cancel-call-of r numerator denominator work =
+    cancel-call (r .modulus) (r .first-list) (r .second-list) (r .skeleton) (r .points) numerator denominator work
+
+abbrev pub cancel-result-of : CancelRow → List ℕ → List ℕ → List ℕ → CancelResult
+cancel-result-of r numerator denominator work =
+    cancel-result (r .found) (written (r .numerator) numerator) (written (r .denominator) denominator) (cleared work)
+
+-- in every two outputs and work room that are long enough that is what the key brings about
+abbrev pub Cancels : CancelRow → Type 0
+Cancels r = (numerator denominator work : List ℕ) → keys ≤ length numerator → keys ≤ length denominator → work-room ≤ length work
+    → Cancel (cancel-call-of (r .divisor) numerator denominator work) (cancel-result-of r numerator denominator work)
+
+-- and nothing else: every result that meets the contract of the row's call is the row's
+abbrev pub CancelDetermined : CancelRow → Type 0
+CancelDetermined r = (numerator denominator work : List ℕ) → keys ≤ length numerator → keys ≤ length denominator → work-room ≤ length work
+    → (q : CancelResult) → Cancel (cancel-call-of (r .divisor) numerator denominator work) q → q ≡ cancel-result-of r numerator denominator work
+
+-- Where an output is under 4,096, whichever it is and whatever the work room, exactly one result meets the contract: 10, with nothing changed that is
+-- lent.
+abbrev pub ShortRefused : CancelRow → Type 0
+ShortRefused r = (numerator denominator work : List ℕ) → (length numerator < keys) ⊎ (length denominator < keys) → (q : CancelResult)
+    → Cancel (cancel-call-of (r .divisor) numerator denominator work) q
+    ↔ (q ≡ cancel-result (with-both (refused-record (fault OUTPUT_SHORT 0)) 0 0) numerator denominator work)
 
 -- a file, and what the reader hands back
 pub record FileRow : Type 0 where

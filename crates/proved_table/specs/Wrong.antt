@@ -18,7 +18,10 @@ use Rattle.divisor.specs.Candidate.{candidate-result, Candidate}
 use Rattle.case_file.specs.declared.Contents.{Contents}
 use Rattle.case_file.specs.Reading.{read}
 use Rattle.case_file.specs.Handed.{contents}
-use Rattle.proved_table.specs.Row.{Row, call, QuotientRow, quotient-call-of, ImageRow, FileRow, WriteRow, Writes, PickRow, Sliced}
+use Rattle.cancel.specs.declared.CancelRecord.{CancelRecord}
+use Rattle.cancel.specs.CancelCall.{cancel-result, Cancel}
+use Rattle.proved_table.specs.Row.{Row, call, QuotientRow, quotient-call-of, CancelRow, cancel-call-of}
+use Rattle.proved_table.specs.Row.{ImageRow, FileRow, WriteRow, Writes, PickRow, Sliced}
 
 -- The record that is answered, the terms that are written first in the output, and whether the work room is cleared or left as lent.
 -- A lent room may already hold what is right. So it is said with what the output and the work room begin; [] says nothing of them.
@@ -48,6 +51,23 @@ abbrev pub QuotientRefuted : Wrong QuotientRow QuotientRecord → Type 0
 QuotientRefuted w = (output work : List ℕ) → keys ≤ length output → work-room ≤ length work
     → Begins (w .output-begins) output → Begins (w .work-begins) work
     → ¬ Quotient (quotient-call-of (w .row) output work) (quotient-result (w .found) (written (w .terms) output) (work-left (w .clears) work))
+
+-- The same of the Cancel key, which has two outputs: the terms that are written first in each, and with what each begins.
+pub record WrongCancel : Type 0 where
+  pub row : CancelRow
+  pub numerator-begins : List ℕ
+  pub denominator-begins : List ℕ
+  pub work-begins : List ℕ
+  pub found : CancelRecord
+  pub numerator : List ℕ
+  pub denominator : List ℕ
+  pub clears : Bool
+
+abbrev pub CancelRefuted : WrongCancel → Type 0
+CancelRefuted w = (numerator denominator work : List ℕ) → keys ≤ length numerator → keys ≤ length denominator → work-room ≤ length work
+    → Begins (w .numerator-begins) numerator → Begins (w .denominator-begins) denominator → Begins (w .work-begins) work
+    → ¬ Cancel (cancel-call-of (w .row .divisor) numerator denominator work)
+    (cancel-result (w .found) (written (w .numerator) numerator) (written (w .denominator) denominator) (work-left (w .clears) work))
 
 -- where nothing is lent to be changed, a wrong result is a wrong record
 pub record WrongRecord (R F : Type 0) : Type 0 where

@@ -6,6 +6,8 @@ pub mod TermDivision
 pub mod TermDivisionLaws
 pub mod Rows
 pub mod RowsLaws
+pub mod Cancels
+pub mod CancelsLaws
 pub mod Writes
 pub mod WritesLaws
 pub mod WrongLaws

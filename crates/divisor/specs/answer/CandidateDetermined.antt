@@ -1,9 +1,11 @@
 -- The promise of the candidate call settles the record, the output and the work room: two results that meet it are equal.
 use mathlib.Core.Path.{_≡_, subst}
-use mathlib.Core.List.{_++_}
+use mathlib.Core.List.{List, _++_}
+use Prim.Native.Nat.{ℕ}
 use lib.ListN.{length}
 use Rattle.field.specs.Moduli.{Listed}
 use Rattle.field.specs.modulus.Laws.{listed-unique}
+use Rattle.field.specs.Refusal.{Line}
 use Rattle.field.specs.faults.Laws.{OnePlaceEach, whole-one-place, first-one-place, one-place-append, refuses-determined, not-passes-and-refuses}
 use Rattle.poly.specs.Terms.{Polynomial, numbers-of}
 use Rattle.poly.specs.Lists.{of-lists}
@@ -11,20 +13,20 @@ use Rattle.field.specs.Lent.{written}
 use Rattle.poly.specs.Room.{of-rooms, cleared}
 use Rattle.poly.specs.list.Check.{lists-one-place}
 use Rattle.divisor.specs.declared.CandidateRecord.{CandidateRecord}
-use Rattle.divisor.specs.Rule.{RuleAnswer}
-use Rattle.divisor.specs.Candidate.{Call, table, prime, Numbers, A, B, monomials, lent-points, refused-record, Result, Candidate, refused}
-use Rattle.divisor.specs.Candidate.{answered, of-skeleton, of-points}
+use Rattle.divisor.specs.Candidate.{Call, table, prime, Numbers, A, B, monomials, lent-points, AnswerTo, refused-record, Result, Candidate}
+use Rattle.divisor.specs.Candidate.{refused, answered, of-skeleton, of-points, of-inputs}
 use Rattle.divisor.specs.answer.Determined.{answer-determined}
+
+-- each line of the inputs has one place
+pub inputs-one-place : (p : ℕ) (A B ks points : List ℕ) (rooms : List Line) → OnePlaceEach rooms → OnePlaceEach (of-inputs p A B ks points rooms)
+inputs-one-place p A B ks points rooms h =
+    one-place-append (of-lists p A B) (of-skeleton ks ++ (of-points p points ++ rooms)) (lists-one-place p A B)
+    (whole-one-place _, (first-one-place _, (whole-one-place _, (first-one-place _, h))))
 
 table-one-place : (c : Call) → OnePlaceEach (table c)
 table-one-place c =
-    one-place-append (of-lists (c .modulus) (c .first-list) (c .second-list))
-    (of-skeleton (c .skeleton) ++ (of-points (c .modulus) (c .points) ++ of-rooms (length (c .output)) (length (c .skeleton)) (length (c .work))))
-    (lists-one-place (c .modulus) (c .first-list) (c .second-list))
-    (whole-one-place _, (first-one-place _, (whole-one-place _, (first-one-place _, (whole-one-place _, (whole-one-place _, tt))))))
-
-abbrev pub answer-of : (c : Call) (listed : Listed (c .modulus)) → CandidateRecord → Polynomial (Numbers c listed) → Type 0
-answer-of c listed = RuleAnswer (Numbers c listed) (A c listed) (B c listed) (monomials c listed) (lent-points c listed)
+    inputs-one-place (c .modulus) (c .first-list) (c .second-list) (c .skeleton) (c .points)
+    (of-rooms (length (c .output)) (length (c .skeleton)) (length (c .work))) (whole-one-place _, (whole-one-place _, tt))
 
 abbrev pub result-of : (c : Call) (listed : Listed (c .modulus)) → CandidateRecord → Polynomial (Numbers c listed) → Result
 result-of c listed f G =
@@ -33,9 +35,9 @@ result-of c listed f G =
 -- the evidence that the modulus is listed does not matter
 answered-determined : (c : Call) (listed listed′ : Listed (c .modulus)) (f g : CandidateRecord) (G : Polynomial (Numbers c listed))
     (H : Polynomial (Numbers c listed′))
-    → answer-of c listed f G → answer-of c listed′ g H → result-of c listed f G ≡ result-of c listed′ g H
+    → AnswerTo c listed f G → AnswerTo c listed′ g H → result-of c listed f G ≡ result-of c listed′ g H
 answered-determined c listed listed′ f g G H x y =
-    (subst (λ (l : Listed (c .modulus)). (H : Polynomial (Numbers c l)) → answer-of c l g H → result-of c listed f G ≡ result-of c l g H)
+    (subst (λ (l : Listed (c .modulus)). (H : Polynomial (Numbers c l)) → AnswerTo c l g H → result-of c listed f G ≡ result-of c l g H)
     (listed-unique _ listed listed′)
     (λ H y.
     let e = answer-determined (Numbers c listed) (A c listed) (B c listed) (monomials c listed) (lent-points c listed) f g G H x y in

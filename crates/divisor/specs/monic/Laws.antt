@@ -20,7 +20,7 @@ use Rattle.algebra.specs.Laws.Monomial.{monomial-mul, monomial-zero, monomial-f
 use Rattle.poly.specs.Terms.{Polynomial}
 use Rattle.poly.specs.Divides.{Divides}
 use Rattle.divisor.specs.Rule.{without-zeros, divided-by, made-monic}
-use Rattle.divisor.specs.Demands.{MadeMonic, constant}
+use Rattle.divisor.specs.Demands.{LeadsWith, MadeMonic, constant}
 use Rattle.divisor.specs.monic.Value.{zero-dropped, nonzero-kept, NonZero, without-zeros-nonzero}
 
 module _ (K : Field) where
@@ -29,7 +29,7 @@ module _ (K : Field) where
 
   infixl 70 _*_
   -- the number 1 is the polynomial 1
-  constant-one : constant K 𝟙 ≡ S4 R .𝟙
+  pub constant-one : constant K 𝟙 ≡ S4 R .𝟙
   unfolding monomial
   constant-one =
       ap (λ (u : SeriesR (SeriesR (SeriesR R)) .Car). mono (SeriesR (SeriesR (SeriesR R))) zero u)
@@ -38,7 +38,7 @@ module _ (K : Field) where
       ∙ mono-zero-one (SeriesR (SeriesR (SeriesR R)))
 
   -- a number goes into the coefficient
-  monomial-times : (e : Exponents) (u i : Car) → S4 R .mul (monomial R e u) (constant K i) ≡ monomial R e (u * i)
+  pub monomial-times : (e : Exponents) (u i : Car) → S4 R .mul (monomial R e u) (constant K i) ≡ monomial R e (u * i)
   monomial-times e u i = monomial-mul R e _ u i
       ∙ ap (λ (f : Exponents). monomial R f (u * i)) (exponents-path (add-zero (e .x)) (add-zero (e .y)) (add-zero (e .z)) (add-zero (e .w)))
 
@@ -122,11 +122,15 @@ module _ (K : Field) where
   divided-monomials c [] = refl
   divided-monomials c (t ∷ ts) = ap (t .exponents ∷_) (divided-monomials c ts)
 
+  pub monic-leads : (t : Term R) (ts : Polynomial K) → ¬ (t .coefficient ≡ 𝟘) → LeadsWith K 𝟙 (made-monic K (t ∷ ts))
+  unfolding made-monic divided-by
+  monic-leads t ts n = K .mul-inv (t .coefficient) n
+
   nonzero-made-monic : (f : Polynomial K) → NonZero K f → ¬ (polynomial R f ≡ S4 R .𝟘) → MadeMonic K (polynomial R f) (made-monic K f)
   unfolding made-monic
   nonzero-made-monic [] h n = absurd (n (unfold polynomial in refl))
   nonzero-made-monic (t ∷ ts) h n = record {
-    leading = (unfold divided-by in K .mul-inv (t .coefficient) (h .0));
+    leading = monic-leads t ts (h .0);
     factor = t .coefficient;
     multiple =
         ap (λ (u : S4 R .Car). S4 R .mul u (constant K (t .coefficient))) (polynomial-divided (t .coefficient) (t ∷ ts))

@@ -8,12 +8,12 @@ use native.Mathlib.Omega.{arith}
 use lib.ListN.{length}
 use Rattle.algebra.specs.Ring.{CommRing}
 use Rattle.algebra.specs.Field.{Field}
-use Rattle.algebra.specs.Laws.Field.{inv-nonzero, no-zero-divisors}
+use Rattle.algebra.specs.Laws.Field.{inv-nonzero}
 use Rattle.field.specs.Prime.{Prime}
 use Rattle.field.specs.modulus.Prime.{prime-positive}
 use Rattle.field.specs.Fp.{Fp, el, inv}
 use Rattle.field.specs.elements.Fp.{el-nonzero, el-val, val-lt}
-use Rattle.field.specs.elements.Link.{product-el}
+use Rattle.field.specs.elements.Link.{product-positive}
 use Rattle.field.specs.Modulo.{Modulo}
 use Rattle.poly.specs.Keys.{exponents, keys}
 use Rattle.poly.specs.Terms.{Polynomial, key-of, terms-of, coefficient-limit}
@@ -35,13 +35,6 @@ module _ (p : ℕ) (P : Prime p) (small : p < coefficient-limit) where
   abbrev R : CommRing
   R = K .ring
 
-  -- a product of numbers that are not 0 is not 0
-  product-positive : (c f : ℕ) → c < p → ¬ (c ≡ 0) → f < p → ¬ (f ≡ 0) → 0 < (c * f) % p
-  product-positive c f lc nc lf nf = elim (ℕ-discrete ((c * f) % p) 0) [
-    | yes e ↦ absurd (no-zero-divisors K (el p c) (el p f) (el-nonzero p c lc nc) (el-nonzero p f lf nf) (sym (product-el p c f) ∙ ap (el p) e))
-    | no n ↦ omega arith
-  ]
-
   -- the terms of keys that fall
   scaled-fall : (f : ℕ) → f < p → ¬ (f ≡ 0) → (b : ℕ) (ks cs : List ℕ) → FallFrom b ks → AllBelow p cs → Falling p b (scaled-terms p f ks cs)
   scaled-fall f lf nf b [] cs h a = (unfold scaled-terms in tt)
@@ -58,7 +51,7 @@ module _ (p : ℕ) (P : Prime p) (small : p < coefficient-limit) where
       go (no n) later =
           let v = (c * f) % p in
           let lv : v < p = mod-lt (c * f) (prime-positive P) in
-          let pv = product-positive c f (a .0) n lf nf in
+          let pv = product-positive p P c f (a .0) n lf nf in
           let ek = key-of-term k v (omega arith) in
           let ec = coefficient-of-term k v (omega arith) in
           subst (Falling p b) (sym (scaled-here p f k c ks cs n)) (

@@ -14,7 +14,7 @@ use Rattle.poly.specs.Room.{work-room, cleared}
 use Rattle.poly.specs.TrialDivision.{CanDivide, TrialDivision}
 use Rattle.poly.specs.division.Trial.{trial-says}
 use Rattle.poly.specs.list.Right.{RightList}
-use Rattle.poly.specs.rooms.Laws.{zeroed-length, zeroed-beyond, zeroed-same}
+use Rattle.poly.specs.rooms.Laws.{zeroed-length, cleared-again}
 use Rattle.divisor.specs.declared.monic.Divisor.{Divisor}
 use Rattle.divisor.specs.declared.table.Kind.the-variants.{One}
 use Rattle.divisor.specs.declared.table.Solved.{Solved}
@@ -45,7 +45,7 @@ module _ {p : ℕ} {A B G work after : List ℕ} {first : Bool} (divided : Trial
   pub then-second : {end : List ℕ} {second : Bool} → not first ≡ false → TrialDivision p B G after end second → BothDivided p A B G work end second
   then-second n later = record {
     says = λ P. (λ e. (trial-says P divided .0 (not-false first n), trial-says P later .0 e), λ both. trial-says P later .1 (both .1));
-    room = later .room ∙ ap cleared (divided .room) ∙ zeroed-same work-room (cleared work) work (zeroed-beyond work-room 0 work);
+    room = later .room ∙ ap cleared (divided .room) ∙ cleared-again work;
   }
 
 -- the only solution makes a divisor, which is divided into both lists

@@ -22,8 +22,8 @@ use Rattle.poly.specs.key.Terms.{key-of-term, coefficient-of-term}
 use Rattle.divisor.specs.declared.CandidateRecord.{CandidateRecord}
 use Rattle.divisor.specs.Rule.{Kept, Unknowns, Solution, without-zeros, divided-by, made-monic, divisor, unsolvable, several, rejected}
 use Rattle.divisor.specs.Rule.{accepted, all-bad, some-good}
-use Rattle.divisor.specs.Candidate.{Call, prime, Numbers, A, handed-out}
-use Rattle.divisor.specs.answer.CandidateDetermined.{answer-of, result-of}
+use Rattle.divisor.specs.Candidate.{Call, prime, Numbers, A, AnswerTo, handed-out}
+use Rattle.divisor.specs.answer.CandidateDetermined.{result-of}
 use Rattle.divisor.specs.monic.Value.{zero-dropped, nonzero-kept}
 
 module _ (K : Field) where
@@ -105,8 +105,8 @@ module _ (p : ℕ) (P : Prime p) (small : p < coefficient-limit) where
       ∙ ap (terms-of p P) (take-at (numbers-of p P f) _ _ refl) ∙ read-numbers f h
 
 -- an answer's G has keys, and the record counts its terms
-answer-counts : (c : Call) (listed : Listed (c .modulus)) (r : CandidateRecord) (G : Polynomial (Numbers c listed))
-    → answer-of c listed r G → Keyed (Numbers c listed) G × (r .terms ≡ length G)
+pub answer-counts : (c : Call) (listed : Listed (c .modulus)) (r : CandidateRecord) (G : Polynomial (Numbers c listed))
+    → AnswerTo c listed r G → Keyed (Numbers c listed) G × (r .terms ≡ length G)
 answer-counts c listed r G (all-bad all) = (tt, refl)
 answer-counts c listed r G (some-good d b u k kept sorted n H (unsolvable x)) = (tt, refl)
 answer-counts c listed r G (some-good d b u k kept sorted n H (several x)) = (tt, refl)
@@ -116,7 +116,7 @@ answer-counts c listed r G (some-good d b u k kept sorted n H (accepted s only x
 
 -- in an answered call the output holds G
 pub answered-output : (c : Call) (listed : Listed (c .modulus)) (f : CandidateRecord) (G : Polynomial (Numbers c listed))
-    → answer-of c listed f G → handed-out c listed (result-of c listed f G) ≡ G
+    → AnswerTo c listed f G → handed-out c listed (result-of c listed f G) ≡ G
 answered-output c listed f G x =
     let l = answer-counts c listed f G x in
     ap (λ (n : ℕ). terms-of (c .modulus) (prime c listed) (take n (written (numbers-of (c .modulus) (prime c listed) G) (c .output)))) (l .1)

@@ -3,12 +3,15 @@ use mathlib.Core.Path.{_≡_, sym, ap, _∙_}
 use Prim.Native.Nat.{ℕ, _+_, _-_, _*_, _%_, _≤_, _<_}
 use native.Mathlib.Omega.{arith}
 use native.Mathlib.Nat.{mod-mod}
+use native.Mathlib.Decide.{ℕ-discrete}
 use Rattle.algebra.specs.Laws.Ring.{zero-mul, neg-mul, neg-unique}
+use Rattle.algebra.specs.Laws.Field.{no-zero-divisors}
 use Rattle.field.specs.Prime.{Prime}
 use Rattle.field.specs.modulus.Prime.{prime-positive}
 use Rattle.field.specs.Fp.{Fp, el, add, mul, neg, inv}
-use Rattle.field.specs.elements.Fp.{el-mod, el-add, el-mul, el-cong, el-self, val-el}
+use Rattle.field.specs.elements.Fp.{el-mod, el-add, el-mul, el-cong, el-self, el-nonzero, val-el}
 use Rattle.field.specs.Residues.{Residues}
+use Rattle.field.specs.Modulo.{Modulo}
 use Rattle.field.specs.elements.Inverse.{mul-inv, inverse-unique, one≢zero}
 use Rattle.field.specs.Contract.{Inverse}
 use Rattle.field.specs.declared.elements.Element.{Element}
@@ -19,6 +22,14 @@ sum-el p a b = el-mod p (a + b) ∙ el-add p a b
 -- of `product` and of `times`
 pub product-el : (p a b : ℕ) → el p ((a * b) % p) ≡ mul (el p a) (el p b)
 product-el p a b = el-mod p (a * b) ∙ el-mul p a b
+
+-- a product of numbers that are not 0 is not 0
+pub product-positive : (p : ℕ) → Prime p → (a b : ℕ) → a < p → ¬ (a ≡ 0) → b < p → ¬ (b ≡ 0) → 0 < (a * b) % p
+product-positive p P a b la na lb nb = elim (ℕ-discrete ((a * b) % p) 0) [
+  | yes e ↦
+      absurd (no-zero-divisors (Modulo p P) (el p a) (el p b) (el-nonzero p a la na) (el-nonzero p b lb nb) (sym (product-el p a b) ∙ ap (el p) e))
+  | no n ↦ omega arith
+]
 
 pub plus-times-el : (p r a b : ℕ) → el p ((r + a * b) % p) ≡ add (el p r) (mul (el p a) (el p b))
 plus-times-el p r a b = sum-el p r (a * b) ∙ ap (add (el p r)) (el-mul p a b)

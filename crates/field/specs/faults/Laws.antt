@@ -87,6 +87,13 @@ refuses-behind [] back f h k = k
 refuses-behind (l ∷ front) back f h (inl k) = absurd (h .0 (k .0) (k .2))
 refuses-behind (l ∷ front) back f h (inr k) = refuses-behind front back f (h .1) (k .1)
 
+-- behind the same front, another back that refuses the same
+pub refuses-alike : (front back other : List Line) (f : Fault) → (Passes front → Refuses back f → Refuses other f)
+    → Refuses (front ++ back) f → Refuses (front ++ other) f
+refuses-alike [] back other f go h = go tt h
+refuses-alike (l ∷ front) back other f go (inl h) = inl h
+refuses-alike (l ∷ front) back other f go (inr h) = inr (h .0, refuses-alike front back other f (λ pass. go (h .0, pass)) (h .1))
+
 pub passes-append : (front back : List Line) → Passes front → Passes back → Passes (front ++ back)
 passes-append [] back h k = k
 passes-append (l ∷ front) back h k = (h .0, passes-append front back (h .1) k)

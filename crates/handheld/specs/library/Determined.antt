@@ -18,11 +18,13 @@ use Rattle.poly.specs.quotient.Laws.{quotient-determined}
 use Rattle.poly.specs.image.Call.{image-determined}
 use Rattle.divisor.specs.Candidate.{Call, Candidate}
 use Rattle.divisor.specs.answer.CandidateDetermined.{candidate-determined}
+use Rattle.cancel.specs.CancelCall.{CancelCall, Cancel}
+use Rattle.cancel.specs.cancelling.Determined.{cancel-determined}
 use Rattle.case_file.specs.Reading.{read}
 use Rattle.case_file.specs.Handed.{contents}
 use Rattle.case_file.specs.WriteCall.{WriteCall, Write}
 use Rattle.case_file.specs.writer.Determined.{write-determined}
-use Rattle.handheld.specs.Layout.{Laid, laid, of-fault, of-picked, of-answer, of-quotient, of-candidate, of-image, of-contents, of-write}
+use Rattle.handheld.specs.Layout.{Laid, laid, of-fault, of-picked, of-answer, of-quotient, of-candidate, of-cancel, of-image, of-contents, of-write}
 
 -- two results that meet one contract are equal
 abbrev pub Determined : {Found Left : Type 0} → (Found → Left) → (Found → Type 0) → Type 0
@@ -34,6 +36,9 @@ laid-determined layout Promise one l m (laid x h) (laid y k) = ap layout (one x 
 
 pub candidate-left-determined : (c : Call) → Determined of-candidate (Candidate c)
 candidate-left-determined c = laid-determined of-candidate (Candidate c) (candidate-determined c)
+
+pub cancel-left-determined : (c : CancelCall) → Determined of-cancel (Cancel c)
+cancel-left-determined c = laid-determined of-cancel (Cancel c) (cancel-determined c)
 
 pub quotient-left-determined : (c : QuotientCall) → Determined of-quotient (Quotient c)
 quotient-left-determined c = laid-determined of-quotient (Quotient c) (quotient-determined c)

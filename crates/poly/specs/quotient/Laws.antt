@@ -97,3 +97,24 @@ module _ (c : QuotientCall) where
       ap handed
       (quotient-unique (c .modulus) (listed-prime listed) (c .first-list) (c .second-list) qs rs (g .some-divisor) (g .divisor-falls) q
       (exact-same listed′ listed rs q′))
+
+  -- the second list divides the first
+  abbrev pub DividesExactly : Listed (c .modulus) → Type 0
+  DividesExactly listed = Divides (Modulo (c .modulus) (listed-prime listed)) (poly (c .modulus) (listed-prime listed) (c .second-list))
+      (poly (c .modulus) (listed-prime listed) (c .first-list))
+
+  -- what is given then, where the inputs pass
+  pub record Given (listed : Listed (c .modulus)) (r : QuotientResult) : Type 0 where
+    pub terms : List ℕ
+    pub exact : IsQuotient (c .modulus) (listed-prime listed) (c .first-list) (c .second-list) terms
+    pub counted : r .found .terms ≡ length terms
+    pub writes : r .output ≡ written terms (c .output)
+    pub clears : r .work ≡ cleared (c .work)
+
+  pub quotient-given : Passes (quotient-table c) → (listed : Listed (c .modulus)) → DividesExactly listed
+      → (r : QuotientResult) → Quotient c r → Given listed r
+  quotient-given pass listed d r (refused f h) = absurd (not-passes-and-refuses (quotient-table c) f pass h)
+  quotient-given pass listed d r (no-quotient pass′ listed′ n) =
+      absurd (n (subst DividesExactly (listed-unique _ listed listed′) d))
+  quotient-given pass listed d r (quotient pass′ listed′ qs q) =
+      record { terms = qs; exact = exact-same listed′ listed qs q; counted = refl; writes = refl; clears = refl }

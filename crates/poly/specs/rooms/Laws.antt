@@ -10,7 +10,7 @@ use Rattle.field.specs.loops.Filled.{cells, Filled}
 use Rattle.field.specs.loops.Cells.{filled-first}
 use Rattle.field.specs.faults.Laws.{whole-one-place, tested-determined}
 use Rattle.field.specs.declared.faults.Fault.{Fault}
-use Rattle.poly.specs.Room.{of-rooms, zeroed}
+use Rattle.poly.specs.Room.{of-rooms, work-room, zeroed, cleared}
 
 pub rooms-check-determined : (output needed work : ℕ) (f g : Fault) → Tested (of-rooms output needed work) f → Tested (of-rooms output needed work) g → f ≡ g
 rooms-check-determined output needed work =
@@ -55,3 +55,7 @@ zeroed-beyond n m l =
 pub zeroed-same : (n : ℕ) (l m : List ℕ) → drop n l ≡ drop n m → zeroed n l ≡ zeroed n m
 unfolding zeroed
 zeroed-same n l m e = ap (λ (r : List ℕ). replicate n 0 ++ r) e
+
+-- clearing once more changes nothing
+pub cleared-again : (work : List ℕ) → cleared (cleared work) ≡ cleared work
+cleared-again work = zeroed-same work-room (cleared work) work (zeroed-beyond work-room 0 work)

@@ -21,8 +21,9 @@ use Rattle.field.specs.Lent.{written}
 use Rattle.poly.specs.Room.{cleared}
 use Rattle.poly.specs.Lists.{Falling}
 use Rattle.poly.specs.key.Terms.{poly-lead}
+use Rattle.divisor.specs.declared.CandidateRecord.{CandidateRecord}
 use Rattle.divisor.specs.Rule.{report, Kept}
-use Rattle.divisor.specs.Candidate.{Call, table, prime, Numbers, monomials, lent-points, Candidate}
+use Rattle.divisor.specs.Candidate.{Call, table, prime, Numbers, monomials, lent-points, candidate-result, Candidate}
 use Rattle.divisor.specs.table.Meaning.{entries}
 use Rattle.divisor.specs.equations.Rows.{all-rows}
 use Rattle.divisor.specs.sorting.Model.{sizes-of, least, kept-of}
@@ -55,6 +56,11 @@ values-below h zero v = tt
 values-below h (suc n) [] = tt
 values-below h (suc n) (x ∷ v) = (val-lt h x, values-below h n v)
 
+-- what is so of the record and the terms of a computed answer
+abbrev pub Told : (CandidateRecord → List ℕ → Type 0) → Computed → Type 0
+Told X unanswered = Unit {0}
+Told X (answered number counts terms) = X (report number counts (length terms)) terms
+
 -- what the division of lists says of their polynomials
 pub divided-by-means : (p : ℕ) (P : Prime p) (G f : List ℕ) → 0 < length G → Falling p keys G
     → Means (Modulo p P) (poly p P f) (poly p P G) (divided-by p P G f)
@@ -71,9 +77,7 @@ module _ (c : Call) (pass : Passes (table c)) (listed : Listed (c .modulus)) whe
 
   -- the numbers and the terms are the candidate's
   abbrev pub Sound : Computed → Type 0
-  Sound unanswered = Unit {0}
-  Sound (answered number counts terms) =
-      Candidate c (record { found = report number counts (length terms); output = written terms (c .output); work = cleared (c .work) })
+  Sound = Told (λ found terms. Candidate c (candidate-result found (written terms (c .output)) (cleared (c .work))))
 
   abbrev looks : List PointImage
   looks = looks-of c

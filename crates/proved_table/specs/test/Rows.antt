@@ -25,6 +25,10 @@ use Rattle.proved_table.specs.test.TermDivision.{less-all, Outcome, divi
 use Rattle.proved_table.specs.test.Decisions.{list-checks, lines, checks, image-checks}
 use Rattle.proved_table.specs.test.Computed.{Computed, unanswered, answered, divided-by, computed}
 
+-- the modulus is listed, and a test that may use it is passed
+unfoldable pub listed-and : (p : ℕ) → (Listed p → Bool) → Bool
+listed-and p f = elim (listed-decided p) [ yes h ↦ f h | no n ↦ false ]
+
 unfoldable pub same-numbers : List ℕ → List ℕ → Bool
 same-numbers [] [] = true
 same-numbers [] (n ∷ ns) = false
@@ -54,7 +58,7 @@ module _ (r : Row) where
   answers h = agrees (computed (r .modulus) (listed-prime h) (r .first-list) (r .second-list) (r .skeleton) (r .points)) (r .found) (r .terms)
 
   unfoldable pub test : Bool
-  test = passes && (elim (listed-decided (r .modulus)) [ yes h ↦ answers h | no n ↦ false ])
+  test = passes && listed-and (r .modulus) answers
 
 -- no line of the modulus and the two lists applies
 unfoldable pub right-lists : ℕ → List ℕ → List ℕ → Bool
@@ -84,10 +88,7 @@ module _ (r : QuotientRow) where
   unfoldable pub quotient-test : Bool
   quotient-test =
       right-lists (r .modulus) (r .first-list) (r .second-list)
-      && (elim (listed-decided (r .modulus)) [
-        | yes h ↦ quotient-agrees (listed-prime h) (divided-by (r .modulus) (listed-prime h) (r .second-list) (r .first-list))
-        | no n ↦ false
-      ])
+      && listed-and (r .modulus) (λ h. quotient-agrees (listed-prime h) (divided-by (r .modulus) (listed-prime h) (r .second-list) (r .first-list)))
 
 -- the numbers of an image's record
 abbrev pub image-numbers : ImageRecord → List ℕ

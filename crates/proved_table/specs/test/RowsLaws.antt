@@ -23,23 +23,23 @@ use Rattle.poly.specs.Lists.{of-lists}
 use Rattle.poly.specs.QuotientCall.{QuotientCall, quotient-table, quotient-result, Quotient, no-quotient, quotient}
 use Rattle.poly.specs.ImageCall.{image-table}
 use Rattle.field.specs.Lent.{written}
-use Rattle.poly.specs.Room.{of-rooms, work-room, cleared}
+use Rattle.poly.specs.Room.{room-lines, of-rooms, work-room, cleared}
 use Rattle.poly.specs.image.Model.{image-of}
 use Rattle.poly.specs.image.Call.{image-fine, image-passes as image-in-order, image-answered, model-answers}
 use Rattle.poly.specs.list.Right.{lists-are-right}
 use Rattle.poly.specs.list.Falling.{falling-right}
 use Rattle.divisor.specs.declared.CandidateRecord.{CandidateRecord}
 use Rattle.divisor.specs.Rule.{report}
-use Rattle.divisor.specs.Candidate.{Call, table, Candidate}
+use Rattle.divisor.specs.Candidate.{candidate-result, Candidate}
 use Rattle.divisor.specs.answer.CandidateDetermined.{candidate-determined}
 use Rattle.proved_table.specs.Row.{Row, call, result, Holds, Determined, QuotientRow, quotient-call-of, quotient-result-of, QuotientHolds}
 use Rattle.proved_table.specs.Row.{ImageRow, Shows, Product, Multiplies, Each}
 use Rattle.proved_table.specs.test.TermDivision.{Outcome, divides, does-not, open-still}
 use Rattle.proved_table.specs.test.TermDivisionLaws.{Means, nothing-left-means}
 use Rattle.proved_table.specs.test.Decisions.{list-checks, image-checks}
-use Rattle.proved_table.specs.test.Computed.{Computed, unanswered, answered, divided-by}
-use Rattle.proved_table.specs.test.ComputedLaws.{divided-by-means, Sound, computed-sound}
-use Rattle.proved_table.specs.test.Rows.{same-numbers, numbers, agrees, input-lines, input-checks, passes, answers, test}
+use Rattle.proved_table.specs.test.Computed.{Computed, unanswered, answered, computed}
+use Rattle.proved_table.specs.test.ComputedLaws.{Told, divided-by-means, computed-sound}
+use Rattle.proved_table.specs.test.Rows.{listed-and, same-numbers, numbers, agrees, input-lines, input-checks, passes, answers, test}
 use Rattle.proved_table.specs.test.Rows.{right-lists, quotient-numbers, product-of, quotient-agrees, quotient-test}
 use Rattle.proved_table.specs.test.Rows.{image-numbers, image-passes, image-agrees, image-test, multiplies}
 
@@ -52,58 +52,59 @@ same-is (m ∷ ms) (n ∷ ns) h =
     let both = and-eq-true-iff (eqb m n) (same-numbers ms ns) .0 h in
     ap₂ _∷_ (eqb-true m n (both .0)) (same-is ms ns (both .1))
 
+-- the record of its numbers
+abbrev pub record-of : List ℕ → CandidateRecord
+record-of l =
+    record {
+      fault = fault (getD l 0 0) (getD l 1 0);
+      degree = getD l 2 0;
+      bad = getD l 3 0;
+      unlucky = getD l 4 0;
+      kept = getD l 5 0;
+      terms = getD l 6 0;
+    }
+
 -- a record and terms are known by their numbers
 numbers-settle : (X : CandidateRecord → List ℕ → Type 0) (r q : CandidateRecord) (terms ts : List ℕ) → numbers r terms ≡ numbers q ts → X r terms → X q ts
 numbers-settle X r q terms ts e x = subst (λ (l : List ℕ). X (record-of l) (drop 7 l)) e x
+
+-- of a listed modulus the test was passed
+pub listed-and-means : (p : ℕ) (f : Listed p → Bool) → listed-and p f ≡ true → (h : Listed p) × (f h ≡ true)
+unfolding listed-and
+listed-and-means p f h = go (listed-decided p) h
   where
-    record-of : List ℕ → CandidateRecord
-    record-of l =
-        record {
-          fault = fault (getD l 0 0) (getD l 1 0);
-          degree = getD l 2 0;
-          bad = getD l 3 0;
-          unlucky = getD l 4 0;
-          kept = getD l 5 0;
-          terms = getD l 6 0;
-        }
+    go : (d : Dec (Listed p)) → elim d as (λ _. Bool) [ yes h ↦ f h | no n ↦ false ] ≡ true → (h : Listed p) × (f h ≡ true)
+    go (yes listed) h = (listed, h)
+    go (no n) h = absurd (false≢true h)
 
-rooms-pass : (output work : List ℕ) (needed : ℕ) → needed ≤ length output → work-room ≤ length work → Passes (of-rooms (length output) needed (length work))
-rooms-pass output work needed long room = (placed-never (λ l. omega arith), (placed-never (λ l. omega arith), tt))
+pub rooms-pass : {Short : Type 0} → ¬ Short → (work : List ℕ) → work-room ≤ length work → Passes (room-lines Short (length work))
+rooms-pass fits work room = (placed-never fits, (placed-never (λ l. omega arith), tt))
 
-module _ (r : Row) (output work : List ℕ) (long : length (r .skeleton) ≤ length output) (room : work-room ≤ length work) where
-  abbrev c : Call
-  c = call r output work
+-- no line of the inputs applies to a row that passes
+pub inputs-pass : (r : Row) → test r ≡ true → Passes (input-lines r)
+unfolding test passes
+inputs-pass r h = decided-passes (input-lines r) tt (input-checks r) (eqb-true _ 0 (and-eq-true-iff (passes r) _ .0 h .0))
 
-  inputs-pass : passes r ≡ true → Passes (table c)
-  unfolding passes
-  inputs-pass h = passes-append (input-lines r) (of-rooms (length output) (length (r .skeleton)) (length work))
-      (decided-passes (input-lines r) tt (input-checks r) (eqb-true _ 0 h))
-      (rooms-pass output work (length (r .skeleton)) long room)
-
-  -- what agrees with a sound answer is the candidate's
-  agrees-holds : (pass : Passes (table c)) (listed : Listed (r .modulus)) (x : Computed) → Sound c pass listed x → agrees x (r .found) (r .terms) ≡ true
-      → Candidate c (result r output work)
-  unfolding agrees
-  agrees-holds pass listed unanswered s h = absurd (false≢true h)
-  agrees-holds pass listed (answered number counts ts) s h =
-      numbers-settle (λ (found : CandidateRecord) (terms : List ℕ). Candidate c (record { found = found; output = written terms output; work = cleared work }))
-      (report number counts (length ts)) (r .found) ts (r .terms) (same-is _ _ h) s
-
-  tested-here : test r ≡ true → Candidate c (result r output work)
-  unfolding test
-  tested-here h = go (listed-decided (r .modulus)) (and-eq-true-iff (passes r) _ .0 h .1)
-    where
-      pass : Passes (table c)
-      pass = inputs-pass (and-eq-true-iff (passes r) _ .0 h .0)
-
-      go : (d : Dec (Listed (r .modulus))) → elim d as (λ _. Bool) [ yes h ↦ answers r h | no n ↦ false ] ≡ true
-          → Candidate c (result r output work)
-      go (yes listed) h = (unfold answers in agrees-holds pass listed _ (computed-sound c pass listed) h)
-      go (no n) h = absurd (false≢true h)
+-- what is so of the computed answer is so of a row that passes
+pub test-settles : (r : Row) (X : CandidateRecord → List ℕ → Type 0)
+    → ((listed : Listed (r .modulus)) → Told X (computed (r .modulus) (listed-prime listed) (r .first-list) (r .second-list) (r .skeleton) (r .points)))
+    → test r ≡ true → X (r .found) (r .terms)
+unfolding test answers
+test-settles r X law h =
+    let a = listed-and-means (r .modulus) (answers r) (and-eq-true-iff (passes r) _ .0 h .1) in
+    go _ (law (a .0)) (a .1)
+  where
+    go : (x : Computed) → Told X x → agrees x (r .found) (r .terms) ≡ true → X (r .found) (r .terms)
+    go unanswered s h = (unfold agrees in absurd (false≢true h))
+    go (answered number counts ts) s h = (unfold agrees in numbers-settle X (report number counts (length ts)) (r .found) ts (r .terms) (same-is _ _ h) s)
 
 -- the test turned into the contract
 pub tested : (r : Row) → test r ≡ true → Holds r
-tested r h output work long room = tested-here r output work long room h
+tested r h output work long room =
+    let c = call r output work in
+    let rooms = of-rooms (length output) (length (r .skeleton)) (length work) in
+    let pass = passes-append (input-lines r) rooms (inputs-pass r h) (rooms-pass (λ l. omega arith) work room) in
+    test-settles r (λ found terms. Candidate c (candidate-result found (written terms output) (cleared work))) (λ listed. computed-sound c pass listed) h
 
 pub holds-determined : (r : Row) → Holds r → Determined r
 holds-determined r h output work long room q meets = candidate-determined (call r output work) q (result r output work) meets (h output work long room)
@@ -116,7 +117,7 @@ multiplied p P q h = nothing-left-means (Modulo p P) (terms-of p P (q .whole)) (
     go [] h = refl
     go (t ∷ ts) h = absurd (false≢true h)
 
-lists-pass : (p : ℕ) (A B : List ℕ) → right-lists p A B ≡ true → Passes (of-lists p A B)
+pub lists-pass : (p : ℕ) (A B : List ℕ) → right-lists p A B ≡ true → Passes (of-lists p A B)
 unfolding right-lists
 lists-pass p A B h = decided-passes (of-lists p A B) tt (list-checks p A B) (eqb-true _ 0 h)
 
@@ -126,7 +127,7 @@ module _ (r : QuotientRow) (output work : List ℕ) (long : keys ≤ length outp
 
   quotient-lines-pass : right-lists (r .modulus) (r .first-list) (r .second-list) ≡ true → Passes (quotient-table asked)
   quotient-lines-pass h = passes-append (of-lists (r .modulus) (r .first-list) (r .second-list)) (of-rooms (length output) keys (length work))
-      (lists-pass (r .modulus) (r .first-list) (r .second-list) h) (rooms-pass output work keys long room)
+      (lists-pass (r .modulus) (r .first-list) (r .second-list) h) (rooms-pass (λ l. omega arith) work room)
 
   -- a record and terms of the same numbers as the row's give the row's result
   quotient-known : (found : QuotientRecord) (terms : List ℕ) → same-numbers (quotient-numbers (r .found) (r .terms)) (quotient-numbers found terms) ≡ true
@@ -157,20 +158,12 @@ module _ (r : QuotientRow) (output work : List ℕ) (long : keys ≤ length outp
 
   quotient-tested-here : quotient-test r ≡ true → Quotient asked (quotient-result-of r output work)
   unfolding quotient-test
-  quotient-tested-here h = go (listed-decided (r .modulus)) (and-eq-true-iff (right-lists (r .modulus) (r .first-list) (r .second-list)) _ .0 h .1)
-    where
-      lists : right-lists (r .modulus) (r .first-list) (r .second-list) ≡ true
-      lists = and-eq-true-iff (right-lists (r .modulus) (r .first-list) (r .second-list)) _ .0 h .0
-
-      go : (d : Dec (Listed (r .modulus))) → elim d as (λ _. Bool) [
-        | yes h ↦ quotient-agrees r (listed-prime h) (divided-by (r .modulus) (listed-prime h) (r .second-list) (r .first-list))
-        | no n ↦ false
-      ] ≡ true → Quotient asked (quotient-result-of r output work)
-      go (yes listed) k =
-          let right = lists-are-right (r .modulus) (r .first-list) (r .second-list) (lists-pass (r .modulus) (r .first-list) (r .second-list) lists) in
-          quotient-settled (quotient-lines-pass lists) listed _
-          (divided-by-means (r .modulus) (listed-prime listed) (r .second-list) (r .first-list) (right .second .some) (right .second .falls)) k
-      go (no n) k = absurd (false≢true k)
+  quotient-tested-here h =
+      let both = and-eq-true-iff (right-lists (r .modulus) (r .first-list) (r .second-list)) _ .0 h in
+      let right = lists-are-right (r .modulus) (r .first-list) (r .second-list) (lists-pass (r .modulus) (r .first-list) (r .second-list) (both .0)) in
+      let a = listed-and-means (r .modulus) _ (both .1) in
+      quotient-settled (quotient-lines-pass (both .0)) (a .0) _
+      (divided-by-means (r .modulus) (listed-prime (a .0)) (r .second-list) (r .first-list) (right .second .some) (right .second .falls)) (a .1)
 
 pub quotient-tested : (r : QuotientRow) → quotient-test r ≡ true → QuotientHolds r
 quotient-tested r h output work long room = quotient-tested-here r output work long room h

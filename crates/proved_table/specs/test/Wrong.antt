@@ -9,10 +9,12 @@ use Rattle.case_file.specs.declared.Contents.{Contents}
 use Rattle.case_file.specs.Reading.{read}
 use Rattle.case_file.specs.Handed.{contents}
 use Rattle.case_file.specs.WriteCall.{WriteResult}
-use Rattle.proved_table.specs.Row.{WriteRow}
+use Rattle.cancel.specs.declared.CancelRecord.{CancelRecord}
+use Rattle.proved_table.specs.Row.{CancelRow, WriteRow}
 use Rattle.proved_table.specs.test.Rows.{numbers, test, quotient-numbers, quotient-test, image-numbers, image-test}
+use Rattle.proved_table.specs.test.Cancels.{cancel-numbers, cancel-test}
 use Rattle.proved_table.specs.test.Writes.{right-write}
-use Rattle.proved_table.specs.Wrong.{Wrong}
+use Rattle.proved_table.specs.Wrong.{Wrong, WrongCancel}
 use Rattle.proved_table.specs.WrongResults.{WrongCandidate}
 use Rattle.proved_table.specs.WrongServices.{WrongQuotient, WrongImage, WrongFile}
 
@@ -40,6 +42,23 @@ wrong-test w = test (w .row) && differs w (λ r. numbers r []) (w .row .found) (
 
 unfoldable pub wrong-quotient-test : WrongQuotient → Bool
 wrong-quotient-test w = quotient-test (w .row) && differs w (λ r. quotient-numbers r []) (w .row .found) (w .row .terms)
+
+-- each output of the key as the one output of a wrong result
+abbrev pub in-output : WrongCancel → List ℕ → List ℕ → Wrong CancelRow CancelRecord
+in-output w begins terms =
+    record { row = w .row; output-begins = begins; work-begins = w .work-begins; found = w .found; terms = terms; clears = w .clears }
+
+abbrev pub in-numerator : WrongCancel → Wrong CancelRow CancelRecord
+in-numerator w = in-output w (w .numerator-begins) (w .numerator)
+
+abbrev pub in-denominator : WrongCancel → Wrong CancelRow CancelRecord
+in-denominator w = in-output w (w .denominator-begins) (w .denominator)
+
+unfoldable pub wrong-cancel-test : WrongCancel → Bool
+wrong-cancel-test w =
+    cancel-test (w .row)
+    && (differs (in-numerator w) cancel-numbers (w .row .found) (w .row .numerator)
+    || differs (in-denominator w) cancel-numbers (w .row .found) (w .row .denominator))
 
 unfoldable pub wrong-image-test : WrongImage → Bool
 wrong-image-test w = image-test (w .row) && clash (image-numbers (w .found)) (image-numbers (w .row .found))

@@ -15,19 +15,23 @@ use Rattle.poly.specs.QuotientCall.{QuotientResult}
 use Rattle.poly.specs.quotient.Laws.{quotient-determined}
 use Rattle.poly.specs.image.Call.{image-determined}
 use Rattle.divisor.specs.Candidate.{Result}
+use Rattle.cancel.specs.CancelCall.{CancelResult}
 use Rattle.case_file.specs.Reading.{read}
 use Rattle.case_file.specs.Handed.{contents}
 use Rattle.case_file.specs.writer.Determined.{write-determined}
 use Rattle.proved_table.specs.Row.{quotient-call-of, WriteRow}
 use Rattle.proved_table.specs.test.Rows.{numbers, test, quotient-numbers, quotient-test, image-numbers, image-test}
 use Rattle.proved_table.specs.test.RowsLaws.{tested, holds-determined, quotient-tested, image-tested}
+use Rattle.proved_table.specs.test.Cancels.{cancel-numbers, cancel-test}
+use Rattle.proved_table.specs.test.CancelsLaws.{cancel-tested, cancel-holds-determined}
 use Rattle.proved_table.specs.test.Writes.{right-write}
 use Rattle.proved_table.specs.test.WritesLaws.{right-write-meets}
-use Rattle.proved_table.specs.Wrong.{Wrong, Begins, work-left, Refuted, QuotientRefuted, ImageRefuted, FileRefuted, WriteRefuted}
+use Rattle.proved_table.specs.Wrong.{Wrong, Begins, work-left, Refuted, QuotientRefuted, WrongCancel, CancelRefuted}
+use Rattle.proved_table.specs.Wrong.{ImageRefuted, FileRefuted, WriteRefuted}
 use Rattle.proved_table.specs.WrongResults.{WrongCandidate}
 use Rattle.proved_table.specs.WrongServices.{WrongQuotient, WrongImage, WrongFile}
-use Rattle.proved_table.specs.test.Wrong.{clash, left-full, differs, wrong-test, wrong-quotient-test, wrong-image-test, file-numbers, wrong-file-test}
-use Rattle.proved_table.specs.test.Wrong.{write-numbers, wrong-write-test}
+use Rattle.proved_table.specs.test.Wrong.{clash, left-full, differs, wrong-test, wrong-quotient-test, in-numerator, in-denominator, wrong-cancel-test}
+use Rattle.proved_table.specs.test.Wrong.{wrong-image-test, file-numbers, wrong-file-test, write-numbers, wrong-write-test}
 
 -- lists that begin with lists that clash are not equal
 clash-means : (xs ys more rest : List ℕ) → clash xs ys ≡ true → xs ++ more ≡ ys ++ rest → ⊥
@@ -75,11 +79,10 @@ left-full-means false front work b h e =
     let c = cleared-begins work-room work (omega arith) in
     clash-means front (0 ∷ []) (drop (length front) work) (c .0) h (sym (begins-with front work b) ∙ e ∙ c .1)
 
--- one of three tests was passed
-one-of : (a b c : Bool) → (a || b || c) ≡ true → (a ≡ true → ⊥) → (b ≡ true → ⊥) → (c ≡ true → ⊥) → ⊥
-one-of true b c h f g k = f refl
-one-of false true c h f g k = g refl
-one-of false false c h f g k = k h
+-- one of two tests was passed
+either : (a b : Bool) → (a || b) ≡ true → (a ≡ true → ⊥) → (b ≡ true → ⊥) → ⊥
+either true b h f g = f refl
+either false b h f g = g h
 
 -- the record, the output or the work room is another than the right one
 pub differs-means : {R F : Type 0} (w : Wrong R F) (shown : F → List ℕ) (found : F) (terms : List ℕ) → differs w shown found terms ≡ true
@@ -87,13 +90,13 @@ pub differs-means : {R F : Type 0} (w : Wrong R F) (shown : F → List ℕ) (fou
     → w .found ≡ found → written (w .terms) output ≡ written terms output → work-left (w .clears) work ≡ cleared work → ⊥
 unfolding differs
 differs-means w shown found terms h output work b c same-found same-output same-work =
-    one-of (clash (shown (w .found)) (shown found)) _ _ h
+    either _ (left-full (w .clears) (w .work-begins)) h (λ two. either (clash (shown (w .found)) (shown found)) _ two
     (λ k. clash-differ (shown (w .found)) (shown found) k (ap shown same-found))
     (λ k.
     let wrong = written-begins (w .terms) (w .output-begins) output b in
     let right = written-begins terms (w .output-begins) output b in
     clash-means (written (w .terms) (w .output-begins)) (written terms (w .output-begins)) (wrong .0) (right .0) k
-    (sym (wrong .1) ∙ same-output ∙ right .1))
+    (sym (wrong .1) ∙ same-output ∙ right .1)))
     (λ k. left-full-means (w .clears) (w .work-begins) work c k same-work)
 
 pub refuted : (w : WrongCandidate) → wrong-test w ≡ true → Refuted w
@@ -111,6 +114,19 @@ quotient-refuted w h output work long room b c meets =
     let e = quotient-determined (quotient-call-of (w .row) output work) _ _ meets (quotient-tested (w .row) (both .0) output work long room) in
     differs-means w (λ r. quotient-numbers r []) (w .row .found) (w .row .terms) (both .1) output work b c
     (ap (λ (r : QuotientResult). r .found) e) (ap (λ (r : QuotientResult). r .output) e) (ap (λ (r : QuotientResult). r .work) e)
+
+pub cancel-refuted : (w : WrongCancel) → wrong-cancel-test w ≡ true → CancelRefuted w
+unfolding wrong-cancel-test
+cancel-refuted w h numerator denominator work long long′ room a b c meets =
+    let both = and-eq-true-iff (cancel-test (w .row)) _ .0 h in
+    let e = cancel-holds-determined (w .row) (cancel-tested (w .row) (both .0)) numerator denominator work long long′ room _ meets in
+    let found = ap (λ (r : CancelResult). r .found) e in
+    let left = ap (λ (r : CancelResult). r .work) e in
+    either _ (differs (in-denominator w) cancel-numbers (w .row .found) (w .row .denominator)) (both .1)
+    (λ k. differs-means (in-numerator w) cancel-numbers (w .row .found) (w .row .numerator) k numerator work a c
+    found (ap (λ (r : CancelResult). r .numerator-output) e) left)
+    (λ k. differs-means (in-denominator w) cancel-numbers (w .row .found) (w .row .denominator) k denominator work b c
+    found (ap (λ (r : CancelResult). r .denominator-output) e) left)
 
 pub image-refuted : (w : WrongImage) → wrong-image-test w ≡ true → ImageRefuted w
 unfolding wrong-image-test

@@ -1,6 +1,6 @@
 -- P1 to P12 hold, and so do the rows beside them: they pass their test, by computing. No other result meets the contract of a row's call.
 -- P1 is also what the bytes of the example file are answered; and beside the table stand the images that its rows name and the products that give its
--- polynomials, and rows of the quotient, the image, the reader, the writer and the picker.
+-- polynomials, and rows of the quotient, the Cancel key, the image, the reader, the writer and the picker.
 use mathlib.Core.Path.{_≡_, refl}
 use mathlib.Core.Bool.{true}
 use mathlib.Core.Logic.{Dec·not, Dec·and}
@@ -35,20 +35,24 @@ use Rattle.case_file.specs.writer.Check.{unwritable-decided}
 use Rattle.case_file.specs.reader.Examples.{example}
 use Rattle.console.specs.OfFile.{asked}
 use Rattle.console.specs.CandidateOfFile.{CandidateOfFile}
-use Rattle.proved_table.specs.Row.{result, Holds, Determined, QuotientHolds, Reads, Writes, Picks, Shows, Multiplies, Each}
+use Rattle.proved_table.specs.Row.{result, Holds, Determined, QuotientHolds, CancelRow, Cancels, CancelDetermined, ShortRefused, Reads, Writes, Picks}
+use Rattle.proved_table.specs.Row.{Shows, Multiplies, Each}
 use Rattle.proved_table.specs.test.TermDivision.{each-at-most, plus, less, less-all, before-all, leads, divided, division}
 use Rattle.proved_table.specs.test.Computed.{tried, divided-by, by-answer, with-counts, by-kept, by-least, by-looks, computed}
 use Rattle.proved_table.specs.test.Decisions.{count-decided, not-below-decided, key-decided, plain-term-decided, term-decided, number-decided}
 use Rattle.proved_table.specs.test.Decisions.{checks-append, list-checks, terms-checks, two-lists-checks, skeleton-checks, points-checks}
 use Rattle.proved_table.specs.test.Decisions.{point-checks, checks, image-checks}
-use Rattle.proved_table.specs.test.Rows.{same-numbers, agrees, passes, answers, test, image-passes, image-agrees, image-test}
+use Rattle.proved_table.specs.test.Rows.{listed-and, same-numbers, agrees, passes, answers, test, image-passes, image-agrees, image-test}
 use Rattle.proved_table.specs.test.Rows.{multiplies, right-lists, quotient-agrees, quotient-test}
+use Rattle.proved_table.specs.test.Cancels.{begins-with-one, hands-out, cancel-test}
+use Rattle.proved_table.specs.test.CancelsLaws.{cancel-tested, cancel-holds-determined, divisor-tested, short-tested}
 use Rattle.proved_table.specs.test.Writes.{write-checks, by-fault, right-write}
 use Rattle.proved_table.specs.test.WritesLaws.{right-write-meets}
 use Rattle.proved_table.specs.test.Picks.{lower-from, by-lengths, right-pick, pick-test}
 use Rattle.proved_table.specs.test.PicksLaws.{pick-tested}
 use Rattle.proved_table.specs.test.RowsLaws.{tested, holds-determined, quotient-tested, image-tested, multiplied, each-tested, each-follows}
 use Rattle.proved_table.specs.MoreRows.{more-rows, quotients, more-images, files, writes, picks}
+use Rattle.proved_table.specs.CancelRows.{cancels}
 use Rattle.proved_table.specs.Table.{images, products, p1, table}
 
 pub table-passes : (every test table ≡ true) × (every test more-rows ≡ true)
@@ -56,7 +60,8 @@ unfolding ℕ-discrete decLe decLt mono pow listed listed-decided el add mul neg
     decided cells plus-term with-term fold value-of size-to scaled monic between subtract downwards euclid gcd image-of-values
     image-of points-of lesser alike kept-of leading scaled-terms compare-by compare each-at-most plus less before-all leads
     divided division tried divided-by by-answer with-counts by-kept by-least by-looks computed count-decided not-below-decided key-decided
-    plain-term-decided term-decided number-decided checks-append list-checks skeleton-checks points-checks checks same-numbers agrees passes answers test
+    plain-term-decided term-decided number-decided checks-append list-checks skeleton-checks points-checks checks
+    listed-and same-numbers agrees passes answers test
 table-passes = (refl, refl)
 
 pub table-holds : Each Holds table
@@ -88,8 +93,34 @@ more-images-hold = each-tested image-test Shows image-tested more-images (images
 pub quotients-hold : Each QuotientHolds quotients
 unfolding ℕ-discrete decLe decLt listed listed-decided el add mul neg chase inv Fp-discrete Dec·not Dec·and placed-check look first-check decided
     compare-by compare each-at-most plus less less-all before-all leads divided division divided-by count-decided not-below-decided key-decided
-    plain-term-decided term-decided list-checks same-numbers right-lists multiplies quotient-agrees quotient-test
+    plain-term-decided term-decided list-checks listed-and same-numbers right-lists multiplies quotient-agrees quotient-test
 quotients-hold = each-tested quotient-test QuotientHolds quotient-tested quotients refl
+
+-- the Cancel key hands out those
+cancels-pass : every cancel-test cancels ≡ true
+unfolding ℕ-discrete decLe decLt mono pow listed listed-decided el add mul neg chase inv Fp-discrete Dec·not Dec·and placed-check look first-check
+    decided cells plus-term with-term fold value-of size-to scaled monic between subtract downwards euclid gcd image-of-values
+    image-of points-of lesser alike kept-of leading scaled-terms compare-by compare each-at-most plus less less-all before-all leads
+    divided division tried divided-by by-answer with-counts by-kept by-least by-looks computed count-decided not-below-decided key-decided
+    plain-term-decided term-decided number-decided checks-append list-checks skeleton-checks points-checks checks
+    listed-and same-numbers agrees passes answers test
+    right-lists multiplies begins-with-one hands-out cancel-test
+cancels-pass = refl
+
+pub cancels-hold : Each Cancels cancels
+cancels-hold = each-tested cancel-test Cancels cancel-tested cancels cancels-pass
+
+-- no other result meets the contract of its row's call
+pub cancels-determined : Each CancelDetermined cancels
+cancels-determined = each-follows Cancels CancelDetermined cancel-holds-determined cancels cancels-hold
+
+-- the rows of the candidate that they name hold
+pub divisors-hold : Each (λ (r : CancelRow). Holds (r .divisor)) cancels
+divisors-hold = each-tested cancel-test (λ (r : CancelRow). Holds (r .divisor)) divisor-tested cancels cancels-pass
+
+-- with either output too short each of them is refused with 10, and nothing else is let pass
+pub shorts-refused : Each ShortRefused cancels
+shorts-refused = each-tested cancel-test ShortRefused short-tested cancels cancels-pass
 
 -- the files are read so
 pub files-hold : Each Reads files

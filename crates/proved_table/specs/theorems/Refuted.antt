@@ -31,18 +31,21 @@ use Rattle.case_file.specs.Handed.{padded}
 use Rattle.case_file.specs.WriteCall.{triples}
 use Rattle.case_file.specs.writer.Check.{unwritable-decided}
 use Rattle.proved_table.specs.Row.{Each}
-use Rattle.proved_table.specs.test.Rows.{same-numbers, agrees, passes, answers, test, image-passes, image-agrees, image-test}
+use Rattle.proved_table.specs.test.Rows.{listed-and, same-numbers, agrees, passes, answers, test, image-passes, image-agrees, image-test}
 use Rattle.proved_table.specs.test.Rows.{multiplies, right-lists, quotient-agrees, quotient-test}
 use Rattle.proved_table.specs.test.RowsLaws.{each-tested}
+use Rattle.proved_table.specs.test.Cancels.{begins-with-one, hands-out, cancel-test}
 use Rattle.proved_table.specs.test.Writes.{write-checks, by-fault, right-write}
-use Rattle.proved_table.specs.Wrong.{Refuted, QuotientRefuted, ImageRefuted, FileRefuted, WriteRefuted, PickRefuted, PlaceRefuted, HeadRefuted}
+use Rattle.proved_table.specs.Wrong.{Refuted, QuotientRefuted, CancelRefuted, ImageRefuted, FileRefuted, WriteRefuted}
+use Rattle.proved_table.specs.Wrong.{PickRefuted, PlaceRefuted, HeadRefuted}
 use Rattle.proved_table.specs.WrongResults.{wrong-results}
 use Rattle.proved_table.specs.WrongServices.{wrong-quotients, wrong-images, wrong-files}
+use Rattle.proved_table.specs.WrongCancels.{wrong-cancels}
 use Rattle.proved_table.specs.WrongWrites.{wrong-writes}
 use Rattle.proved_table.specs.WrongPicks.{wrong-picks, wrong-places, wrong-heads}
-use Rattle.proved_table.specs.test.Wrong.{clash, left-full, differs, wrong-test, wrong-quotient-test, wrong-image-test, file-numbers, wrong-file-test}
-use Rattle.proved_table.specs.test.Wrong.{write-numbers, wrong-write-test}
-use Rattle.proved_table.specs.test.WrongLaws.{refuted, quotient-refuted, image-refuted, file-refuted, write-refuted}
+use Rattle.proved_table.specs.test.Wrong.{clash, left-full, differs, wrong-test, wrong-quotient-test, wrong-cancel-test, wrong-image-test}
+use Rattle.proved_table.specs.test.Wrong.{file-numbers, wrong-file-test, write-numbers, wrong-write-test}
+use Rattle.proved_table.specs.test.WrongLaws.{refuted, quotient-refuted, cancel-refuted, image-refuted, file-refuted, write-refuted}
 use Rattle.proved_table.specs.test.Picks.{lower-from, by-lengths, right-pick, wrong-pick-test, wrong-place-test, wrong-head-test}
 use Rattle.proved_table.specs.test.PicksLaws.{pick-refuted, place-refuted, head-refuted}
 
@@ -52,7 +55,8 @@ unfolding ℕ-discrete decLe decLt mono pow listed listed-decided el add mul neg
     decided cells plus-term with-term fold value-of size-to scaled monic between subtract downwards euclid gcd image-of-values
     image-of points-of lesser alike kept-of leading scaled-terms compare-by compare each-at-most plus less before-all leads
     divided division tried divided-by by-answer with-counts by-kept by-least by-looks computed count-decided not-below-decided key-decided
-    plain-term-decided term-decided number-decided checks-append list-checks skeleton-checks points-checks checks same-numbers agrees passes answers test
+    plain-term-decided term-decided number-decided checks-append list-checks skeleton-checks points-checks checks
+    listed-and same-numbers agrees passes answers test
     clash left-full differs wrong-test
 wrong-results-refuted = each-tested wrong-test Refuted refuted wrong-results refl
 
@@ -60,8 +64,20 @@ wrong-results-refuted = each-tested wrong-test Refuted refuted wrong-results ref
 pub wrong-quotients-refuted : Each QuotientRefuted wrong-quotients
 unfolding ℕ-discrete decLe decLt listed listed-decided el add mul neg chase inv Fp-discrete Dec·not Dec·and placed-check look first-check decided
     compare-by compare each-at-most plus less less-all before-all leads divided division divided-by count-decided not-below-decided key-decided
-    plain-term-decided term-decided list-checks same-numbers right-lists multiplies quotient-agrees quotient-test clash left-full differs wrong-quotient-test
+    plain-term-decided term-decided list-checks listed-and same-numbers right-lists multiplies quotient-agrees quotient-test
+    clash left-full differs wrong-quotient-test
 wrong-quotients-refuted = each-tested wrong-quotient-test QuotientRefuted quotient-refuted wrong-quotients refl
+
+-- of the Cancel key
+pub wrong-cancels-refuted : Each CancelRefuted wrong-cancels
+unfolding ℕ-discrete decLe decLt mono pow listed listed-decided el add mul neg chase inv Fp-discrete Dec·not Dec·and placed-check look first-check
+    decided cells plus-term with-term fold value-of size-to scaled monic between subtract downwards euclid gcd image-of-values
+    image-of points-of lesser alike kept-of leading scaled-terms compare-by compare each-at-most plus less less-all before-all leads
+    divided division tried divided-by by-answer with-counts by-kept by-least by-looks computed count-decided not-below-decided key-decided
+    plain-term-decided term-decided number-decided checks-append list-checks skeleton-checks points-checks checks
+    listed-and same-numbers agrees passes answers test
+    right-lists multiplies begins-with-one hands-out cancel-test clash left-full differs wrong-cancel-test
+wrong-cancels-refuted = each-tested wrong-cancel-test CancelRefuted cancel-refuted wrong-cancels refl
 
 -- of the image
 pub wrong-images-refuted : Each ImageRefuted wrong-images

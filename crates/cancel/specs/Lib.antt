@@ -1,0 +1,5 @@
+-- The Cancel key: the call, and what follows from its promise.
+pub mod CancelCall
+pub mod Cancelled
+pub mod scaling
+pub mod cancelling
