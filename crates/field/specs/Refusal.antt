@@ -31,6 +31,10 @@ fault number place = record { number = number; place = place }
 abbrev pub none : Fault
 none = fault 0 0
 
+-- a record told in numbers: those of its fault, then the rest
+abbrev pub after-fault : Fault → List ℕ → List ℕ
+after-fault f rest = f .number ∷ f .place ∷ rest
+
 -- the first line that applies gives the fault
 abbrev pub Refuses : List Line → Fault → Type 0
 Refuses [] f = ⊥

@@ -1,5 +1,6 @@
--- Laws of tables of refusals: a table gives one fault at most, and does not both pass and refuse; a table may be tested part by part.
-use mathlib.Core.Path.{_≡_, refl, sym, _∙_, ap}
+-- Laws of faults and of tables of refusals: a fault is known by its numbers; a table gives one fault at most, and does not both pass and refuse; a table
+-- may be tested part by part.
+use mathlib.Core.Path.{_≡_, refl, sym, _∙_, ap, subst}
 use mathlib.Core.Logic.{inl, inr}
 use mathlib.Core.Bool.{Bool, true, _&&_}
 use mathlib.Core.List.{List, [], _∷_, _++_}
@@ -7,9 +8,14 @@ use Prim.Native.Nat.{ℕ}
 use native.Mathlib.Decide.{decLt}
 use native.Mathlib.Omega.{arith}
 use lib.Dec.{T, ltb, ltb→lt}
+use lib.ListN.{getD, drop}
 use mir.Facts.{and-yes}
 use Rattle.field.specs.declared.faults.Fault.{Fault}
-use Rattle.field.specs.Refusal.{Line, placed, whole, first, fault, none, Refuses, Passes, Tested, refused, passed}
+use Rattle.field.specs.Refusal.{Line, placed, whole, first, fault, none, after-fault, Refuses, Passes, Tested, refused, passed}
+
+-- a fault, and what stands behind it, are known by their numbers
+pub after-fault-known : (X : Fault → List ℕ → Type 0) (f g : Fault) (rest more : List ℕ) → after-fault f rest ≡ after-fault g more → X f rest → X g more
+after-fault-known X f g rest more e x = subst (λ (l : List ℕ). X (fault (getD l 0 0) (getD l 1 0)) (drop 2 l)) e x
 
 -- each line has one place
 abbrev pub OnePlaceEach : List Line → Type 0
