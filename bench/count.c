@@ -6,7 +6,7 @@ enum { KEYS = 4096, WORK_ROOM = 8192 };
 
 static uint32_t out[KEYS], denominator_out[KEYS];
 static uint16_t work[WORK_ROOM];
-static length record[8];
+static length record[9];
 static const workload *now;
 
 #define CANDIDATE(f) f(now->modulus, now->first, now->first_terms, now->second, now->second_terms, now->skeleton, now->keys, now->points, now->numbers, out, KEYS, work, WORK_ROOM, record)

@@ -17,7 +17,7 @@ static uint32_t out[KEYS], denominator_out[KEYS];
 static uint16_t work[WORK_ROOM];
 static uint16_t coefficients[8];
 static uint8_t buffer[BUFFER];
-static length record[8];
+static length record[9];
 static const workload *now;
 static nmod_mpoly_ctx_t ring;
 static nmod_mpoly_t first, second, divisor, found, first_over, second_over;
@@ -104,7 +104,7 @@ static void same(void (*library)(void), void (*twin)(void), const char *what) {
     static uint32_t library_out[KEYS], library_denominator[KEYS];
     static uint8_t library_buffer[BUFFER];
     uint16_t library_coefficients[8];
-    length library_record[8];
+    length library_record[9];
     forget();
     library();
     if (record[0] != 0)
@@ -124,13 +124,13 @@ static void same(void (*library)(void), void (*twin)(void), const char *what) {
 
 static void agree_on_algebra(void) {
     same(library_candidate, twin_of_candidate, "candidate: the twin's answer is not the library's");
-    if (record[6] != now->divisor_terms || memcmp(out, now->divisor, record[6] * sizeof *out))
+    if (record[7] != now->divisor_terms || memcmp(out, now->divisor, record[7] * sizeof *out))
         fail("candidate: not the planted divisor");
     flint_gcd();
-    same_terms(out, record[6], found);
+    same_terms(out, record[7], found);
     same(library_divisions, twin_divisions, "quotient: the twin's answer is not the library's");
     flint_divisions();
-    same_terms(out, record[2], found);
+    same_terms(out, record[3], found);
     same(library_image, twin_of_image, "image: the twin's answer is not the library's");
 }
 
@@ -141,8 +141,8 @@ static void agree_on_key(void) {
     ulong inverse = n_invmod(nmod_mpoly_get_term_coeff_ui(second_over, 0, ring), now->modulus);
     nmod_mpoly_scalar_mul_ui(first_over, first_over, inverse, ring);
     nmod_mpoly_scalar_mul_ui(second_over, second_over, inverse, ring);
-    same_terms(out, record[6], first_over);
-    same_terms(denominator_out, record[7], second_over);
+    same_terms(out, record[7], first_over);
+    same_terms(denominator_out, record[8], second_over);
 }
 
 static void agree_on_lists(void) {

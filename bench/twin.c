@@ -14,7 +14,10 @@ enum { KEYS = 4096, COEFFICIENTS = 65536, WORK_ROOM = 2 * KEYS, COLUMNS = 64, MO
 
 typedef struct { uint16_t cells[COLUMNS]; } row;
 typedef struct { row rows[COLUMNS]; size_t columns; } table;
-typedef struct { size_t number, place; } fault;
+typedef struct { size_t number, list, place; } fault;
+
+/* The list at fault, or 0. */
+enum { LIST_FIRST = 1, LIST_SECOND, LIST_SKELETON, LIST_POINTS, LIST_OUTPUT, LIST_WORK };
 
 /* Arithmetic. */
 
@@ -49,31 +52,31 @@ static uint16_t y_of(uint16_t key) { return key >> 6 & 7; }
 static uint16_t z_of(uint16_t key) { return key >> 3 & 7; }
 static uint16_t w_of(uint16_t key) { return key & 7; }
 
-static fault list_fault(size_t count, size_t term, uint32_t bound, const uint32_t *terms, size_t n) {
+static fault list_fault(size_t count, size_t term, size_t list, uint32_t bound, const uint32_t *terms, size_t n) {
     uint16_t before = KEYS;
     if (n == 0 || n > MOST_TERMS)
-        return (fault){count, 0};
+        return (fault){count, list, 0};
     for (size_t i = 0; i < n; i++) {
         uint16_t key = key_of(terms[i]), coefficient = coefficient_of(terms[i]);
         if (key >= before || coefficient == 0 || coefficient >= bound)
-            return (fault){term, i};
+            return (fault){term, list, i};
         before = key;
     }
-    return (fault){0, 0};
+    return (fault){0, 0, 0};
 }
 
 static fault lists_fault(uint16_t p, const uint32_t *first, size_t n, const uint32_t *second, size_t m) {
     if (!is_modulus(p))
-        return (fault){1, 0};
-    fault found = list_fault(2, 3, p, first, n);
-    return found.number ? found : list_fault(4, 5, p, second, m);
+        return (fault){1, 0, 0};
+    fault found = list_fault(2, 3, LIST_FIRST, p, first, n);
+    return found.number ? found : list_fault(4, 5, LIST_SECOND, p, second, m);
 }
 
 static fault numbers_fault(uint16_t p, const uint16_t *numbers, size_t n) {
     for (size_t i = 0; i < n; i++)
         if (numbers[i] >= p)
-            return (fault){9, i};
-    return (fault){0, 0};
+            return (fault){9, LIST_POINTS, i};
+    return (fault){0, 0, 0};
 }
 
 /* The value and the image at a point. */
@@ -284,8 +287,8 @@ enum { MODULUS = 1, FIRST, SECOND, SKELETON, POINT, END };
 
 static fault write_fault(size_t n, size_t m, size_t keys, size_t numbers, size_t bytes) {
     if (n > MOST_TERMS || m > MOST_TERMS || keys > MOST_KEYS || numbers > 3 * MOST_POINTS || numbers % 3 != 0)
-        return (fault){26, 0};
-    return bytes < 4 + 5 * (n + m) + 3 * keys + 7 * (numbers / 3) ? (fault){27, 0} : (fault){0, 0};
+        return (fault){26, 0, 0};
+    return bytes < 4 + 5 * (n + m) + 3 * keys + 7 * (numbers / 3) ? (fault){27, 0, 0} : (fault){0, 0, 0};
 }
 
 static uint8_t *put(uint8_t *at, uint16_t number) {
@@ -329,12 +332,18 @@ static uint8_t *put_points(uint8_t *at, const uint16_t *points, size_t numbers) 
 
 /* The calls. */
 
-void twin_write(uint16_t p, const uint32_t *first, length n, const uint32_t *second, length m, const uint16_t *skeleton, length keys,
-                const uint16_t *points, length numbers, uint8_t *buffer, length buffer_bytes, length record[3]) {
-    fault found = write_fault(n, m, keys, numbers, buffer_bytes);
+/* What every record begins with. */
+static void begin(length *record, fault found) {
     record[0] = found.number;
-    record[1] = found.place;
-    record[2] = 0;
+    record[1] = found.list;
+    record[2] = found.place;
+}
+
+void twin_write(uint16_t p, const uint32_t *first, length n, const uint32_t *second, length m, const uint16_t *skeleton, length keys,
+                const uint16_t *points, length numbers, uint8_t *buffer, length buffer_bytes, length record[4]) {
+    fault found = write_fault(n, m, keys, numbers, buffer_bytes);
+    begin(record, found);
+    record[3] = 0;
     if (found.number)
         return;
     uint8_t *at = put_key(buffer, MODULUS, p);
@@ -343,44 +352,42 @@ void twin_write(uint16_t p, const uint32_t *first, length n, const uint32_t *sec
     at = put_keys(at, skeleton, keys);
     at = put_points(at, points, numbers);
     *at++ = END;
-    record[2] = (length)(at - buffer);
+    record[3] = (length)(at - buffer);
 }
 
 void twin_image(uint16_t p, const uint32_t *first, length n, const uint32_t *second, length m, const uint16_t *point, length numbers,
-                uint16_t u[8], length record[3]) {
+                uint16_t u[8], length record[4]) {
     fault found = lists_fault(p, first, n, second, m);
     if (!found.number)
-        found = numbers != 3 ? (fault){8, 0} : numbers_fault(p, point, numbers);
+        found = numbers != 3 ? (fault){8, LIST_POINTS, 0} : numbers_fault(p, point, numbers);
     memset(u, 0, 8 * sizeof *u);
-    record[0] = found.number;
-    record[1] = found.place;
-    record[2] = 0;
+    begin(record, found);
+    record[3] = 0;
     if (found.number)
         return;
     size_t s = image(p, first, n, second, m, point, u);
     if (s == 0)
         record[0] = 12;
     else
-        record[2] = s - 1;
+        record[3] = s - 1;
 }
 
 void twin_quotient(uint16_t p, const uint32_t *first, length n, const uint32_t *second, length m, uint32_t *out, length out_terms,
-                   uint16_t *work, length work_numbers, length record[3]) {
+                   uint16_t *work, length work_numbers, length record[4]) {
     fault found = lists_fault(p, first, n, second, m);
     if (!found.number && out_terms < KEYS)
-        found = (fault){10, 0};
+        found = (fault){10, LIST_OUTPUT, 0};
     if (!found.number && work_numbers < WORK_ROOM)
-        found = (fault){11, 0};
-    record[0] = found.number;
-    record[1] = found.place;
-    record[2] = 0;
+        found = (fault){11, LIST_WORK, 0};
+    begin(record, found);
+    record[3] = 0;
     if (found.number)
         return;
     memset(work, 0, WORK_ROOM * sizeof *work);
     if (divide(p, first, n, second, m, work)) {
         for (size_t k = KEYS; k-- > 0;)
             if (work[KEYS + k] != 0)
-                out[record[2]++] = (uint32_t)k << 16 | work[KEYS + k];
+                out[record[3]++] = (uint32_t)k << 16 | work[KEYS + k];
     } else
         record[0] = 15;
     memset(work, 0, WORK_ROOM * sizeof *work);
@@ -392,16 +399,16 @@ static fault candidate_fault(uint16_t p, const uint32_t *first, size_t n, const 
     if (found.number)
         return found;
     if (keys == 0 || keys > MOST_KEYS)
-        return (fault){6, 0};
+        return (fault){6, LIST_SKELETON, 0};
     for (size_t i = 0; i < keys; i++)
         if (skeleton[i] >= (i ? skeleton[i - 1] : KEYS))
-            return (fault){7, i};
+            return (fault){7, LIST_SKELETON, i};
     if (numbers == 0 || numbers > 3 * MOST_POINTS || numbers % 3 != 0)
-        return (fault){8, 0};
+        return (fault){8, LIST_POINTS, 0};
     found = numbers_fault(p, points, numbers);
     if (found.number)
         return found;
-    return out_terms < keys ? (fault){10, 0} : work_numbers < WORK_ROOM ? (fault){11, 0} : found;
+    return out_terms < keys ? (fault){10, LIST_OUTPUT, 0} : work_numbers < WORK_ROOM ? (fault){11, LIST_WORK, 0} : found;
 }
 
 /* The verdict on the equations: a number, and the divisor's terms. */
@@ -429,12 +436,11 @@ static size_t verdict(const table *t, uint16_t p, const uint32_t *first, size_t 
 }
 
 void twin_candidate(uint16_t p, const uint32_t *first, length n, const uint32_t *second, length m, const uint16_t *skeleton, length keys,
-                    const uint16_t *points, length numbers, uint32_t *out, length out_terms, uint16_t *work, length work_numbers, length record[7]) {
+                    const uint16_t *points, length numbers, uint32_t *out, length out_terms, uint16_t *work, length work_numbers, length record[8]) {
     size_t sizes[MOST_POINTS], least = 0, bad = 0, kept = 0, count = numbers / 3, next = 0;
     fault found = candidate_fault(p, first, n, second, m, skeleton, keys, points, numbers, out_terms, work_numbers);
-    memset(record, 0, 7 * sizeof *record);
-    record[0] = found.number;
-    record[1] = found.place;
+    memset(record, 0, 8 * sizeof *record);
+    begin(record, found);
     if (found.number)
         return;
     for (size_t i = 0; i < count; i++) {
@@ -446,15 +452,15 @@ void twin_candidate(uint16_t p, const uint32_t *first, length n, const uint32_t 
         bad += sizes[i] == 0;
         kept += sizes[i] == least;
     }
-    record[3] = bad;
+    record[4] = bad;
     if (least == 0) {
         memset(work, 0, WORK_ROOM * sizeof *work);
         record[0] = 12;
         return;
     }
-    record[2] = least - 1;
-    record[4] = count - bad - kept;
-    record[5] = kept;
+    record[3] = least - 1;
+    record[5] = count - bad - kept;
+    record[6] = kept;
     table t;
     memset(&t, 0, sizeof t);
     t.columns = keys + kept;
@@ -463,7 +469,7 @@ void twin_candidate(uint16_t p, const uint32_t *first, length n, const uint32_t 
             point_equations(&t, p, skeleton, keys, points + 3 * i, work + 8 * i, next == 0 ? t.columns - 1 : keys + next - 1);
             next++;
         }
-    record[0] = verdict(&t, p, first, n, second, m, skeleton, keys, out, work, &record[6]);
+    record[0] = verdict(&t, p, first, n, second, m, skeleton, keys, out, work, &record[7]);
 }
 
 /* Each coefficient times the factor. */
@@ -475,19 +481,19 @@ static void scale(uint16_t p, uint16_t factor, uint32_t *terms, size_t n) {
 /* Without room for its divisor the candidate refuses with 10, which is where a short output of the key stands. */
 void twin_cancel(uint16_t p, const uint32_t *numerator, length n, const uint32_t *denominator, length m, const uint16_t *skeleton, length keys,
                  const uint16_t *points, length numbers, uint32_t *numerator_out, length numerator_room, uint32_t *denominator_out,
-                 length denominator_room, uint16_t *work, length work_numbers, length record[8]) {
+                 length denominator_room, uint16_t *work, length work_numbers, length record[9]) {
     uint32_t divisor[MOST_KEYS];
-    length quotient[3], room = numerator_room < KEYS || denominator_room < KEYS ? 0 : MOST_KEYS;
+    length quotient[4], room = numerator_room < KEYS || denominator_room < KEYS ? 0 : MOST_KEYS;
     twin_candidate(p, numerator, n, denominator, m, skeleton, keys, points, numbers, divisor, room, work, work_numbers, record);
-    size_t terms = record[6];
-    record[7] = 0;
+    size_t terms = record[7];
+    record[8] = 0;
     if (record[0])
         return;
     scale(p, coefficient_of(denominator[0]), divisor, terms);
     twin_quotient(p, numerator, n, divisor, terms, numerator_out, numerator_room, work, work_numbers, quotient);
-    record[6] = quotient[2];
+    record[7] = quotient[3];
     twin_quotient(p, denominator, m, divisor, terms, denominator_out, denominator_room, work, work_numbers, quotient);
-    record[7] = quotient[2];
+    record[8] = quotient[3];
 }
 
 /* How many terms have the highest power of x. */
@@ -501,7 +507,7 @@ static size_t leading_length(const uint32_t *terms, size_t n) {
 void twin_shorter_part(const uint32_t *first, length n, const uint32_t *second, length m, length part[2]) {
     part[0] = 0;
     part[1] = 1;
-    if (list_fault(2, 3, COEFFICIENTS, first, n).number || list_fault(4, 5, COEFFICIENTS, second, m).number)
+    if (list_fault(2, 3, LIST_FIRST, COEFFICIENTS, first, n).number || list_fault(4, 5, LIST_SECOND, COEFFICIENTS, second, m).number)
         return;
     size_t a = leading_length(first, n), b = leading_length(second, m);
     part[0] = b < a ? b : a;

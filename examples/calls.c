@@ -157,49 +157,49 @@ static void ask_candidate(void)
 {
     uint16_t p = small();
     size_t a = terms(first), b = terms(second), keys = numbers(skeleton, MOST_KEYS), n = numbers(points, MOST_NUMBERS);
-    size_t output_count = lend_output(out), work_count = lend_work(), record[7];
+    size_t output_count = lend_output(out), work_count = lend_work(), record[8];
     if (!is_call())
         return;
     balungkiro_candidate(p, first, a, second, b, skeleton, keys, points, n, out, output_count, work, work_count, record);
-    print_record(record, 7);
-    print_rooms(record[6], output_count, work_count);
+    print_record(record, 8);
+    print_rooms(record[7], output_count, work_count);
 }
 
 static void ask_cancel(void)
 {
     uint16_t p = small();
     size_t a = terms(first), b = terms(second), keys = numbers(skeleton, MOST_KEYS), n = numbers(points, MOST_NUMBERS);
-    size_t numerator_count = lend_output(out), denominator_count = lend_output(denominator_out), work_count = lend_work(), record[8];
+    size_t numerator_count = lend_output(out), denominator_count = lend_output(denominator_out), work_count = lend_work(), record[9];
     if (!is_call())
         return;
     balungkiro_cancel(p, first, a, second, b, skeleton, keys, points, n, out, numerator_count, denominator_out, denominator_count,
                       work, work_count, record);
-    print_record(record, 8);
-    print_terms(out, record[6]);
-    print_terms(denominator_out, record[7]);
-    printf(" | %zu %zu", output_left(out, record[6], numerator_count), output_left(denominator_out, record[7], denominator_count));
+    print_record(record, 9);
+    print_terms(out, record[7]);
+    print_terms(denominator_out, record[8]);
+    printf(" | %zu %zu", output_left(out, record[7], numerator_count), output_left(denominator_out, record[8], denominator_count));
     print_work(work_count);
 }
 
 static void ask_quotient(void)
 {
     uint16_t p = small();
-    size_t a = terms(first), b = terms(second), output_count = lend_output(out), work_count = lend_work(), record[3];
+    size_t a = terms(first), b = terms(second), output_count = lend_output(out), work_count = lend_work(), record[4];
     if (!is_call())
         return;
     balungkiro_quotient(p, first, a, second, b, out, output_count, work, work_count, record);
-    print_record(record, 3);
-    print_rooms(record[2], output_count, work_count);
+    print_record(record, 4);
+    print_rooms(record[3], output_count, work_count);
 }
 
 static void ask_image(void)
 {
     uint16_t p = small(), u[BALUNGKIRO_COEFFICIENTS] = { MARK, MARK, MARK, MARK, MARK, MARK, MARK, MARK };
-    size_t a = terms(first), b = terms(second), n = numbers(points, MOST_NUMBERS), record[3], i;
+    size_t a = terms(first), b = terms(second), n = numbers(points, MOST_NUMBERS), record[4], i;
     if (!is_call())
         return;
     balungkiro_image(p, first, a, second, b, points, n, u, record);
-    print_record(record, 3);
+    print_record(record, 4);
     printf(" |");
     for (i = 0; i < BALUNGKIRO_COEFFICIENTS; i++)
         printf(" %u", u[i]);
@@ -208,22 +208,22 @@ static void ask_image(void)
 
 static void ask_list(void)
 {
-    size_t n = terms(first), record[2];
+    size_t n = terms(first), record[3];
     if (!is_call())
         return;
     balungkiro_check_list(first, n, record);
-    print_record(record, 2);
+    print_record(record, 3);
     printf(" | %zu\n", balungkiro_leading_part(first, n));
 }
 
 static void ask_lists(void)
 {
-    size_t a = terms(first), b = terms(second), record[2], part[2];
+    size_t a = terms(first), b = terms(second), record[3], part[2];
     if (!is_call())
         return;
     balungkiro_check_lists(first, a, second, b, record);
     balungkiro_shorter_part(first, a, second, b, part);
-    print_record(record, 2);
+    print_record(record, 3);
     printf(" | ");
     print_record(part, 2);
     printf("\n");
@@ -233,22 +233,22 @@ static void ask_lists(void)
 static void ask_arithmetic(void (*operation)(uint16_t, uint16_t, uint16_t, uint16_t, size_t *))
 {
     uint16_t modulus = small(), value = small(), other_modulus = small(), other_value = small();
-    size_t record[4];
+    size_t record[5];
     if (!is_call())
         return;
     operation(modulus, value, other_modulus, other_value, record);
-    print_record(record, 4);
+    print_record(record, 5);
     printf("\n");
 }
 
 static void ask_inverse(void)
 {
     uint16_t modulus = small(), value = small();
-    size_t record[4];
+    size_t record[5];
     if (!is_call())
         return;
     balungkiro_inverse(modulus, value, record);
-    print_record(record, 4);
+    print_record(record, 5);
     printf("\n");
 }
 
@@ -256,24 +256,24 @@ static void ask_write(void)
 {
     uint16_t p = small();
     size_t a = terms(first), b = terms(second), keys = numbers(skeleton, MOST_KEYS), n = numbers(points, MOST_NUMBERS);
-    size_t count = lend_buffer(), record[3];
+    size_t count = lend_buffer(), record[4];
     if (!is_call())
         return;
     balungkiro_write(p, first, a, second, b, skeleton, keys, points, n, buffer, count, record);
-    print_record(record, 3);
+    print_record(record, 4);
     print_buffer(count);
 }
 
 static void ask_copy(void)
 {
-    size_t length = bytes(), count = lend_buffer(), read[7], record[3];
+    size_t length = bytes(), count = lend_buffer(), read[8], record[4];
     if (!is_call())
         return;
     balungkiro_read(file, length, first, second, skeleton, points, read);
-    balungkiro_write((uint16_t)read[2], first, read[3], second, read[4], skeleton, read[5], points, read[6], buffer, count, record);
-    print_record(read, 7);
+    balungkiro_write((uint16_t)read[3], first, read[4], second, read[5], skeleton, read[6], points, read[7], buffer, count, record);
+    print_record(read, 8);
     printf(" | ");
-    print_record(record, 3);
+    print_record(record, 4);
     print_buffer(count);
 }
 

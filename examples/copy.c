@@ -12,14 +12,14 @@ static uint16_t skeleton[BALUNGKIRO_KEYS], points[BALUNGKIRO_POINT_NUMBERS];
 
 int main(void)
 {
-    size_t count = fread(file, 1, sizeof file, stdin), read[7], written[3];
+    size_t count = fread(file, 1, sizeof file, stdin), read[8], written[4];
     balungkiro_read(file, count, first, second, skeleton, points, read);
     if (read[0] != 0) {
-        printf("%zu %zu\n", read[0], read[1]);
+        printf("%zu %zu\n", read[0], read[2]);
         return 0;
     }
-    balungkiro_write((uint16_t)read[2], first, read[3], second, read[4], skeleton, read[5], points, read[6], copy, sizeof copy, written);
-    if (written[0] != 0 || written[2] != count || memcmp(copy, file, count) != 0) {
+    balungkiro_write((uint16_t)read[3], first, read[4], second, read[5], skeleton, read[6], points, read[7], copy, sizeof copy, written);
+    if (written[0] != 0 || written[3] != count || memcmp(copy, file, count) != 0) {
         printf("different\n");
         return 1;
     }

@@ -1,4 +1,5 @@
-/* Asks each service of the library where it answers and where it refuses, and prints the records with what is left in the buffers.
+/* Asks each service of the library where it answers and where it refuses, and prints the records with what is left in the buffers. Each of
+ * the six lists is refused, and the place 1 is that of a term of the first, a term of the second, a key and a coordinate.
  * A = x^2 y - y and B = x + 1 modulo 17: A over B is xy - y. At y = 0 A is 0, and the x-leading coefficient of C = x^2 y + 5x + 5 is.
  * D = 3x^2 + 6x + 3 is 3B^2: with B struck out, A over D is 6xy - 6y over x + 1. */
 #include "balungkiro.h"
@@ -29,7 +30,7 @@ static void print_record(const char *call, const size_t *record, size_t count)
 static void image(const char *call, const uint32_t *first, size_t m, const uint32_t *second, size_t n, const uint16_t *point, size_t count)
 {
     uint16_t u[BALUNGKIRO_COEFFICIENTS] = { 9, 9, 9, 9, 9, 9, 9, 9 };
-    size_t record[3], i;
+    size_t record[4], i;
     balungkiro_image(P, first, m, second, n, point, count, u, record);
     print_record(call, record, COUNT(record));
     for (i = 0; i < COUNT(u); i++)
@@ -42,30 +43,30 @@ static void quotient(const char *call, const uint32_t *first, size_t m, const ui
 {
     static uint32_t out[BALUNGKIRO_QUOTIENT + 1];
     static uint16_t work[BALUNGKIRO_WORK + 1];
-    size_t record[3], i, left = 0, nonzero = 0;
+    size_t record[4], i, left = 0, nonzero = 0;
     for (i = 0; i < COUNT(out); i++)
         out[i] = 9;
     for (i = 0; i < COUNT(work); i++)
         work[i] = 9;
     balungkiro_quotient(P, first, m, second, n, out, COUNT(out), work, room, record);
     print_record(call, record, COUNT(record));
-    for (i = 0; i < record[2]; i++)
+    for (i = 0; i < record[3]; i++)
         printf("  term %lu\n", (unsigned long)out[i]);
-    for (i = record[2]; i < COUNT(out); i++)
+    for (i = record[3]; i < COUNT(out); i++)
         left += out[i] == 9;
     for (i = 0; i < COUNT(work); i++)
         nonzero += work[i] != 0;
     printf("  %zu left in the output, %zu not 0 in the work room\n", left, nonzero);
 }
 
-/* The common divisor of A and B in the monomials x and 1, in an output whose two numbers are 9 before the call. */
-static void candidate(const char *call, size_t room)
+/* The common divisor of A and B in two monomials, in an output whose two numbers are 9 before the call. */
+static void candidate(const char *call, const uint16_t skeleton[2], size_t room)
 {
-    static const uint16_t skeleton[] = { X, 0 }, points[] = { 0, 0, 0, 1, 0, 0 };
+    static const uint16_t points[] = { 0, 0, 0, 1, 0, 0 };
     static uint16_t work[BALUNGKIRO_WORK];
     uint32_t out[2] = { 9, 9 };
-    size_t record[7];
-    balungkiro_candidate(P, A, COUNT(A), B, COUNT(B), skeleton, COUNT(skeleton), points, COUNT(points),
+    size_t record[8];
+    balungkiro_candidate(P, A, COUNT(A), B, COUNT(B), skeleton, 2, points, COUNT(points),
                          out, room, work, COUNT(work), record);
     print_record(call, record, COUNT(record));
     printf("  output %lu %lu\n", (unsigned long)out[0], (unsigned long)out[1]);
@@ -90,7 +91,7 @@ static void cancel(const char *call, size_t degree, size_t point_count, size_t n
     static const uint16_t powers[] = { 2 * X, X, 0 }, points[] = { 0, 0, 0, 1, 0, 0 };
     static uint32_t numerator[BALUNGKIRO_QUOTIENT + 1], denominator[BALUNGKIRO_QUOTIENT + 1];
     static uint16_t work[BALUNGKIRO_WORK + 1];
-    size_t record[8], i, nonzero = 0;
+    size_t record[9], i, nonzero = 0;
     for (i = 0; i < COUNT(numerator); i++)
         numerator[i] = denominator[i] = 9;
     for (i = 0; i < COUNT(work); i++)
@@ -98,8 +99,8 @@ static void cancel(const char *call, size_t degree, size_t point_count, size_t n
     balungkiro_cancel(P, A, COUNT(A), D, COUNT(D), powers + 2 - degree, degree + 1, points, 3 * point_count,
                       numerator, numerator_room, denominator, denominator_room, work, COUNT(work), record);
     print_record(call, record, COUNT(record));
-    print_output("numerator", numerator, record[6], COUNT(numerator));
-    print_output("denominator", denominator, record[7], COUNT(denominator));
+    print_output("numerator", numerator, record[7], COUNT(numerator));
+    print_output("denominator", denominator, record[8], COUNT(denominator));
     for (i = 0; i < COUNT(work); i++)
         nonzero += work[i] != 0;
     printf("  %zu not 0 in the work room\n", nonzero);
@@ -107,7 +108,7 @@ static void cancel(const char *call, size_t degree, size_t point_count, size_t n
 
 static void list(const char *call, const uint32_t *terms, size_t count)
 {
-    size_t record[2];
+    size_t record[3];
     balungkiro_check_list(terms, count, record);
     print_record(call, record, COUNT(record));
     printf("  leading part %zu\n", balungkiro_leading_part(terms, count));
@@ -115,7 +116,7 @@ static void list(const char *call, const uint32_t *terms, size_t count)
 
 static void lists(const char *call, const uint32_t *first, size_t m, const uint32_t *second, size_t n)
 {
-    size_t record[2], part[2];
+    size_t record[3], part[2];
     balungkiro_check_lists(first, m, second, n, record);
     print_record(call, record, COUNT(record));
     balungkiro_shorter_part(first, m, second, n, part);
@@ -124,7 +125,7 @@ static void lists(const char *call, const uint32_t *first, size_t m, const uint3
 
 static void arithmetic(uint16_t modulus, uint16_t value, uint16_t other_modulus, uint16_t other_value)
 {
-    size_t record[4];
+    size_t record[5];
     printf("%u and %u modulo %u and %u\n", value, other_value, modulus, other_modulus);
     balungkiro_sum(modulus, value, other_modulus, other_value, record);
     print_record("  sum", record, COUNT(record));
@@ -142,7 +143,7 @@ static void file(const char *call, size_t count)
     static const uint8_t bytes[] = { 1, 17, 0, 2, 1, 0, 0, 4, 6, 0 };
     uint32_t first[BALUNGKIRO_TERMS], second[BALUNGKIRO_TERMS];
     uint16_t skeleton[BALUNGKIRO_KEYS], points[BALUNGKIRO_POINT_NUMBERS];
-    size_t record[7], i, nonzero = 0;
+    size_t record[8], i, nonzero = 0;
     memset(first, 9, sizeof first);
     memset(second, 9, sizeof second);
     memset(skeleton, 9, sizeof skeleton);
@@ -164,7 +165,7 @@ static void writing(const char *call, size_t point_numbers, size_t room)
     static const uint32_t first[] = { TERM(2 * X, 1) }, second[] = { 0 };
     static const uint16_t skeleton[] = { 0 }, points[] = { 1, 2, 65535 };
     uint8_t buffer[17];
-    size_t record[3], i;
+    size_t record[4], i;
     memset(buffer, 9, sizeof buffer);
     balungkiro_write(P, first, COUNT(first), second, 0, skeleton, 0, points, point_numbers, buffer, room, record);
     print_record(call, record, COUNT(record));
@@ -183,6 +184,14 @@ static void images(void)
     image("image of A and C at y=0, a bad point", A, COUNT(A), C, COUNT(C), zero, COUNT(zero));
     image("image at two numbers", A, COUNT(A), B, COUNT(B), one, 2);
     image("image at z=17", A, COUNT(A), B, COUNT(B), large, COUNT(large));
+}
+
+static void candidates(void)
+{
+    static const uint16_t falling[] = { X, 0 }, rising[] = { 0, X };
+    candidate("candidate of A and B", falling, 2);
+    candidate("candidate with rising keys", rising, 2);
+    candidate("candidate in a short output", falling, 1);
 }
 
 static void leading_parts(void)
@@ -208,8 +217,7 @@ int main(void)
     quotient("B over A", B, COUNT(B), A, COUNT(A), BALUNGKIRO_WORK);
     quotient("A over B in a short work room", A, COUNT(A), B, COUNT(B), BALUNGKIRO_WORK - 1);
     quotient("A over no list", A, COUNT(A), B, 0, BALUNGKIRO_WORK);
-    candidate("candidate of A and B", 2);
-    candidate("candidate in a short output", 1);
+    candidates();
     cancel("cancel of A over D", 1, 2, BALUNGKIRO_QUOTIENT + 1, BALUNGKIRO_QUOTIENT);
     cancel("cancel at y=0 alone, where x^2 + 2x + 1 divides D but not A", 2, 1, BALUNGKIRO_QUOTIENT, BALUNGKIRO_QUOTIENT + 1);
     cancel("cancel in a short output for the numerator", 1, 2, BALUNGKIRO_QUOTIENT - 1, BALUNGKIRO_QUOTIENT);

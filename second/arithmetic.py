@@ -1,22 +1,22 @@
 """The arithmetic services, the list checks, the leading part and the shorter one, as the second program has them."""
 
 from polynomials import leading_part, polynomial
-from refusals import MODULI, Refusal, check_both_lists, check_list
+from refusals import ACCEPTED, MODULI, Refusal, check_both_lists, check_list
 
 
 def arithmetic(service, modulus, value, other_modulus=None, other_value=None):
-    """Number, place, modulus and value of a sum, difference, product or inverse."""
+    """Number, list, place, modulus and value of a sum, difference, product or inverse."""
     try:
         _check_operands(service, modulus, value, other_modulus, other_value)
     except Refusal as refusal:
-        return refusal.number, refusal.place, modulus, 0
+        return *refusal.numbers(), modulus, 0
     results = {
         "sum": lambda: value + other_value,
         "difference": lambda: value - other_value,
         "product": lambda: value * other_value,
         "inverse": lambda: pow(value, -1, modulus),
     }
-    return 0, 0, modulus, results[service]() % modulus
+    return *ACCEPTED, modulus, results[service]() % modulus
 
 
 def _check_operands(service, modulus, value, other_modulus, other_value):
@@ -32,23 +32,23 @@ def _check_operands(service, modulus, value, other_modulus, other_value):
 
 
 def list_check(terms):
-    """Number and place of the check without a modulus, and the length of the leading part."""
+    """Number, list and place of the check without a modulus, and the length of the leading part."""
     try:
         check_list(terms)
     except Refusal as refusal:
-        return refusal.number, refusal.place, 0
-    return 0, 0, leading_length(terms)
+        return *refusal.numbers(), 0
+    return *ACCEPTED, leading_length(terms)
 
 
 def lists_check(first, second):
-    """Number and place of the check of both lists without a modulus; the length of the shorter
+    """Number, list and place of the check of both lists without a modulus; the length of the shorter
     leading part, the first list's on a tie, and which list it is the head of, 1 or 2."""
     try:
         check_both_lists(first, second)
     except Refusal as refusal:
-        return refusal.number, refusal.place, 0, 1
+        return *refusal.numbers(), 0, 1
     length, which = min((leading_length(first), 1), (leading_length(second), 2))
-    return 0, 0, length, which
+    return *ACCEPTED, length, which
 
 
 def leading_length(terms):

@@ -62,9 +62,9 @@ TEACHER_SECOND = _product(X_PLUS_1, _sum((1, X), (2, ONE)))
 
 # At y=0 the x-leading coefficient of the first list alone is 0; in the second example its whole value is.
 TEACHER = _example("teacher", TEACHER_FIRST, TEACHER_SECOND, [0], [X, ONE],
-                   ["0 0 1 0 0 1", "1 1 0 0 0", "1 0 0 0 0"])
+                   ["0 0 0 1 0 0 1", "1 1 0 0 0", "1 0 0 0 0"])
 ZERO_VALUE = _example("zero_value", _product(X_PLUS_1, {Y: 1}), TEACHER_SECOND, [0, 1], [X, ONE],
-                      ["0 0 1 0 1 1", "1 1 0 0 0", "1 0 0 0 0"])
+                      ["0 0 0 1 0 1 1", "1 1 0 0 0", "1 0 0 0 0"])
 
 # The twin-T notch filter with a follower, modulo 65521: x is s, y the resistor, z the capacitor, w the part of the output that is fed back, and
 # u = xyz. Cramer's rule on its three nodes has 2(u+1)(u^2+1) over 2(u+1)(u^2+4(1-w)u+1). At y=0 no x is left; at w=1 the two are equal.
@@ -73,25 +73,25 @@ FILTER_SHARED = _sum((2, U), (2, ONE), p=FILTER_P)
 FILTER_FIRST = _product(FILTER_SHARED, _sum((1, 2 * U), (1, ONE), p=FILTER_P), FILTER_P)
 FILTER_SECOND = _product(FILTER_SHARED, _sum((1, 2 * U), (4, U), (-4, U + W), (1, ONE), p=FILTER_P), FILTER_P)
 FILTER = _at_points("filter", FILTER_FIRST, FILTER_SECOND, [0, 3, 5, 2, 3, 1, 2, 3, 5, 7, 4, 9, 10, 6, 2], [U, X + Y, X + Z, ONE],
-                    ["0 0 1 1 1 3", "1 1 1 1 0", "1 0 0 0 0"], FILTER_P)
+                    ["0 0 0 1 1 1 3", "1 1 1 1 0", "1 0 0 0 0"], FILTER_P)
 
 EXAMPLES = [
     _example("p1", _sum((1, 2 * X), (-1, ONE)), _sum((1, 2 * X), (2, X), (1, ONE)), [0], [X, ONE],
-             ["0 0 1 0 0 1", "1 1 0 0 0", "1 0 0 0 0"]),
-    _example("p2", P2_FIRST, P2_SECOND, [0], [ONE], ["12 0 0 1 0 0"]),
+             ["0 0 0 1 0 0 1", "1 1 0 0 0", "1 0 0 0 0"]),
+    _example("p2", P2_FIRST, P2_SECOND, [0], [ONE], ["12 0 0 0 1 0 0"]),
     _example("p3", P2_FIRST, P2_SECOND, [1], [X + Y, ONE],
-             ["0 0 1 0 0 1", "1 1 1 0 0", "6 0 0 0 0"]),
-    _example("p4", P4_FIRST, P4_SECOND, [0], [X], ["15 0 1 0 0 1"]),
-    _example("p5", P4_FIRST, P4_SECOND, [0, 1], [ONE], ["0 0 0 0 1 1", "1 0 0 0 0"]),
-    _example("p6", K, K, [1, 2, 3], [X3 + Y, X3, 2 * Y, Y], ["14 0 3 0 0 3"]),
-    _example("p7", K, K, [1, 2, 3], [X3, Y], ["0 0 3 0 0 3", "1 3 0 0 0", "12 0 1 0 0"]),
-    _example("p8", K, K, [1, 2], [X3, ONE], ["13 0 3 0 0 2"]),
-    _example("p9", F, H, [5], [X3 + Y, X3, Y], ["14 0 3 0 0 1"]),
-    _example("p9b", F, H, [5, 5], [X3 + Y, X3, Y], ["14 0 3 0 0 2"]),
+             ["0 0 0 1 0 0 1", "1 1 1 0 0", "6 0 0 0 0"]),
+    _example("p4", P4_FIRST, P4_SECOND, [0], [X], ["15 0 0 1 0 0 1"]),
+    _example("p5", P4_FIRST, P4_SECOND, [0, 1], [ONE], ["0 0 0 0 0 1 1", "1 0 0 0 0"]),
+    _example("p6", K, K, [1, 2, 3], [X3 + Y, X3, 2 * Y, Y], ["14 0 0 3 0 0 3"]),
+    _example("p7", K, K, [1, 2, 3], [X3, Y], ["0 0 0 3 0 0 3", "1 3 0 0 0", "12 0 1 0 0"]),
+    _example("p8", K, K, [1, 2], [X3, ONE], ["13 0 0 3 0 0 2"]),
+    _example("p9", F, H, [5], [X3 + Y, X3, Y], ["14 0 0 3 0 0 1"]),
+    _example("p9b", F, H, [5, 5], [X3 + Y, X3, Y], ["14 0 0 3 0 0 2"]),
     _example("p10", F, H, [1, 0, 5, 2], [X3 + Y, X3, Y],
-             ["0 0 3 1 1 2", "1 3 1 0 0", "16 3 0 0 0", "15 0 1 0 0"]),
-    _example("p11", {X: 1, Y: 1}, {X: 1, Y: 1}, [1], [X, 7 * Y], ["15 0 1 0 0 1"], p=7),
-    _example("p12", {Y: 3}, {Y: 3}, [2], [Y], ["0 0 0 0 0 1", "1 0 1 0 0"]),
+             ["0 0 0 3 1 1 2", "1 3 1 0 0", "16 3 0 0 0", "15 0 1 0 0"]),
+    _example("p11", {X: 1, Y: 1}, {X: 1, Y: 1}, [1], [X, 7 * Y], ["15 0 0 1 0 0 1"], p=7),
+    _example("p12", {Y: 3}, {Y: 3}, [2], [Y], ["0 0 0 0 0 0 1", "1 0 1 0 0"]),
     TEACHER, _swapped(TEACHER), ZERO_VALUE, _swapped(ZERO_VALUE), FILTER,
 ]
 

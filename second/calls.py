@@ -15,9 +15,10 @@ import plans
 from arithmetic import arithmetic, leading_length, list_check, lists_check
 from candidate import cancel, candidate, image_at, quotient_terms
 from polynomials import POWERS, key, term_list
-from refusals import COEFFICIENTS, KEYS, MODULI, MOST_TERMS, QUOTIENT_TERMS, WORK_NUMBERS, Refusal
+from refusals import ACCEPTED, COEFFICIENTS, KEYS, MODULI, MOST_TERMS, QUOTIENT_TERMS, WORK_NUMBERS, Refusal
 
 NUMBERS = (*range(0, 18), *range(20, 28))
+LISTS = range(1, 7)
 X, ONE = key(1, 0, 0, 0), key(0, 0, 0, 0)
 X_POWER, Y_POWER = X * COEFFICIENTS, key(0, 1, 0, 0) * COEFFICIENTS
 OPERATIONS = ("sum", "difference", "product")
@@ -103,22 +104,22 @@ def _key_kinds(case, answer, rooms):
 
 
 def quotient_call(label, case, output_room=QUOTIENT_TERMS, work_room=WORK_NUMBERS):
-    number, place, terms = 0, 0, []
+    head, terms = ACCEPTED, []
     try:
         terms = quotient_terms(case, output_room, work_room)
     except Refusal as refusal:
-        number, place = refusal.number, refusal.place
+        head = refusal.numbers()
     asked = _line("quotient", case.modulus, case.first, case.second, output_room, work_room)
-    return Call(label, asked, _line(number, place, len(terms), *_rooms(number, work_room, (terms, output_room))))
+    return Call(label, asked, _line(*head, len(terms), *_rooms(head[0], work_room, (terms, output_room))))
 
 
 def image_call(label, case, point):
-    number, place, u = 0, 0, []
+    head, u = ACCEPTED, []
     try:
         u = image_at(case, point)
     except Refusal as refusal:
-        number, place = refusal.number, refusal.place
-    answer = _line(number, place, max(len(u) - 1, 0), "|", *u, *[0] * (POWERS - len(u)))
+        head = refusal.numbers()
+    answer = _line(*head, max(len(u) - 1, 0), "|", *u, *[0] * (POWERS - len(u)))
     return Call(label, _image_line(case, point), answer)
 
 
@@ -134,14 +135,14 @@ def _both_ways(call, asked, case, *rest):
 
 
 def list_call(label, terms):
-    number, place, length = list_check(terms)
-    return Call(label, _line("list", terms), _line(number, place, "|", length))
+    *head, length = list_check(terms)
+    return Call(label, _line("list", terms), _line(*head, "|", length))
 
 
 def lists_call(label, first, second):
-    number, place, length, which = lists_check(first, second)
+    number, *rest, length, which = lists_check(first, second)
     kind = REFUSED[number - 2] if number else _picked(leading_length(first), leading_length(second))
-    return Call(label, _line("lists", first, second), _line(number, place, "|", length, which), (kind,))
+    return Call(label, _line("lists", first, second), _line(number, *rest, "|", length, which), (kind,))
 
 
 def _picked(first_length, second_length):
@@ -162,16 +163,16 @@ def write_call(label, case, room):
 
 def copy_call(label, data, room):
     """A file is read, and what was handed back is written: the same bytes, or after a refusal modulus 0 and no lists."""
-    number, place, case = 0, 0, case_file.Case()
+    head, case = ACCEPTED, case_file.Case()
     try:
         case = case_file.read(data)
-        record, buffer = (0, 0, len(data)), data + MARK * (room - len(data))
+        record, buffer = (*ACCEPTED, len(data)), data + MARK * (room - len(data))
     except Refusal as refusal:
-        number, place = refusal.number, refusal.place
+        head = refusal.numbers()
         record, buffer = case_file.write_into(case, MARK * room)
     counts = map(len, (case.first, case.second, case.skeleton, case.points))
     asked = _line("copy", list(data), room)
-    return Call(label, asked, _line(number, place, case.modulus, *counts, "|", *record, "|", *buffer))
+    return Call(label, asked, _line(*head, case.modulus, *counts, "|", *record, "|", *buffer))
 
 
 # The lines of the specification that are run only, on the inputs of the crate `bench_examples`.

@@ -13,7 +13,7 @@ from polynomials import (
     POWERS, exponents, image, monic, monomials_at, multiply, polynomial, quotient, term_list,
 )
 from refusals import (
-    COEFFICIENTS, MOST_SKELETON_KEYS, QUOTIENT_TERMS, WORK_NUMBERS, Refusal,
+    ACCEPTED, COEFFICIENTS, MOST_SKELETON_KEYS, NO_LIST, QUOTIENT_TERMS, WORK_NUMBERS, Refusal,
     check_modulus_and_lists, check_point_numbers, check_rooms, check_skeleton,
 )
 
@@ -22,9 +22,10 @@ FRACTION_BAR = "-----\n"
 
 @dataclass
 class Record:
-    """The candidate's answer; `terms` holds the terms themselves."""
+    """The candidate's answer; `at_fault` is the list, and `terms` holds the terms themselves."""
 
     number: int
+    at_fault: int = NO_LIST
     place: int = 0
     d: int = 0
     bad: int = 0
@@ -33,7 +34,7 @@ class Record:
     terms: list = field(default_factory=list)
 
     def head(self):
-        return self.number, self.place, self.d, self.bad, self.unlucky, self.kept
+        return self.number, self.at_fault, self.place, self.d, self.bad, self.unlucky, self.kept
 
 
 @dataclass
@@ -55,7 +56,7 @@ def candidate(case, output_room=MOST_SKELETON_KEYS, work_room=WORK_NUMBERS):
         _check_inputs(case)
         check_rooms(output_room, len(case.skeleton), work_room)
     except Refusal as refusal:
-        return Record(refusal.number, refusal.place)
+        return Record(*refusal.numbers())
     return _candidate_by_rule(case)
 
 
@@ -88,7 +89,7 @@ def _by_equations(case):
         return Record(12, bad=len(points)), None
     d = min(len(u) - 1 for _, u in good)
     kept = kept_images(good, d)
-    record = Record(0, 0, d, len(points) - len(good), len(good) - len(kept), len(kept))
+    record = Record(*ACCEPTED, d, len(points) - len(good), len(good) - len(kept), len(kept))
     try:
         unknowns = len(case.skeleton) + len(kept) - 1
         solution = only_solution(equations(case.skeleton, kept, p), unknowns, p)
@@ -104,7 +105,7 @@ def cancel(case, numerator_room=QUOTIENT_TERMS, denominator_room=QUOTIENT_TERMS,
         _check_inputs(case)
         check_rooms(least_output(numerator_room, denominator_room), QUOTIENT_TERMS, work_room)
     except Refusal as refusal:
-        return Cancelled(Record(refusal.number, refusal.place))
+        return Cancelled(Record(*refusal.numbers()))
     record, divisor = _by_equations(case)
     if divisor is None:
         return Cancelled(record)
@@ -221,7 +222,7 @@ def candidate_text(data):
     try:
         record = candidate(case_file.read(data))
     except Refusal as refusal:
-        record = Record(refusal.number, refusal.place)
+        record = Record(*refusal.numbers())
     return _line(*record.head()) + _term_lines(record.terms)
 
 
@@ -230,7 +231,7 @@ def cancel_text(data):
     try:
         answer = cancel(case_file.read(data))
     except Refusal as refusal:
-        answer = Cancelled(Record(refusal.number, refusal.place))
+        answer = Cancelled(Record(*refusal.numbers()))
     text = _line(*answer.numbers())
     if answer.record.number:
         return text

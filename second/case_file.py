@@ -3,7 +3,7 @@
 from collections import Counter
 from dataclasses import dataclass, field, replace
 
-from refusals import COEFFICIENTS, Refusal
+from refusals import ACCEPTED, COEFFICIENTS, Refusal
 
 MODULUS, FIRST_TERM, SECOND_TERM, SKELETON_KEY, POINT, END = range(1, 7)
 BODY_LENGTH = {MODULUS: 2, FIRST_TERM: 4, SECOND_TERM: 4, SKELETON_KEY: 2, POINT: 6, END: 0}
@@ -105,15 +105,15 @@ def write(case):
 
 
 def write_into(case, buffer):
-    """The writer: its record (number, place, length), and the lent buffer afterwards."""
+    """The writer: its record (number, list, place, length), and the lent buffer afterwards."""
     try:
         _check_counts(case)
         file = write(case)
         if len(buffer) < len(file):
             raise Refusal(27)
     except Refusal as refusal:
-        return (refusal.number, refusal.place, 0), buffer
-    return (0, 0, len(file)), file + buffer[len(file):]
+        return (*refusal.numbers(), 0), buffer
+    return (*ACCEPTED, len(file)), file + buffer[len(file):]
 
 
 def _check_counts(case):

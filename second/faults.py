@@ -1,14 +1,17 @@
 """Deliberate faults of the second program, to see that a comparison reports them.
 
-Those of the Cancel key, which no program reaches, are reported with `--calls`.
+Those of the Cancel key and of short rooms, which no program reaches, are reported with `--calls`.
 """
 
 import candidate
 from polynomials import at_point, leading_part, monic, monic_gcd, term_list
+from refusals import SKELETON, Refusal
 
 true_equations = candidate.equations
 true_image = candidate.image
 true_handed_out = candidate.handed_out
+true_check_point_numbers = candidate.check_point_numbers
+true_check_rooms = candidate.check_rooms
 
 
 def multipliers_one(skeleton, kept, p):
@@ -74,6 +77,22 @@ def key_written_with_15(record, numerator, denominator, p):
     return answer
 
 
+def list_of_points(numbers, modulus, **most):
+    """8 and 9 are said to be of the skeleton."""
+    try:
+        true_check_point_numbers(numbers, modulus, **most)
+    except Refusal as refusal:
+        raise Refusal(refusal.number, refusal.place, SKELETON) from refusal
+
+
+def list_without_rooms(*rooms):
+    """10 and 11 are said to be of no list."""
+    try:
+        true_check_rooms(*rooms)
+    except Refusal as refusal:
+        raise Refusal(refusal.number, refusal.place) from refusal
+
+
 FAULTS = {
     "multipliers-one": ("equations", multipliers_one),
     "divides-only-first": ("divides_both", divides_only_first),
@@ -85,6 +104,8 @@ FAULTS = {
     "key-each-monic": ("scaled", key_each_monic),
     "key-one-output-tested": ("least_output", key_one_output_tested),
     "key-written-with-15": ("handed_out", key_written_with_15),
+    "list-of-points": ("check_point_numbers", list_of_points),
+    "list-without-rooms": ("check_rooms", list_without_rooms),
 }
 
 

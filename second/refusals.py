@@ -9,14 +9,23 @@ WORK_NUMBERS = 8192
 QUOTIENT_TERMS = 4096
 COEFFICIENTS = 65536
 
+# The list at fault, as a record names it.
+NO_LIST, FIRST, SECOND, SKELETON, POINTS, OUTPUT, WORK = range(7)
+ACCEPTED = (0, NO_LIST, 0)  # what a record without a refusal begins with
+
 
 class Refusal(Exception):
-    """A refusal number and its place."""
+    """A refusal number, its place and the list at fault, which each test names where it refuses."""
 
-    def __init__(self, number, place=0):
-        super().__init__(number, place)
+    def __init__(self, number, place=0, at_fault=NO_LIST):
+        super().__init__(number, place, at_fault)
         self.number = number
         self.place = place
+        self.at_fault = at_fault
+
+    def numbers(self):
+        """What a record of it begins with: number, list, place."""
+        return self.number, self.at_fault, self.place
 
 
 def check_modulus(modulus):
@@ -24,22 +33,22 @@ def check_modulus(modulus):
         raise Refusal(1)
 
 
-def check_list(terms, modulus=COEFFICIENTS, length_number=2):
+def check_list(terms, modulus=COEFFICIENTS, length_number=2, at_fault=FIRST):
     """Tests of a term list; its terms are refused with the number after `length_number`."""
     if not 1 <= len(terms) <= MOST_TERMS:
-        raise Refusal(length_number)
+        raise Refusal(length_number, 0, at_fault)
     before = KEYS  # so a first key above 4095 is refused like a key that does not fall
     for place, term in enumerate(terms):
         key, coefficient = divmod(term, COEFFICIENTS)
         if key >= before or not 1 <= coefficient < modulus:
-            raise Refusal(length_number + 1, place)
+            raise Refusal(length_number + 1, place, at_fault)
         before = key
 
 
 def check_both_lists(first, second, modulus=COEFFICIENTS):
     """The tests 2 to 5; without a modulus any coefficient passes but 0."""
-    check_list(first, modulus, 2)
-    check_list(second, modulus, 4)
+    check_list(first, modulus, 2, FIRST)
+    check_list(second, modulus, 4, SECOND)
 
 
 def check_modulus_and_lists(modulus, first, second):
@@ -50,24 +59,24 @@ def check_modulus_and_lists(modulus, first, second):
 
 def check_skeleton(skeleton):
     if not 1 <= len(skeleton) <= MOST_SKELETON_KEYS:
-        raise Refusal(6)
+        raise Refusal(6, 0, SKELETON)
     before = KEYS
     for place, key in enumerate(skeleton):
         if key >= before:
-            raise Refusal(7, place)
+            raise Refusal(7, place, SKELETON)
         before = key
 
 
 def check_point_numbers(numbers, modulus, most=MOST_POINT_NUMBERS):
     if not 1 <= len(numbers) <= most or len(numbers) % 3 != 0:
-        raise Refusal(8)
+        raise Refusal(8, 0, POINTS)
     for place, number in enumerate(numbers):
         if number >= modulus:
-            raise Refusal(9, place)
+            raise Refusal(9, place, POINTS)
 
 
 def check_rooms(output_room, output_needed, work_room):
     if output_room < output_needed:
-        raise Refusal(10)
+        raise Refusal(10, 0, OUTPUT)
     if work_room < WORK_NUMBERS:
-        raise Refusal(11)
+        raise Refusal(11, 0, WORK)

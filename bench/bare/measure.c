@@ -19,7 +19,7 @@ static uint16_t coefficients[8];
 static uint8_t buffer[BUFFER], library_buffer[BUFFER];
 static uint32_t found[MOST_KEYS];
 static length found_terms;
-static length record[8];
+static length record[9];
 static const workload *now;
 
 #define CANDIDATE(f) f(now->modulus, now->first, now->first_terms, now->second, now->second_terms, now->skeleton, now->keys, now->points, now->numbers, out, now->keys, work, WORK_ROOM, record)
@@ -94,12 +94,12 @@ __attribute__((noinline)) static cost measured(void (*call)(void)) {
 /* The bytes that a call is lent beside the stack: both lists, skeleton, points, outputs, work room and record. Of the buffer only
    the file's bytes: how many they are is in the record of the call just made. */
 static uint32_t candidate_room(void) {
-    return (uint32_t)(4 * (now->first_terms + now->second_terms + now->keys) + 2 * (now->keys + now->numbers) + sizeof work + 7 * sizeof record[0]);
+    return (uint32_t)(4 * (now->first_terms + now->second_terms + now->keys) + 2 * (now->keys + now->numbers) + sizeof work + 8 * sizeof record[0]);
 }
-static uint32_t quotient_room(void) { return (uint32_t)(4 * (now->dividend_terms + now->divisor_terms) + sizeof out + sizeof work + 3 * sizeof record[0]); }
-static uint32_t image_room(void) { return (uint32_t)(4 * (now->first_terms + now->second_terms) + 6 + sizeof coefficients + 3 * sizeof record[0]); }
+static uint32_t quotient_room(void) { return (uint32_t)(4 * (now->dividend_terms + now->divisor_terms) + sizeof out + sizeof work + 4 * sizeof record[0]); }
+static uint32_t image_room(void) { return (uint32_t)(4 * (now->first_terms + now->second_terms) + 6 + sizeof coefficients + 4 * sizeof record[0]); }
 static uint32_t write_room(void) {
-    return (uint32_t)(4 * (now->first_terms + now->second_terms) + 2 * (now->keys + now->numbers) + record[2] + 3 * sizeof record[0]);
+    return (uint32_t)(4 * (now->first_terms + now->second_terms) + 2 * (now->keys + now->numbers) + record[3] + 4 * sizeof record[0]);
 }
 static uint32_t shorter_room(void) { return (uint32_t)(4 * (now->first_terms + now->second_terms) + 2 * sizeof record[0]); }
 static uint32_t cancel_room(void) {
@@ -123,7 +123,7 @@ static length number_of(const service *s) { return s->library == library_candida
 /* What a call leaves behind, as one number: the record, both outputs, the coefficients and the work room. */
 static uint32_t left_behind(void) {
     uint32_t sum = 0;
-    for (size_t i = 0; i < 8; i++)
+    for (size_t i = 0; i < 9; i++)
         sum = sum * 31 + (uint32_t)record[i];
     for (size_t i = 0; i < KEYS; i++)
         sum = (sum * 31 + out[i]) * 31 + denominator_out[i];
@@ -135,7 +135,7 @@ static uint32_t left_behind(void) {
 }
 
 static void forget(void) {
-    for (size_t i = 0; i < 8; i++)
+    for (size_t i = 0; i < 9; i++)
         record[i] = 0;
     for (size_t i = 0; i < KEYS; i++)
         out[i] = denominator_out[i] = 0;
@@ -193,7 +193,7 @@ static void report(const service *s) {
 /* What a quotient takes that has as many terms as the key's. */
 static uint32_t quotient_cost(void (*call)(void), length terms) {
     cost c = measured(call);
-    if (record[0] != 0 || record[2] != terms)
+    if (record[0] != 0 || record[3] != terms)
         fail(": a quotient is not the key's\n");
     return c.instructions;
 }
@@ -201,7 +201,7 @@ static uint32_t quotient_cost(void (*call)(void), length terms) {
 /* What the candidate takes, and the quotients of both inputs by what it finds. */
 static uint32_t parts_cost(length numerator_terms, length denominator_terms) {
     cost candidate = measured(library_candidate);
-    found_terms = record[6];
+    found_terms = record[7];
     for (size_t i = 0; i < found_terms; i++)
         found[i] = out[i];
     return candidate.instructions + quotient_cost(first_over_found, numerator_terms) + quotient_cost(second_over_found, denominator_terms);
@@ -210,7 +210,7 @@ static uint32_t parts_cost(length numerator_terms, length denominator_terms) {
 static void report_key(void) {
     forget();
     cost key = measured(library_cancel);
-    uint32_t parts = parts_cost(record[6], record[7]), ratio = (key.instructions * 100 + parts / 2) / parts;
+    uint32_t parts = parts_cost(record[7], record[8]), ratio = (key.instructions * 100 + parts / 2) / parts;
     print("| ");
     print_padded(now->name, 9);
     print(" | ");

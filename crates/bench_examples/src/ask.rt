@@ -67,9 +67,11 @@ pub(crate) fn candidate_in(
 {
     let found = divisor::candidate(p, first, second, skeleton, points, out, work);
     let number = found.fault.number as usize;
+    let list = found.fault.list as usize;
     let terms = found.terms;
     let numbers = [
         number,
+        list,
         found.fault.place,
         found.degree,
         found.bad,
@@ -93,8 +95,9 @@ pub(crate) fn quotient(
 {
     let found = poly::quotient::quotient(MODULUS, first, second, out, work);
     let number = found.fault.number as usize;
+    let list = found.fault.list as usize;
     let terms = found.terms;
-    let numbers = [number, found.fault.place, terms];
+    let numbers = [number, list, found.fault.place, terms];
     print_found(label, &numbers, &out[..terms]);
 }
 
@@ -103,7 +106,7 @@ pub(crate) fn image(label: &[u8], first: &[Term], second: &[Term], point: &[Resi
     print::image(poly::image::image(MODULUS, first, second, point));
 }
 
-// Number, place, modulus, value.
+// Number, list, place, modulus, value.
 pub(crate) fn arithmetic(label: &[u8], found: Answer) {
     let fault = found.fault;
     let element = found.element;
@@ -111,6 +114,7 @@ pub(crate) fn arithmetic(label: &[u8], found: Answer) {
     print::line(
         &[
             fault.number as usize,
+            fault.list as usize,
             fault.place,
             element.modulus as usize,
             element.value as usize,

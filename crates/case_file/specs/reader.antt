@@ -12,4 +12,5 @@ pub mod Today
 pub mod Adding
 pub mod Progress
 pub mod Determined
+pub mod AnotherList
 pub mod Examples

@@ -18,7 +18,7 @@ pub fn line(numbers: &[usize]) {
     io::write_all(STDOUT_FILENO, b"\n");
 }
 
-// Number and place.
+// Number and place: a refusal, as every program but `candidate` prints it.
 pub fn fault(f: Fault) {
     line(&[f.number as usize, f.place]);
 }
@@ -45,11 +45,12 @@ pub fn terms(list: &[Term]) {
     }
 }
 
-// Number, place, d, bad, unlucky, kept.
+// Number, list, place, d, bad, unlucky, kept.
 pub fn candidate(r: CandidateRecord) {
     line(
         &[
             r.fault.number as usize,
+            r.fault.list as usize,
             r.fault.place,
             r.degree,
             r.bad,

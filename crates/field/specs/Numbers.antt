@@ -1,5 +1,8 @@
--- The refusal numbers by name: those of the table, the reader's and the writer's. 0 is no refusal.
+-- The refusal numbers by name: those of the table, the reader's and the writer's. 0 is no refusal. And the list that each is about.
+use mathlib.Core.Bool.{true, false}
+use mathlib.Core.List.{List, [], _∷_}
 use Prim.Native.Nat.{ℕ}
+use Rattle.field.specs.Moduli.{among}
 
 abbrev pub MODULUS : ℕ
 MODULUS = 1
@@ -77,3 +80,45 @@ NOT_WRITABLE = 26
 
 abbrev pub BUFFER_SHORT : ℕ
 BUFFER_SHORT = 27
+
+-- the lists of a call, by number
+abbrev pub LIST_NONE : ℕ
+LIST_NONE = 0
+
+abbrev pub LIST_FIRST : ℕ
+LIST_FIRST = 1
+
+abbrev pub LIST_SECOND : ℕ
+LIST_SECOND = 2
+
+abbrev pub LIST_SKELETON : ℕ
+LIST_SKELETON = 3
+
+abbrev pub LIST_POINTS : ℕ
+LIST_POINTS = 4
+
+abbrev pub LIST_OUTPUT : ℕ
+LIST_OUTPUT = 5
+
+abbrev pub LIST_WORK : ℕ
+LIST_WORK = 6
+
+-- each list, and the refusal numbers that are about it
+abbrev pub at-fault : List (ℕ × List ℕ)
+at-fault =
+    (LIST_FIRST, FIRST_COUNT ∷ FIRST_TERM ∷ [])
+    ∷ (LIST_SECOND, SECOND_COUNT ∷ SECOND_TERM ∷ [])
+    ∷ (LIST_SKELETON, SKELETON_COUNT ∷ SKELETON_KEY ∷ [])
+    ∷ (LIST_POINTS, POINTS_COUNT ∷ POINT_NUMBER ∷ [])
+    ∷ (LIST_OUTPUT, OUTPUT_SHORT ∷ [])
+    ∷ (LIST_WORK, WORK_SHORT ∷ [])
+    ∷ []
+
+-- the first list with the number, or none
+abbrev pub list-with : ℕ → List (ℕ × List ℕ) → ℕ
+list-with number [] = LIST_NONE
+list-with number (l ∷ lists) = elim (among number (l .1)) [ true ↦ l .0 | false ↦ list-with number lists ]
+
+-- the list that a refusal number is about
+unfoldable pub list-at-fault : ℕ → ℕ
+list-at-fault number = list-with number at-fault

@@ -1,8 +1,10 @@
--- Refusals: a table of lines, tested in order. Each line gives a number, at a place, exactly when something holds.
+-- Refusals: a table of lines, tested in order. Each line gives a number, at a place, exactly when something holds. The number says which list is at fault.
 use mathlib.Core.Path.{_≡_}
 use mathlib.Core.Logic.{_⊎_}
 use mathlib.Core.List.{List, [], _∷_}
 use Prim.Native.Nat.{ℕ, _<_}
+use lib.ListN.{getD}
+use Rattle.field.specs.Numbers.{list-at-fault}
 use Rattle.field.specs.declared.faults.Fault.{Fault}
 
 pub record Line : Type 1 where
@@ -25,11 +27,19 @@ abbrev pub first : (ℕ → Type 0) → ℕ → Type 0
 first Wrong place = Wrong place × ((before : ℕ) → before < place → ¬ Wrong before)
 
 abbrev pub fault : ℕ → ℕ → Fault
-fault number place = record { number = number; place = place }
+fault number place = record { number = number; list = list-at-fault number; place = place }
 
--- acceptance is number 0, place 0
+-- acceptance is number 0, list 0, place 0
 abbrev pub none : Fault
 none = fault 0 0
+
+-- a record told in numbers: those of its fault, then the rest
+abbrev pub after-fault : Fault → List ℕ → List ℕ
+after-fault f rest = f .number ∷ f .list ∷ f .place ∷ rest
+
+-- the fault that such numbers begin with
+abbrev pub fault-in : List ℕ → Fault
+fault-in numbers = record { number = getD numbers 0 0; list = getD numbers 1 0; place = getD numbers 2 0 }
 
 -- the first line that applies gives the fault
 abbrev pub Refuses : List Line → Fault → Type 0
@@ -46,3 +56,11 @@ Passes (l ∷ lines) = ((place : ℕ) → ¬ l .given place) × Passes lines
 pub data Tested (lines : List Line) (f : Fault) : Type 0 where
   refused : Refuses lines f → Tested lines f
   passed : Passes lines → f ≡ none → Tested lines f
+
+-- a fault that names another list than its number's
+abbrev pub AnotherList : Fault → Type 0
+AnotherList f = ¬ (f .list ≡ list-at-fault (f .number))
+
+-- a promise refutes every result whose fault names another list
+abbrev pub RefutesAnotherList : {Result : Type 0} → (Result → Fault) → (Result → Type 0) → Type 0
+RefutesAnotherList {Result} fault-of Promise = (r : Result) → AnotherList (fault-of r) → ¬ Promise r

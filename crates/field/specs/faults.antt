@@ -1,3 +1,4 @@
 -- Tables of refusals.
 pub mod Laws
+pub mod ListAtFault
 pub mod Decision

@@ -1,15 +1,18 @@
-// Refusals: a number and a place.
+// Refusals: a number, the list that it is about, and a place.
 ghost use mathlib.Core.Path.{_≡_};
+ghost use Rattle.field.specs.Numbers.{list-at-fault};
 ghost use Rattle.field.specs.Refusal.{fault, none};
+use crate::ListNumber;
 use crate::RefusalNumber;
 
-// Number 0 and place 0: nothing is refused.
+// Number 0, list 0 and place 0: nothing is refused.
 pub struct Fault {
     pub number: RefusalNumber,
+    pub list: ListNumber,
     pub place: usize,
 }
 
-// The refusal numbers: those of the table, from 20 on the reader's, and from 26 on the writer's.
+// The refusal numbers: those of the table, from 20 on the reader's, and from 26 on the writer's. Then the lists of a call.
 impl Fault {
     pub const MODULUS: RefusalNumber = 1;
 
@@ -61,11 +64,26 @@ impl Fault {
 
     pub const BUFFER_SHORT: RefusalNumber = 27;
 
+    pub const LIST_NONE: ListNumber = 0;
+
+    pub const LIST_FIRST: ListNumber = 1;
+
+    pub const LIST_SECOND: ListNumber = 2;
+
+    pub const LIST_SKELETON: ListNumber = 3;
+
+    pub const LIST_POINTS: ListNumber = 4;
+
+    pub const LIST_OUTPUT: ListNumber = 5;
+
+    pub const LIST_WORK: ListNumber = 6;
+
     pub fn none() -> Fault
         ensures { λ r. ⌜ r ≡ none ⌝ }
     {
         Fault {
             number: 0,
+            list: Fault::LIST_NONE,
             place: 0,
         }
     }
@@ -73,6 +91,26 @@ impl Fault {
     pub fn at(number: RefusalNumber, place: usize) -> Fault
         ensures { λ r. ⌜ r ≡ fault number place ⌝ }
     {
-        Fault { number, place }
+        let list = list_at_fault(number);
+        Fault {
+            number,
+            list,
+            place,
+        }
+    }
+}
+
+// The list that a refusal number is about: one function, from which every record has its list.
+fn list_at_fault(number: RefusalNumber) -> ListNumber
+    ensures { λ r. ⌜ r ≡ list-at-fault number ⌝ }
+{
+    match number {
+        Fault::FIRST_COUNT | Fault::FIRST_TERM => Fault::LIST_FIRST,
+        Fault::SECOND_COUNT | Fault::SECOND_TERM => Fault::LIST_SECOND,
+        Fault::SKELETON_COUNT | Fault::SKELETON_KEY => Fault::LIST_SKELETON,
+        Fault::POINTS_COUNT | Fault::POINT_NUMBER => Fault::LIST_POINTS,
+        Fault::OUTPUT_SHORT => Fault::LIST_OUTPUT,
+        Fault::WORK_SHORT => Fault::LIST_WORK,
+        _ => Fault::LIST_NONE,
     }
 }

@@ -15,6 +15,7 @@ pub use services::ask_product;
 pub use services::ask_sum;
 pub use sizes::COORDINATES;
 pub use sizes::KeyBits;
+pub use sizes::ListNumber;
 pub use sizes::MOST_KEYS;
 pub use sizes::MOST_POINT_NUMBERS;
 pub use sizes::MOST_POINTS;

@@ -15,6 +15,9 @@ pub type Term = u32;
 // A number of the table of refusals.
 pub type RefusalNumber = u16;
 
+// A list of a call, by number.
+pub type ListNumber = u16;
+
 // The coordinates of a point, y, z and w.
 pub const COORDINATES: usize = 3;
 

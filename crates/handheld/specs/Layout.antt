@@ -1,6 +1,8 @@
--- How what a service answers is laid out in what a caller of the static library has lent. A record is numbers, in the order of docs/RULE.md.
+-- How what a service answers is laid out in what a caller of the static library has lent. A record is numbers, in the order of docs/RULE.md: those of its
+-- fault, then what the service adds.
 use mathlib.Core.List.{List, [], _∷_}
 use Prim.Native.Nat.{ℕ}
+use Rattle.field.specs.Refusal.{after-fault}
 use Rattle.field.specs.declared.faults.Fault.{Fault}
 use Rattle.field.specs.declared.services.Answer.{Answer}
 use Rattle.poly.specs.declared.ImageRecord.{ImageRecord}
@@ -14,10 +16,6 @@ use Rattle.case_file.specs.WriteCall.{WriteResult}
 -- the promise of a call: what is left is an answer that the service promises, laid out
 pub data Laid {Found Left : Type 0} (layout : Found → Left) (Promise : Found → Type 0) : Left → Type 0 where
   laid : (found : Found) → Promise found → Laid layout Promise (layout found)
-
--- number and place, then what the service adds
-abbrev pub after-fault : Fault → List ℕ → List ℕ
-after-fault f rest = f .number ∷ f .place ∷ rest
 
 abbrev pub of-fault : Fault → List ℕ
 of-fault f = after-fault f []

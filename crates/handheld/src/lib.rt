@@ -26,7 +26,7 @@ use field::Residue;
 use field::Term;
 use poly::Eight;
 
-// Numbers: number, place, d, bad, unlucky, kept, count of terms.
+// Numbers: number, list, place, d, bad, unlucky, kept, count of terms.
 #[no_mangle]
 pub extern "C" fn balungkiro_candidate(
     modulus: Residue,
@@ -36,7 +36,7 @@ pub extern "C" fn balungkiro_candidate(
     points: &[Residue],
     out: &mut [Term],
     work: &mut [Residue],
-    numbers: &mut [usize; 7],
+    numbers: &mut [usize; 8],
 )
     ensures { λ _. ⌜ Laid of-candidate (Candidate (candidate-call modulus (now (first .entry)) (now (second .entry)) (now (skeleton .entry))
         (now (points .entry)) (now (out .entry)) (now (work .entry))))
@@ -45,6 +45,7 @@ pub extern "C" fn balungkiro_candidate(
     let found = divisor::candidate(modulus, first, second, skeleton, points, out, work);
     *numbers = [
         found.fault.number as usize,
+        found.fault.list as usize,
         found.fault.place,
         found.degree,
         found.bad,
@@ -54,7 +55,7 @@ pub extern "C" fn balungkiro_candidate(
     ];
 }
 
-// Numbers: number, place, d, bad, unlucky, kept, counts of the terms of both results.
+// Numbers: number, list, place, d, bad, unlucky, kept, counts of the terms of both results.
 #[no_mangle]
 pub extern "C" fn balungkiro_cancel(
     modulus: Residue,
@@ -65,7 +66,7 @@ pub extern "C" fn balungkiro_cancel(
     numerator_out: &mut [Term],
     denominator_out: &mut [Term],
     work: &mut [Residue],
-    numbers: &mut [usize; 8],
+    numbers: &mut [usize; 9],
 )
     ensures { λ _. ⌜ Laid of-cancel (Cancel (cancel-call modulus (now (numerator .entry)) (now (denominator .entry)) (now (skeleton .entry))
         (now (points .entry)) (now («numerator_out» .entry)) (now («denominator_out» .entry)) (now (work .entry))))
@@ -88,6 +89,7 @@ pub extern "C" fn balungkiro_cancel(
     );
     *numbers = [
         told.fault.number as usize,
+        told.fault.list as usize,
         told.fault.place,
         told.degree,
         told.bad,
@@ -98,7 +100,7 @@ pub extern "C" fn balungkiro_cancel(
     ];
 }
 
-// Numbers: number, place, count of terms.
+// Numbers: number, list, place, count of terms.
 #[no_mangle]
 pub extern "C" fn balungkiro_quotient(
     modulus: Residue,
@@ -106,16 +108,21 @@ pub extern "C" fn balungkiro_quotient(
     second: &[Term],
     out: &mut [Term],
     work: &mut [Residue],
-    numbers: &mut [usize; 3],
+    numbers: &mut [usize; 4],
 )
     ensures { λ _. ⌜ Laid of-quotient (Quotient (quotient-call modulus (now (first .entry)) (now (second .entry)) (now (out .entry))
         (now (work .entry)))) (record { numbers = now (numbers .exit); output = now (out .exit); work = now (work .exit) }) ⌝ }
 {
-    let found = poly::quotient::quotient(modulus, first, second, out, work);
-    *numbers = [found.fault.number as usize, found.fault.place, found.terms];
+    let divided = poly::quotient::quotient(modulus, first, second, out, work);
+    *numbers = [
+        divided.fault.number as usize,
+        divided.fault.list as usize,
+        divided.fault.place,
+        divided.terms,
+    ];
 }
 
-// Numbers: number, place, degree.
+// Numbers: number, list, place, degree.
 #[no_mangle]
 pub extern "C" fn balungkiro_image(
     modulus: Residue,
@@ -123,15 +130,20 @@ pub extern "C" fn balungkiro_image(
     second: &[Term],
     point: &[Residue],
     coefficients: &mut Eight,
-    numbers: &mut [usize; 3],
+    numbers: &mut [usize; 4],
 )
     ensures { λ _. ⌜ Laid of-image (ImageAnswer (image-call modulus (now (first .entry)) (now (second .entry)) (now (point .entry))))
         (record { numbers = now (numbers .exit); coefficients = now (coefficients .exit) }) ⌝ }
 {
-    let found = poly::image::image(modulus, first, second, point);
-    let u = found.coefficients;
+    let seen = poly::image::image(modulus, first, second, point);
+    let u = seen.coefficients;
     *coefficients = u;
-    *numbers = [found.fault.number as usize, found.fault.place, found.degree];
+    *numbers = [
+        seen.fault.number as usize,
+        seen.fault.list as usize,
+        seen.fault.place,
+        seen.degree,
+    ];
 }
 
 // How many terms the leading part has, which is the head of the caller's own list; 0 on refusal.
@@ -143,13 +155,13 @@ pub extern "C" fn balungkiro_leading_part(terms: &[Term]) -> usize
     head.len()
 }
 
-// Numbers: number, place.
+// Numbers: number, list, place.
 #[no_mangle]
-pub extern "C" fn balungkiro_check_list(terms: &[Term], numbers: &mut [usize; 2])
+pub extern "C" fn balungkiro_check_list(terms: &[Term], numbers: &mut [usize; 3])
     ensures { λ _. ⌜ Laid of-fault (Tested (of-list (now (terms .entry)))) (now (numbers .exit)) ⌝ }
 {
     let fault = poly::list::check_list(terms);
-    *numbers = [fault.number as usize, fault.place];
+    *numbers = [fault.number as usize, fault.list as usize, fault.place];
 }
 
 // Numbers: how many terms the shorter leading part has, and which list it is the head of, 1 or 2; on refusal 0 and 1.
@@ -161,21 +173,22 @@ pub extern "C" fn balungkiro_shorter_part(first: &[Term], second: &[Term], numbe
     *numbers = [picked.terms, picked.list];
 }
 
-// Numbers: number, place.
+// Numbers: number, list, place.
 #[no_mangle]
-pub extern "C" fn balungkiro_check_lists(first: &[Term], second: &[Term], numbers: &mut [usize; 2])
+pub extern "C" fn balungkiro_check_lists(first: &[Term], second: &[Term], numbers: &mut [usize; 3])
     ensures { λ _. ⌜ Laid of-fault (Tested (of-two-lists (now (first .entry)) (now (second .entry)))) (now (numbers .exit)) ⌝ }
 {
     let found = poly::list::check_lists(first, second);
-    *numbers = [found.number as usize, found.place];
+    *numbers = [found.number as usize, found.list as usize, found.place];
 }
 
-// Number, place, modulus, value.
-fn answer_numbers(answer: Answer) -> [usize; 4]
+// Number, list, place, modulus, value.
+fn answer_numbers(answer: Answer) -> [usize; 5]
     ensures { λ r. ⌜ r ≡ of-answer answer ⌝ }
 {
     [
         answer.fault.number as usize,
+        answer.fault.list as usize,
         answer.fault.place,
         answer.element.modulus as usize,
         answer.element.value as usize,
@@ -188,7 +201,7 @@ pub extern "C" fn balungkiro_sum(
     value: Residue,
     other_modulus: Residue,
     other_value: Residue,
-    numbers: &mut [usize; 4],
+    numbers: &mut [usize; 5],
 )
     ensures { λ _. ⌜ Laid of-answer (AskSum (element modulus value) (element «other_modulus» «other_value»)) (now (numbers .exit)) ⌝ }
 {
@@ -206,7 +219,7 @@ pub extern "C" fn balungkiro_difference(
     value: Residue,
     other_modulus: Residue,
     other_value: Residue,
-    numbers: &mut [usize; 4],
+    numbers: &mut [usize; 5],
 )
     ensures { λ _. ⌜ Laid of-answer (AskDifference (element modulus value) (element «other_modulus» «other_value»)) (now (numbers .exit)) ⌝ }
 {
@@ -224,7 +237,7 @@ pub extern "C" fn balungkiro_product(
     value: Residue,
     other_modulus: Residue,
     other_value: Residue,
-    numbers: &mut [usize; 4],
+    numbers: &mut [usize; 5],
 )
     ensures { λ _. ⌜ Laid of-answer (AskProduct (element modulus value) (element «other_modulus» «other_value»)) (now (numbers .exit)) ⌝ }
 {
@@ -237,14 +250,14 @@ pub extern "C" fn balungkiro_product(
 }
 
 #[no_mangle]
-pub extern "C" fn balungkiro_inverse(modulus: Residue, value: Residue, numbers: &mut [usize; 4])
+pub extern "C" fn balungkiro_inverse(modulus: Residue, value: Residue, numbers: &mut [usize; 5])
     ensures { λ _. ⌜ Laid of-answer (AskInverse (element modulus value)) (now (numbers .exit)) ⌝ }
 {
     let a = Element { modulus, value };
     *numbers = answer_numbers(field::ask_inverse(a));
 }
 
-// Numbers: number, place, modulus, and how many numbers the first list, the second, the skeleton and the points have.
+// Numbers: number, list, place, modulus, and how many numbers the first list, the second, the skeleton and the points have.
 #[no_mangle]
 pub extern "C" fn balungkiro_read(
     bytes: &[u8],
@@ -252,7 +265,7 @@ pub extern "C" fn balungkiro_read(
     second: &mut Terms,
     skeleton: &mut Keys,
     points: &mut PointNumbers,
-    numbers: &mut [usize; 7],
+    numbers: &mut [usize; 8],
 )
     ensures { λ _. ⌜ Laid of-contents (λ r. r ≡ contents (read (now (bytes .entry))))
         (record {
@@ -266,6 +279,7 @@ pub extern "C" fn balungkiro_read(
     let counts = case_file::read_into(bytes, first, second, skeleton, points);
     *numbers = [
         counts.fault.number as usize,
+        counts.fault.list as usize,
         counts.fault.place,
         counts.modulus as usize,
         counts.first,
@@ -275,7 +289,7 @@ pub extern "C" fn balungkiro_read(
     ];
 }
 
-// Numbers: number, place, length.
+// Numbers: number, list, place, length.
 #[no_mangle]
 pub extern "C" fn balungkiro_write(
     modulus: Residue,
@@ -284,11 +298,16 @@ pub extern "C" fn balungkiro_write(
     skeleton: &[KeyBits],
     points: &[Residue],
     buffer: &mut [u8],
-    numbers: &mut [usize; 3],
+    numbers: &mut [usize; 4],
 )
     ensures { λ _. ⌜ Laid of-write (Write (write-call modulus (now (first .entry)) (now (second .entry)) (now (skeleton .entry))
         (now (points .entry)) (now (buffer .entry)))) (record { numbers = now (numbers .exit); buffer = now (buffer .exit) }) ⌝ }
 {
-    let found = case_file::write(modulus, first, second, skeleton, points, buffer);
-    *numbers = [found.fault.number as usize, found.fault.place, found.length];
+    let wrote = case_file::write(modulus, first, second, skeleton, points, buffer);
+    *numbers = [
+        wrote.fault.number as usize,
+        wrote.fault.list as usize,
+        wrote.fault.place,
+        wrote.length,
+    ];
 }

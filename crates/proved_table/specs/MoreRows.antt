@@ -5,6 +5,7 @@ use Prim.Native.Nat.{ℕ}
 use lib.ListN.{length, replicate}
 use Rattle.field.specs.Numbers.{DOES_NOT_DIVIDE, NO_GOOD_POINT, NOT_WRITABLE, BUFFER_SHORT}
 use Rattle.field.specs.Refusal.{fault, none}
+use Rattle.field.specs.declared.faults.Fault.{Fault}
 use Rattle.poly.specs.ImageCall.{image-call, refused-image}
 use Rattle.divisor.specs.Rule.{report}
 use Rattle.case_file.specs.declared.Contents.{Contents}
@@ -128,11 +129,11 @@ image-second-lead-lost = image lead-kept lead-lost 0 1 (1 ∷ 1 ∷ 0 ∷ 0 ∷ 
 abbrev pub more-images : List ImageRow
 more-images = image-bad ∷ image-two ∷ image-of-first ∷ image-of-second ∷ image-first-lead-lost ∷ image-second-lead-lost ∷ []
 
--- what the reader hands back: number and place, the modulus, the four lists
-abbrev pub handed-back : ℕ → ℕ → ℕ → List ℕ → List ℕ → List ℕ → List ℕ → Contents
-handed-back number place modulus first second skeleton points =
+-- what the reader hands back: the fault, the modulus, the four lists
+abbrev pub with-fault : Fault → ℕ → List ℕ → List ℕ → List ℕ → List ℕ → Contents
+with-fault f modulus first second skeleton points =
     record {
-      fault = fault number place;
+      fault = f;
       modulus = modulus;
       first = padded 256 first;
       «first_count» = length first;
@@ -144,8 +145,14 @@ handed-back number place modulus first second skeleton points =
       «points_count» = length points;
     }
 
+abbrev pub handed-back : ℕ → ℕ → ℕ → List ℕ → List ℕ → List ℕ → List ℕ → Contents
+handed-back number place = with-fault (fault number place)
+
+abbrev pub refused-with : Fault → Contents
+refused-with f = with-fault f 0 [] [] [] []
+
 abbrev pub reader-refuses : ℕ → ℕ → Contents
-reader-refuses number place = handed-back number place 0 [] [] [] []
+reader-refuses number place = refused-with (fault number place)
 
 -- the lists of the example file
 abbrev pub example-first : List ℕ

@@ -12,6 +12,7 @@ use Rattle.poly.specs.ShorterPart.{ShorterHead, ShorterPart}
 use Rattle.poly.specs.ImageCall.{ImageAnswer}
 use Rattle.poly.specs.QuotientCall.{quotient-result, Quotient}
 use Rattle.field.specs.Lent.{written}
+use Rattle.field.specs.declared.faults.Fault.{Fault}
 use Rattle.poly.specs.Room.{work-room, cleared}
 use Rattle.divisor.specs.declared.CandidateRecord.{CandidateRecord}
 use Rattle.divisor.specs.Candidate.{candidate-result, Candidate}
@@ -32,6 +33,22 @@ pub record Wrong (R F : Type 0) : Type 0 where
   pub found : F
   pub terms : List ℕ
   pub clears : Bool
+
+-- a fault that is said to be of this list
+abbrev pub naming : ℕ → Fault → Fault
+naming list f = record { number = f .number; list = list; place = f .place }
+
+-- a candidate's record with it
+abbrev pub named : ℕ → CandidateRecord → CandidateRecord
+named list r =
+    record {
+      fault = naming list (r .fault);
+      degree = r .degree;
+      bad = r .bad;
+      unlucky = r .unlucky;
+      kept = r .kept;
+      terms = r .terms;
+    }
 
 abbrev pub Begins : List ℕ → List ℕ → Type 0
 Begins front list = take (length front) list ≡ front

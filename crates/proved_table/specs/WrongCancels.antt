@@ -3,7 +3,7 @@
 use mathlib.Core.Bool.{true, false}
 use mathlib.Core.List.{List, [], _∷_}
 use Prim.Native.Nat.{ℕ}
-use Rattle.field.specs.Numbers.{MODULUS}
+use Rattle.field.specs.Numbers.{MODULUS, LIST_SECOND, LIST_POINTS}
 use Rattle.field.specs.Refusal.{fault}
 use Rattle.divisor.specs.Candidate.{refused-record}
 use Rattle.cancel.specs.declared.CancelRecord.{CancelRecord}
@@ -13,7 +13,7 @@ use Rattle.proved_table.specs.Table.{term-xy, H}
 use Rattle.proved_table.specs.MoreRows.{f-over-e}
 use Rattle.proved_table.specs.CancelRows.{told, f-over-h, e-over-h, y-stays, y-goes, k-over-k, none-good, none-solves, several-solve}
 use Rattle.proved_table.specs.CancelRows.{numerator-divided, denominator-divided}
-use Rattle.proved_table.specs.Wrong.{WrongCancel}
+use Rattle.proved_table.specs.Wrong.{WrongCancel, named}
 
 -- a row, a record, and N' and D', whatever the rooms hold; the work room is cleared
 abbrev pub wrong-cancel : CancelRow → CancelRecord → List ℕ → List ℕ → WrongCancel
@@ -210,6 +210,17 @@ room-left = wrong-room f-over-h
 abbrev pub refusal-leaves-room : WrongCancel
 refusal-leaves-room = wrong-room numerator-divided
 
+-- the row's result, said to be of another list
+abbrev pub wrong-list : CancelRow → ℕ → WrongCancel
+wrong-list r list = wrong-record r (with-both (named list (r .divisor .found)) (r .found .numerator) (r .found .denominator))
+
+-- 12 is said to be of the points, and 15 of the denominator
+abbrev pub bad-points-named : WrongCancel
+bad-points-named = wrong-list none-good LIST_POINTS
+
+abbrev pub undivided-denominator-named : WrongCancel
+undivided-denominator-named = wrong-list numerator-divided LIST_SECOND
+
 abbrev pub wrong-cancels : List WrongCancel
 wrong-cancels =
     numerator-not-scaled ∷ scaled-by-c ∷ not-made-monic ∷ denominator-not-divided ∷ numerator-not-divided ∷ one-struck-out ∷ one-struck-out-again
@@ -218,5 +229,5 @@ wrong-cancels =
     ∷ told-fifteen-for-12 ∷ told-fifteen-for-13 ∷ told-fifteen-for-14 ∷ told-thirteen-for-15 ∷ zeros-told
     ∷ refusal-writes-numerator ∷ refusal-writes-denominator ∷ refusal-counts-numerator ∷ refusal-counts-denominator
     ∷ counts-exchanged ∷ divisor-counted ∷ degree-left ∷ denominator-not-written ∷ numerator-not-written ∷ divisor-left-behind
-    ∷ room-left ∷ refusal-leaves-room
+    ∷ room-left ∷ refusal-leaves-room ∷ bad-points-named ∷ undivided-denominator-named
     ∷ []

@@ -4,14 +4,14 @@ use mathlib.Core.Bool.{true, false}
 use mathlib.Core.List.{List, [], _∷_, _++_}
 use Prim.Native.Nat.{ℕ}
 use Rattle.divisor.specs.declared.CandidateRecord.{CandidateRecord}
-use Rattle.field.specs.Numbers.{MODULUS}
+use Rattle.field.specs.Numbers.{MODULUS, LIST_FIRST, LIST_POINTS, LIST_OUTPUT}
 use Rattle.field.specs.Refusal.{fault}
 use Rattle.divisor.specs.Rule.{report}
 use Rattle.divisor.specs.Candidate.{refused-record}
 use Rattle.proved_table.specs.Row.{Row}
 use Rattle.proved_table.specs.Table.{term-xy, p1, p2, p4, p6, p7-terms, p10, p11, p12}
 use Rattle.proved_table.specs.MoreRows.{divides-first, divides-second, zeros-dropped, first-lead-lost, second-lead-lost, first-value-lost}
-use Rattle.proved_table.specs.Wrong.{Wrong}
+use Rattle.proved_table.specs.Wrong.{Wrong, named}
 
 abbrev pub WrongCandidate : Type 0
 WrongCandidate = Wrong Row CandidateRecord
@@ -130,6 +130,20 @@ zero-called-bad = wrong-candidate first-value-lost (report 0 (record { d = 1; ba
 abbrev pub zero-gives-one : WrongCandidate
 zero-gives-one = wrong-candidate first-value-lost (report 0 (record { d = 0; bad = 0; unlucky = 1; kept = 1 }) 1) (term-xy 1 0 0 ∷ [])
 
+-- the row's result, said to be of another list
+abbrev pub wrong-list : Row → ℕ → WrongCandidate
+wrong-list r list = wrong-candidate r (named list (r .found)) (r .terms)
+
+-- 12 is said to be of the points, 15 of the first list, and acceptance of the output
+abbrev pub bad-points-named : WrongCandidate
+bad-points-named = wrong-list p2 LIST_POINTS
+
+abbrev pub undivided-list-named : WrongCandidate
+undivided-list-named = wrong-list p11 LIST_FIRST
+
+abbrev pub accepted-output-named : WrongCandidate
+accepted-output-named = wrong-list p1 LIST_OUTPUT
+
 abbrev pub wrong-results : List WrongCandidate
 wrong-results =
     refuses-all ∷ refuses-the-modulus ∷ always-one ∷ writes-nothing ∷ writes-one-term ∷ writes-past-the-count ∷ first-kept-point
@@ -137,4 +151,5 @@ wrong-results =
     ∷ multipliers-one ∷ determined-accepted ∷ first-degree-met ∷ equations-counted ∷ equations-counted-again ∷ division-as-values
     ∷ not-monic ∷ zeros-kept ∷ work-room-left ∷ refusal-writes ∷ bad-not-counted
     ∷ bad-by-the-first ∷ bad-by-the-second ∷ zero-called-bad ∷ zero-gives-one
+    ∷ bad-points-named ∷ undivided-list-named ∷ accepted-output-named
     ∷ []

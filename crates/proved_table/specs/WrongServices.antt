@@ -3,7 +3,7 @@ use mathlib.Core.Bool.{true, false}
 use mathlib.Core.List.{List, [], _∷_}
 use Prim.Native.Nat.{ℕ}
 use lib.ListN.{length}
-use Rattle.field.specs.Numbers.{DOES_NOT_DIVIDE, NO_GOOD_POINT}
+use Rattle.field.specs.Numbers.{DOES_NOT_DIVIDE, NO_GOOD_POINT, BODY_CUT, LIST_SECOND, LIST_SKELETON, LIST_POINTS}
 use Rattle.field.specs.Refusal.{fault, none}
 use Rattle.poly.specs.declared.ImageRecord.{ImageRecord}
 use Rattle.poly.specs.declared.QuotientRecord.{QuotientRecord}
@@ -14,9 +14,9 @@ use Rattle.proved_table.specs.Row.{QuotientRow, ImageRow, FileRow}
 use Rattle.proved_table.specs.Table.{term-xy, at}
 use Rattle.proved_table.specs.MoreRows.{f-over-e, e-over-f, k-over-e, a₂-over-factor, equal-as-values, image-bad, image-two, image-k, image-of-first}
 use Rattle.proved_table.specs.MoreRows.{image-of-second, image-first-lead-lost, image-second-lead-lost}
-use Rattle.proved_table.specs.MoreRows.{handed-back, reader-refuses, example-first, example-second, example-skeleton}
+use Rattle.proved_table.specs.MoreRows.{handed-back, refused-with, reader-refuses, example-first, example-second, example-skeleton}
 use Rattle.proved_table.specs.MoreRows.{file-example, file-short, file-byte-more, file-cut-key, file-empty}
-use Rattle.proved_table.specs.Wrong.{Wrong, WrongRecord}
+use Rattle.proved_table.specs.Wrong.{Wrong, WrongRecord, naming}
 
 abbrev pub WrongQuotient : Type 0
 WrongQuotient = Wrong QuotientRow QuotientRecord
@@ -56,9 +56,20 @@ abbrev pub quotient-room-left : WrongQuotient
 quotient-room-left =
     record { row = f-over-e; output-begins = []; work-begins = 1 ∷ []; found = f-over-e .found; terms = f-over-e .terms; clears = false }
 
+-- 15 is said to be of the second list
+abbrev pub divisor-named : WrongQuotient
+divisor-named = record {
+  row = e-over-f;
+  output-begins = [];
+  work-begins = [];
+  found = record { fault = naming LIST_SECOND (fault DOES_NOT_DIVIDE 0); terms = 0 };
+  terms = [];
+  clears = true;
+}
+
 abbrev pub wrong-quotients : List WrongQuotient
 wrong-quotients =
-    remainder-dropped ∷ quotient-as-values ∷ other-way ∷ divisor-made-monic ∷ never-exact ∷ quotient-not-written ∷ quotient-room-left ∷ []
+    remainder-dropped ∷ quotient-as-values ∷ other-way ∷ divisor-made-monic ∷ never-exact ∷ quotient-not-written ∷ quotient-room-left ∷ divisor-named ∷ []
 
 abbrev pub WrongImage : Type 0
 WrongImage = WrongRecord ImageRow ImageRecord
@@ -110,10 +121,14 @@ zero-first-for-the-image = wrong-image image-of-second 0 (0 ∷ 0 ∷ 0 ∷ 0 �
 abbrev pub second-not-monic : WrongImage
 second-not-monic = wrong-image image-of-second 1 (0 ∷ 3 ∷ 0 ∷ 0 ∷ 0 ∷ 0 ∷ 0 ∷ 0 ∷ [])
 
+-- 12 is said to be of the point
+abbrev pub bad-point-named : WrongImage
+bad-point-named = record { row = image-bad; found = refused-image (naming LIST_POINTS (fault NO_GOOD_POINT 0)) }
+
 abbrev pub wrong-images : List WrongImage
 wrong-images =
     image-not-monic ∷ not-greatest ∷ first-value ∷ bad-point-passes ∷ size-for-degree ∷ highest-first ∷ zero-for-the-image
-    ∷ refused-by-the-first ∷ refused-by-the-second ∷ zero-first-for-the-image ∷ second-not-monic ∷ []
+    ∷ refused-by-the-first ∷ refused-by-the-second ∷ zero-first-for-the-image ∷ second-not-monic ∷ bad-point-named ∷ []
 
 abbrev pub WrongFile : Type 0
 WrongFile = WrongRecord FileRow Contents
@@ -173,7 +188,11 @@ limit-before-body = wrong-file file-cut-key (reader-refuses 25 99)
 abbrev pub empty-accepted : WrongFile
 empty-accepted = wrong-file file-empty (reader-refuses 0 0)
 
+-- 21 of a key is said to be of the skeleton
+abbrev pub cut-key-named : WrongFile
+cut-key-named = wrong-file file-cut-key (refused-with (naming LIST_SKELETON (fault BODY_CUT 99)))
+
 abbrev pub wrong-files : List WrongFile
 wrong-files =
     bytes-after-end ∷ modulus-left ∷ length-for-the-place ∷ lists-exchanged ∷ high-byte-first ∷ points-counted ∷ room-for-the-count
-    ∷ limit-before-body ∷ empty-accepted ∷ []
+    ∷ limit-before-body ∷ empty-accepted ∷ cut-key-named ∷ []

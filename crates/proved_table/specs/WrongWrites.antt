@@ -2,13 +2,14 @@
 use mathlib.Core.List.{List, [], _∷_, _++_}
 use Prim.Native.Nat.{ℕ}
 use lib.ListN.{replicate}
-use Rattle.field.specs.Numbers.{MODULUS, NOT_WRITABLE, BUFFER_SHORT}
+use Rattle.field.specs.Numbers.{MODULUS, NOT_WRITABLE, BUFFER_SHORT, LIST_SKELETON, LIST_OUTPUT}
 use Rattle.field.specs.Refusal.{fault}
 use Rattle.case_file.specs.Format.{today}
 use Rattle.case_file.specs.Written.{records}
 use Rattle.case_file.specs.WriteCall.{WriteCall, write-call, write-result}
 use Rattle.proved_table.specs.Row.{WriteRow}
 use Rattle.proved_table.specs.MoreRows.{write-row, nines}
+use Rattle.proved_table.specs.Wrong.{naming}
 
 -- no lists: the file is 1, 17, 0, 6
 abbrev pub no-lists : List ℕ → WriteCall
@@ -124,9 +125,18 @@ abbrev pub points-before-keys : WriteRow
 points-before-keys =
     write-row (write-call 17 [] [] (8 ∷ []) (2 ∷ 3 ∷ 5 ∷ []) (nines 14)) 0 14 (1 ∷ 17 ∷ 0 ∷ 5 ∷ 2 ∷ 0 ∷ 3 ∷ 0 ∷ 5 ∷ 0 ∷ 4 ∷ 8 ∷ 0 ∷ 6 ∷ [])
 
+-- 26 is said to be of the skeleton, and 27 of the output
+abbrev pub unwritable-keys-named : WriteRow
+unwritable-keys-named =
+    record { call = keys-alone 33 []; result = write-result (record { fault = naming LIST_SKELETON (fault NOT_WRITABLE 0); length = 0 }) [] }
+
+abbrev pub short-buffer-named : WriteRow
+short-buffer-named =
+    record { call = no-lists (nines 3); result = write-result (record { fault = naming LIST_OUTPUT (fault BUFFER_SHORT 0); length = 0 }) (nines 3) }
+
 abbrev pub wrong-writes : List WriteRow
 wrong-writes =
     end-left-out ∷ writes-before-refusing ∷ cut-to-the-room ∷ length-on-refusal ∷ no-byte-to-spare ∷ rest-cleared ∷ length-of-the-buffer
     ∷ nothing-written ∷ high-byte-written-first ∷ empty-lists-refused ∷ modulus-tested ∷ lists-exchanged-in-the-file ∷ last-term-first ∷ one-term-each
     ∷ high-half-lost ∷ thirty-three-keys ∷ thirty-two-refused ∷ short-before-lists ∷ place-of-the-key ∷ first-not-tested ∷ second-not-tested
-    ∷ points-not-tested ∷ numbers-for-points ∷ half-a-point ∷ points-before-keys ∷ []
+    ∷ points-not-tested ∷ numbers-for-points ∷ half-a-point ∷ points-before-keys ∷ unwritable-keys-named ∷ short-buffer-named ∷ []

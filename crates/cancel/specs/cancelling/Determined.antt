@@ -1,18 +1,19 @@
--- The promise of the key settles the record, both outputs and the work room: two results that meet it are equal.
+-- The promise of the key settles the record, both outputs and the work room: two results that meet it are equal. It refutes another list.
 use mathlib.Core.Path.{_≡_, sym, _∙_, ap, subst}
 use mathlib.Core.List.{List, []}
 use Prim.Native.Nat.{ℕ}
 use lib.ListN.{length}
 use Rattle.field.specs.Moduli.{Listed}
 use Rattle.field.specs.modulus.Laws.{listed-prime, listed-unique}
-use Rattle.field.specs.Refusal.{Passes}
-use Rattle.field.specs.faults.Laws.{refuses-determined, not-passes-and-refuses}
+use Rattle.field.specs.Refusal.{Passes, RefutesAnotherList}
+use Rattle.field.specs.faults.Laws.{refuses-determined, refuses-names, not-passes-and-refuses}
 use Rattle.field.specs.Lent.{written}
 use Rattle.poly.specs.Terms.{Polynomial}
 use Rattle.poly.specs.Room.{cleared}
 use Rattle.divisor.specs.declared.CandidateRecord.{CandidateRecord}
 use Rattle.divisor.specs.Candidate.{A, B, monomials, lent-points, refused-record}
 use Rattle.divisor.specs.answer.Determined.{answer-determined}
+use Rattle.divisor.specs.answer.CandidateDetermined.{answer-names}
 use Rattle.cancel.specs.CancelCall.{CancelCall, cancel-table, divisor-call, Numbers, Finds, Reduced, CancelResult, cancel-result, with-both, Cancel}
 use Rattle.cancel.specs.CancelCall.{refused, no-divisor, cancelled}
 use Rattle.cancel.specs.cancelling.Tables.{cancel-one-place, right-lists}
@@ -70,3 +71,8 @@ module _ (c : CancelCall) where
       let l = same-lists listed listed′ f g G H x y pass ns ds ns′ ds′ a b in
       λ i. cancel-result (with-both (e i) (length (l .0 i)) (length (l .1 i))) (written (l .0 i) (c .numerator-output))
       (written (l .1 i) (c .denominator-output)) (cleared (c .work))
+
+  pub cancel-another-list : RefutesAnotherList (λ r. r .found .fault) (Cancel c)
+  cancel-another-list r other (refused f h) = other (refuses-names (cancel-table c) f h)
+  cancel-another-list r other (no-divisor pass listed f G x n) = other (answer-names (divisor-call c []) listed f G x)
+  cancel-another-list r other (cancelled pass listed f G x z ns ds a) = other (answer-names (divisor-call c []) listed f G x)

@@ -7,7 +7,7 @@ use native.Mathlib.Nat.{le-max-left, le-max-right}
 use native.Mathlib.Omega.{arith}
 use borrow.Author.Tests.{le-leb, lt-leb, lt-ltb, le-ltb, eq-eqb, leb-true, ltb-true, eqb-true, eqb-false}
 use lib.Dec.{leb, ltb, eqb}
-use Rattle.field.specs.Numbers.{KIND_UNKNOWN, BODY_CUT, ORDER, TOO_MANY}
+use Rattle.field.specs.Numbers.{KIND_UNKNOWN, BODY_CUT, ORDER, TOO_MANY, LIST_NONE, list-at-fault}
 use Rattle.case_file.specs.Format.{Kind, Format, kinds, bytes-of, first-byte, member, known, unknown, find, kind-of}
 use Rattle.case_file.specs.Format.{body, limit, follows, greatest, rises}
 use Rattle.case_file.specs.Reading.{first-failed, fault-number}
@@ -135,6 +135,19 @@ all-true true true true false h = absurd (omega arith)
 all-true true true false d h = absurd (omega arith)
 all-true true false c d h = absurd (omega arith)
 all-true false b c d h = absurd (omega arith)
+
+outcome-no-list : (a b c d : Bool) → list-at-fault (outcome a b c d) ≡ LIST_NONE
+unfolding list-at-fault
+outcome-no-list true true true true = refl
+outcome-no-list true true true false = refl
+outcome-no-list true true false d = refl
+outcome-no-list true false c d = refl
+outcome-no-list false b c d = refl
+
+-- no test of a record is about a list of a call
+pub tests-no-list : (f : Format) (before k n m : ℕ) → list-at-fault (fault-number f before k n m) ≡ LIST_NONE
+unfolding fault-number
+tests-no-list f before k n m = outcome-no-list (known f k) (follows f before k) (leb (body f k) m) (ltb n (limit f k))
 
 module _ (f : Format) (before k : ℕ) where
   pub passed : (n m : ℕ) → fault-number f before k n m ≡ 0 → Passed f before k n m

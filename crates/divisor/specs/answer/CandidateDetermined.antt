@@ -1,12 +1,14 @@
--- The promise of the candidate call settles the record, the output and the work room: two results that meet it are equal.
-use mathlib.Core.Path.{_≡_, subst}
+-- The promise of the candidate call settles the record, the output and the work room: two results that meet it are equal. It refutes another list.
+use mathlib.Core.Path.{_≡_, refl, subst}
 use mathlib.Core.List.{List, _++_}
 use Prim.Native.Nat.{ℕ}
 use lib.ListN.{length}
 use Rattle.field.specs.Moduli.{Listed}
 use Rattle.field.specs.modulus.Laws.{listed-unique}
-use Rattle.field.specs.Refusal.{Line}
+use Rattle.field.specs.Numbers.{list-at-fault}
+use Rattle.field.specs.Refusal.{Line, RefutesAnotherList}
 use Rattle.field.specs.faults.Laws.{OnePlaceEach, whole-one-place, first-one-place, one-place-append, refuses-determined, not-passes-and-refuses}
+use Rattle.field.specs.faults.Laws.{refuses-names}
 use Rattle.poly.specs.Terms.{Polynomial, numbers-of}
 use Rattle.poly.specs.Lists.{of-lists}
 use Rattle.field.specs.Lent.{written}
@@ -15,6 +17,7 @@ use Rattle.poly.specs.list.Check.{lists-one-place}
 use Rattle.divisor.specs.declared.CandidateRecord.{CandidateRecord}
 use Rattle.divisor.specs.Candidate.{Call, table, prime, Numbers, A, B, monomials, lent-points, AnswerTo, refused-record, Result, Candidate}
 use Rattle.divisor.specs.Candidate.{refused, answered, of-skeleton, of-points, of-inputs}
+use Rattle.divisor.specs.Rule.{all-bad, some-good}
 use Rattle.divisor.specs.answer.Determined.{answer-determined}
 
 -- each line of the inputs has one place
@@ -52,3 +55,13 @@ candidate-determined c r q (refused f h) (answered pass listed g G x) = absurd (
 candidate-determined c r q (answered pass listed f G x) (refused g h) = absurd (not-passes-and-refuses (table c) g pass h)
 candidate-determined c r q (answered pass listed f G x) (answered pass′ listed′ g H y) =
     answered-determined c listed listed′ f g G H x y
+
+-- the rule's answer names the list of its number
+pub answer-names : (c : Call) (listed : Listed (c .modulus)) (f : CandidateRecord) (G : Polynomial (Numbers c listed)) → AnswerTo c listed f G
+    → f .fault .list ≡ list-at-fault (f .fault .number)
+answer-names c listed f G (all-bad b) = refl
+answer-names c listed f G (some-good d b u k kept s number H v) = refl
+
+pub candidate-another-list : (c : Call) → RefutesAnotherList (λ r. r .found .fault) (Candidate c)
+candidate-another-list c r other (refused f h) = other (refuses-names (table c) f h)
+candidate-another-list c r other (answered pass listed f G x) = other (answer-names c listed f G x)

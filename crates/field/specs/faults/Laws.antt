@@ -1,5 +1,6 @@
--- Laws of tables of refusals: a table gives one fault at most, and does not both pass and refuse; a table may be tested part by part.
-use mathlib.Core.Path.{_≡_, refl, sym, _∙_, ap}
+-- Laws of faults and of tables of refusals: a fault is known by its numbers; a table gives one fault at most, and does not both pass and refuse; a table
+-- may be tested part by part.
+use mathlib.Core.Path.{_≡_, refl, sym, _∙_, ap, subst}
 use mathlib.Core.Logic.{inl, inr}
 use mathlib.Core.Bool.{Bool, true, _&&_}
 use mathlib.Core.List.{List, [], _∷_, _++_}
@@ -7,9 +8,16 @@ use Prim.Native.Nat.{ℕ}
 use native.Mathlib.Decide.{decLt}
 use native.Mathlib.Omega.{arith}
 use lib.Dec.{T, ltb, ltb→lt}
+use lib.ListN.{drop}
 use mir.Facts.{and-yes}
 use Rattle.field.specs.declared.faults.Fault.{Fault}
-use Rattle.field.specs.Refusal.{Line, placed, whole, first, fault, none, Refuses, Passes, Tested, refused, passed}
+use Rattle.field.specs.Numbers.{list-at-fault}
+use Rattle.field.specs.Refusal.{Line, placed, whole, first, fault, none, after-fault, fault-in, Refuses, Passes, Tested, refused, passed}
+use Rattle.field.specs.Refusal.{RefutesAnotherList}
+
+-- a fault, and what stands behind it, are known by their numbers
+pub after-fault-known : (X : Fault → List ℕ → Type 0) (f g : Fault) (rest more : List ℕ) → after-fault f rest ≡ after-fault g more → X f rest → X g more
+after-fault-known X f g rest more e x = subst (λ (l : List ℕ). X (fault-in l) (drop 3 l)) e x
 
 -- each line has one place
 abbrev pub OnePlaceEach : List Line → Type 0
@@ -52,6 +60,16 @@ tested-determined lines one f g (refused h) (refused k) = refuses-determined lin
 tested-determined lines one f g (refused h) (passed k e) = absurd (not-passes-and-refuses lines f k h)
 tested-determined lines one f g (passed h e) (refused k) = absurd (not-passes-and-refuses lines g h k)
 tested-determined lines one f g (passed h e) (passed k d) = e ∙ sym d
+
+-- a table refutes a fault that names another list than its number's
+pub refuses-names : (lines : List Line) (f : Fault) → Refuses lines f → f .list ≡ list-at-fault (f .number)
+refuses-names [] f h = absurd h
+refuses-names (l ∷ lines) f (inl h) = rw (h .1) refl
+refuses-names (l ∷ lines) f (inr h) = refuses-names lines f (h .1)
+
+pub tested-another-list : (lines : List Line) → RefutesAnotherList (λ f. f) (Tested lines)
+tested-another-list lines f other (refused h) = other (refuses-names lines f h)
+tested-another-list lines f other (passed h e) = other (rw e refl)
 
 -- a line with one stated place
 pub placed-never : {k : ℕ} {X : Type 0} → ¬ X → (place : ℕ) → ¬ placed k X place

@@ -1,5 +1,5 @@
 -- The promises of the arithmetic services settle their answers, and what is known where no line applies.
-use mathlib.Core.Path.{_≡_, sym, ap, _∙_}
+use mathlib.Core.Path.{_≡_, refl, sym, ap, _∙_}
 use mathlib.Core.Logic.{inl}
 use mathlib.Core.List.{List}
 use Prim.Native.Nat.{ℕ, _*_, _%_, _≤_, _<_}
@@ -10,9 +10,9 @@ use Rattle.field.specs.Fp.{el}
 use Rattle.field.specs.elements.Fp.{el-below-inj}
 use Rattle.field.specs.elements.Inverse.{inverse-unique}
 use Rattle.field.specs.elements.Link.{inverse-mul}
-use Rattle.field.specs.Refusal.{Line, none, Tested}
+use Rattle.field.specs.Refusal.{Line, none, Tested, RefutesAnotherList}
 use Rattle.field.specs.faults.Laws.{OnePlaceEach, placed-one-place, whole-one-place, never-placed}
-use Rattle.field.specs.faults.Laws.{refuses-determined, not-passes-and-refuses, numbered, tested-passes, tested-refuses}
+use Rattle.field.specs.faults.Laws.{refuses-determined, refuses-names, not-passes-and-refuses, numbered, tested-passes, tested-refuses}
 use Rattle.field.specs.Contract.{element, Fit, Invertible, sum-of, difference-of, product-of, Inverse}
 use Rattle.field.specs.Arithmetic.{two-operands, inverse-operand, Arithmetic, refused, answered, AskSum, AskDifference, AskProduct, AskInverse}
 use Rattle.field.specs.declared.faults.Fault.{Fault}
@@ -65,6 +65,11 @@ inverses-equal a r q h k =
 pub inverse-determined : (a : Element) (r q : Answer) → AskInverse a r → AskInverse a q → r ≡ q
 inverse-determined a =
     arithmetic-determined (inverse-operand a) (whole-one-place _, (placed-one-place 0 _, (whole-one-place _, tt))) (Inverse a) (inverses-equal a) a
+
+-- no service names another list than its number's
+pub arithmetic-another-list : (lines : List Line) (Outcome : Element → Type 0) (a : Element) → RefutesAnotherList (λ r. r .fault) (Arithmetic lines Outcome a)
+arithmetic-another-list lines Outcome a r other (refused f h) = other (refuses-names lines f h)
+arithmetic-another-list lines Outcome a r other (answered x h o) = other refl
 
 -- operands to which no line applies are those that the operations ask for
 pub operands-fit : (a b : Element) (f : Fault) → Tested (two-operands a b) f → f .number ≡ 0 → Fit a b

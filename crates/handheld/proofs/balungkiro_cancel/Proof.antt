@@ -6,4 +6,5 @@ use Rattle.handheld.proofs.balungkiro_cancel.Tie as tie
 
 pub balungkiro-cancel-spec : {M : Type 1} → statement M
 balungkiro-cancel-spec =
-    tie.close (tie.spec (λ c κs. search needs) (λ c. search needs) (λ c. search needs) (λ c. search needs) (λ c. search needs) (λ c. laid _ (search needs)))
+    tie.close (tie.spec (λ c κs. search needs) (λ c. search needs) (λ c. search needs) (λ c. search needs) (λ c. search needs) (λ c. search needs)
+    (λ c. laid _ (search needs)))

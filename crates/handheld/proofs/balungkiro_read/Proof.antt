@@ -7,10 +7,10 @@ use Rattle.handheld.proofs.balungkiro_read.Tie as tie
 
 returns : tie.Need-returns
 returns c =
-    let read = c .before .before .before in
+    let read = c .before .before .before .before in
     let g = read .read-into .ensures in
     rw (g .record-is, g .first-is, g .second-is, g .skeleton-is, g .points-is) (laid _ refl)
 
 pub balungkiro-read-spec : {M : Type 1} → statement M
 balungkiro-read-spec =
-    tie.close (tie.spec (λ c κs. search needs) (λ c. search needs) (λ c. search needs) returns)
+    tie.close (tie.spec (λ c κs. search needs) (λ c. search needs) (λ c. search needs) (λ c. search needs) returns)

@@ -8,10 +8,10 @@ use Rattle.field.specs.Prime.{Prime}
 use Rattle.field.specs.Modulo.{Modulo}
 use Rattle.field.specs.Moduli.{Listed}
 use Rattle.field.specs.modulus.Laws.{listed-prime, listed-unique}
-use Rattle.field.specs.Numbers.{NO_GOOD_POINT}
-use Rattle.field.specs.Refusal.{fault, none, Passes, Tested}
+use Rattle.field.specs.Numbers.{NO_GOOD_POINT, list-at-fault}
+use Rattle.field.specs.Refusal.{fault, none, Passes, Tested, RefutesAnotherList}
 use Rattle.field.specs.faults.Laws.{OnePlaceEach, whole-one-place, first-one-place, one-place-append, refuses-determined, not-passes-and-refuses}
-use Rattle.field.specs.faults.Laws.{passes-front, passes-back, tested-passes, tested-refuses}
+use Rattle.field.specs.faults.Laws.{refuses-names, passes-front, passes-back, tested-passes, tested-refuses}
 use Rattle.field.specs.declared.faults.Fault.{Fault}
 use Rattle.poly.specs.declared.ImageRecord.{ImageRecord}
 use Rattle.poly.specs.declared.PointImage.{PointImage}
@@ -103,3 +103,11 @@ image-determined c r q (answered pass listed s x) (answered pass′ listed′ s�
     PointAnswer (c .modulus) (listed-prime l) (terms-of (c .modulus) (listed-prime l) (c .first-list))
     (terms-of (c .modulus) (listed-prime l) (c .second-list)) (point-of (c .modulus) (listed-prime l) (c .point)) s′)
     (listed-unique _ listed′ listed) y))
+
+record-names : (size : ℕ) (u : List ℕ) → image-record size u .fault .list ≡ list-at-fault (image-record size u .fault .number)
+record-names zero u = refl
+record-names (suc degree) u = refl
+
+pub image-another-list : (c : ImageCall) → RefutesAnotherList (λ r. r .fault) (ImageAnswer c)
+image-another-list c r other (refused f h) = other (refuses-names (image-table c) f h)
+image-another-list c r other (answered pass listed found x) = other (record-names (found .size) (found .coefficients))

@@ -12,9 +12,9 @@ use Rattle.field.specs.Prime.{Prime}
 use Rattle.field.specs.Moduli.{Listed}
 use Rattle.field.specs.modulus.Laws.{listed-prime, listed-unique}
 use Rattle.field.specs.Modulo.{Modulo}
-use Rattle.field.specs.Refusal.{Line, none, Passes}
+use Rattle.field.specs.Refusal.{Line, none, Passes, RefutesAnotherList}
 use Rattle.field.specs.faults.Laws.{OnePlaceEach, whole-one-place, one-place-append, never-placed, refuses-determined, not-passes-and-refuses}
-use Rattle.field.specs.faults.Laws.{passes-front, passes-back}
+use Rattle.field.specs.faults.Laws.{refuses-names, passes-front, passes-back}
 use Rattle.poly.specs.Keys.{exponents, keys}
 use Rattle.poly.specs.Terms.{key-of, poly}
 use Rattle.poly.specs.Divides.{Divides}
@@ -97,6 +97,11 @@ module _ (c : QuotientCall) where
       ap handed
       (quotient-unique (c .modulus) (listed-prime listed) (c .first-list) (c .second-list) qs rs (g .some-divisor) (g .divisor-falls) q
       (exact-same listed′ listed rs q′))
+
+  pub quotient-another-list : RefutesAnotherList (λ r. r .found .fault) (Quotient c)
+  quotient-another-list r other (refused f h) = other (refuses-names (quotient-table c) f h)
+  quotient-another-list r other (no-quotient pass listed n) = other refl
+  quotient-another-list r other (quotient pass listed qs q) = other refl
 
   -- the second list divides the first
   abbrev pub DividesExactly : Listed (c .modulus) → Type 0

@@ -7,6 +7,7 @@ use lib.Dec.{eqb}
 use lib.ListN.{length}
 use Rattle.field.specs.Prime.{Prime}
 use Rattle.field.specs.modulus.Laws.{listed-prime}
+use Rattle.field.specs.Refusal.{after-fault}
 use Rattle.poly.specs.Terms.{coefficient-of}
 use Rattle.cancel.specs.declared.CancelRecord.{CancelRecord}
 use Rattle.cancel.specs.CancelCall.{with-both}
@@ -16,7 +17,7 @@ use Rattle.proved_table.specs.test.Rows.{listed-and, same-numbers, test,
 
 -- the numbers of the key's record
 abbrev pub cancel-numbers : CancelRecord → List ℕ
-cancel-numbers r = r .fault .number ∷ r .fault .place ∷ r .degree ∷ r .bad ∷ r .unlucky ∷ r .kept ∷ r .numerator ∷ r .denominator ∷ []
+cancel-numbers r = after-fault (r .fault) (r .degree ∷ r .bad ∷ r .unlucky ∷ r .kept ∷ r .numerator ∷ r .denominator ∷ [])
 
 -- the first coefficient is 1
 unfoldable pub begins-with-one : List ℕ → Bool

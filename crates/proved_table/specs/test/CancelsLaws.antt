@@ -21,7 +21,7 @@ use Rattle.field.specs.Modulo.{Modulo}
 use Rattle.field.specs.Lent.{written}
 use Rattle.field.specs.Numbers.{OUTPUT_SHORT}
 use Rattle.field.specs.Refusal.{fault, Passes}
-use Rattle.field.specs.faults.Laws.{passes-append, refuses-back, not-passes-and-refuses}
+use Rattle.field.specs.faults.Laws.{after-fault-known, passes-append, refuses-back, not-passes-and-refuses}
 use Rattle.poly.specs.Keys.{keys}
 use Rattle.poly.specs.Terms.{Polynomial, coefficient-of, terms-of, poly}
 use Rattle.poly.specs.Room.{of-rooms, room-lines, work-room, cleared}
@@ -81,7 +81,7 @@ leads-with-one p P (t ∷ ts) k = ap (el p) (eqb-true (coefficient-of t) 1 k)
 
 -- a record is known by its numbers
 record-known : (r q : CancelRecord) → cancel-numbers r ≡ cancel-numbers q → r ≡ q
-record-known r q e = ap (λ (l : List ℕ). with-both (record-of l) (getD l 6 0) (getD l 7 0)) e
+record-known r q e = after-fault-known (λ f l. r ≡ with-both (record-of f l) (getD l 4 0) (getD l 5 0)) (r .fault) (q .fault) _ _ e refl
 
 module _ (r : CancelRow) where
   abbrev p : ℕ

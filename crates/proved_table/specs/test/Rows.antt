@@ -10,7 +10,7 @@ use Rattle.field.specs.Moduli.{Listed}
 use Rattle.field.specs.modulus.Laws.{listed-prime, listed-decided}
 use Rattle.field.specs.Modulo.{Modulo}
 use Rattle.field.specs.Numbers.{DOES_NOT_DIVIDE}
-use Rattle.field.specs.Refusal.{Line}
+use Rattle.field.specs.Refusal.{Line, fault, none, after-fault}
 use Rattle.field.specs.faults.Decision.{Checks, decided}
 use Rattle.poly.specs.declared.ImageRecord.{ImageRecord}
 use Rattle.poly.specs.declared.QuotientRecord.{QuotientRecord}
@@ -37,7 +37,7 @@ same-numbers (m ∷ ms) (n ∷ ns) = eqb m n && same-numbers ms ns
 
 -- the numbers of a record, and terms behind them
 abbrev pub numbers : CandidateRecord → List ℕ → List ℕ
-numbers r terms = r .fault .number ∷ r .fault .place ∷ r .degree ∷ r .bad ∷ r .unlucky ∷ r .kept ∷ r .terms ∷ terms
+numbers r terms = after-fault (r .fault) (r .degree ∷ r .bad ∷ r .unlucky ∷ r .kept ∷ r .terms ∷ terms)
 
 unfoldable pub agrees : Computed → CandidateRecord → List ℕ → Bool
 agrees unanswered found terms = false
@@ -66,7 +66,7 @@ right-lists p A B = eqb (decided (of-lists p A B) (list-checks p A B) .number) 0
 
 -- the numbers of a quotient's record, and terms behind them
 abbrev pub quotient-numbers : QuotientRecord → List ℕ → List ℕ
-quotient-numbers r terms = r .fault .number ∷ r .fault .place ∷ r .terms ∷ terms
+quotient-numbers r terms = after-fault (r .fault) (r .terms ∷ terms)
 
 -- f less the product of the two leaves nothing
 unfoldable pub multiplies : (p : ℕ) → Prime p → Product → Bool
@@ -81,8 +81,8 @@ module _ (r : QuotientRow) where
   unfoldable pub quotient-agrees : Prime (r .modulus) → Outcome → Bool
   quotient-agrees P divides =
       right-lists (r .modulus) (r .first-list) (r .terms) && multiplies (r .modulus) P product-of
-      && same-numbers (quotient-numbers (r .found) (r .terms)) (0 ∷ 0 ∷ length (r .terms) ∷ r .terms)
-  quotient-agrees P does-not = same-numbers (quotient-numbers (r .found) (r .terms)) (DOES_NOT_DIVIDE ∷ 0 ∷ 0 ∷ [])
+      && same-numbers (quotient-numbers (r .found) (r .terms)) (after-fault none (length (r .terms) ∷ r .terms))
+  quotient-agrees P does-not = same-numbers (quotient-numbers (r .found) (r .terms)) (after-fault (fault DOES_NOT_DIVIDE 0) (0 ∷ []))
   quotient-agrees P open-still = false
 
   unfoldable pub quotient-test : Bool
@@ -92,7 +92,7 @@ module _ (r : QuotientRow) where
 
 -- the numbers of an image's record
 abbrev pub image-numbers : ImageRecord → List ℕ
-image-numbers r = r .fault .number ∷ r .fault .place ∷ r .degree ∷ r .coefficients
+image-numbers r = after-fault (r .fault) (r .degree ∷ r .coefficients)
 
 module _ (r : ImageRow) where
   unfoldable pub image-passes : Bool

@@ -1,5 +1,5 @@
 -- A row that passes the test holds, and so do an image and a product; and each of a list does. A row that holds is the only result of its call.
-use mathlib.Core.Path.{_≡_, refl, sym, ap, ap₂, subst}
+use mathlib.Core.Path.{_≡_, refl, sym, ap₂}
 use mathlib.Core.Bool.{Bool, true, false, false≢true, and-eq-true-iff}
 use mathlib.Core.List.{List, [], _∷_}
 use Prim.Native.Nat.{ℕ, _≤_}
@@ -13,7 +13,8 @@ use Rattle.field.specs.modulus.Laws.{every, listed-prime, listed-decided}
 use Rattle.field.specs.Modulo.{Modulo}
 use Rattle.field.specs.Numbers.{DOES_NOT_DIVIDE}
 use Rattle.field.specs.Refusal.{fault, none, Passes}
-use Rattle.field.specs.faults.Laws.{placed-never, passes-append}
+use Rattle.field.specs.faults.Laws.{after-fault-known, placed-never, passes-append}
+use Rattle.field.specs.declared.faults.Fault.{Fault}
 use Rattle.field.specs.faults.Decision.{decided-tested, decided-passes}
 use Rattle.poly.specs.declared.ImageRecord.{ImageRecord}
 use Rattle.poly.specs.declared.QuotientRecord.{QuotientRecord}
@@ -52,21 +53,14 @@ same-is (m ∷ ms) (n ∷ ns) h =
     let both = and-eq-true-iff (eqb m n) (same-numbers ms ns) .0 h in
     ap₂ _∷_ (eqb-true m n (both .0)) (same-is ms ns (both .1))
 
--- the record of its numbers
-abbrev pub record-of : List ℕ → CandidateRecord
-record-of l =
-    record {
-      fault = fault (getD l 0 0) (getD l 1 0);
-      degree = getD l 2 0;
-      bad = getD l 3 0;
-      unlucky = getD l 4 0;
-      kept = getD l 5 0;
-      terms = getD l 6 0;
-    }
+-- the record of a fault and the numbers behind it
+abbrev pub record-of : Fault → List ℕ → CandidateRecord
+record-of f l =
+    record { fault = f; degree = getD l 0 0; bad = getD l 1 0; unlucky = getD l 2 0; kept = getD l 3 0; terms = getD l 4 0 }
 
 -- a record and terms are known by their numbers
 numbers-settle : (X : CandidateRecord → List ℕ → Type 0) (r q : CandidateRecord) (terms ts : List ℕ) → numbers r terms ≡ numbers q ts → X r terms → X q ts
-numbers-settle X r q terms ts e x = subst (λ (l : List ℕ). X (record-of l) (drop 7 l)) e x
+numbers-settle X r q terms ts e x = after-fault-known (λ f l. X (record-of f l) (drop 5 l)) (r .fault) (q .fault) _ _ e x
 
 -- of a listed modulus the test was passed
 pub listed-and-means : (p : ℕ) (f : Listed p → Bool) → listed-and p f ≡ true → (h : Listed p) × (f h ≡ true)
@@ -133,10 +127,8 @@ module _ (r : QuotientRow) (output work : List ℕ) (long : keys ≤ length outp
   quotient-known : (found : QuotientRecord) (terms : List ℕ) → same-numbers (quotient-numbers (r .found) (r .terms)) (quotient-numbers found terms) ≡ true
       → Quotient asked (quotient-result found (written terms output) (cleared work)) → Quotient asked (quotient-result-of r output work)
   quotient-known found terms h x =
-      subst (λ (l : List ℕ). Quotient asked (quotient-result (record-of l) (written (drop 3 l) output) (cleared work))) (sym (same-is _ _ h)) x
-    where
-      record-of : List ℕ → QuotientRecord
-      record-of l = record { fault = fault (getD l 0 0) (getD l 1 0); terms = getD l 2 0 }
+      after-fault-known (λ f l. Quotient asked (quotient-result (record { fault = f; terms = getD l 0 0 }) (written (drop 1 l) output) (cleared work)))
+      (found .fault) (r .found .fault) _ _ (sym (same-is _ _ h)) x
 
   quotient-settled : Passes (quotient-table asked) → (listed : Listed (r .modulus)) (o : Outcome)
       → Means (Modulo (r .modulus) (listed-prime listed)) (poly (r .modulus) (listed-prime listed) (r .first-list))
@@ -179,11 +171,9 @@ image-tested r h =
     image-answered (c .modulus) (c .first-list) (c .second-list) (c .point) _ tested passed (image-of (c .modulus) (c .first-list) (c .second-list) (c .point))
     (model-answers (c .modulus) (c .first-list) (c .second-list) (c .point) lists refl) (image-known (r .found) _ (same-is _ _ (both .1)))
   where
-    record-of : List ℕ → ImageRecord
-    record-of l = record { fault = fault (getD l 0 0) (getD l 1 0); degree = getD l 2 0; coefficients = drop 3 l }
-
     image-known : (q s : ImageRecord) → image-numbers q ≡ image-numbers s → q ≡ s
-    image-known q s e = ap record-of e
+    image-known q s e =
+        after-fault-known (λ f l. q ≡ record { fault = f; degree = getD l 0 0; coefficients = drop 1 l }) (q .fault) (s .fault) _ _ e refl
 
 -- what follows from a test follows for each of a list
 pub each-tested : {X : Type 0} (f : X → Bool) (F : X → Type 0) → ((x : X) → f x ≡ true → F x) → (xs : List X) → every f xs ≡ true → Each F xs

@@ -5,6 +5,7 @@ use mathlib.Core.List.{List, [], _∷_, _++_}
 use Prim.Native.Nat.{ℕ}
 use lib.Dec.{eqb}
 use Rattle.field.specs.Lent.{written}
+use Rattle.field.specs.Refusal.{after-fault}
 use Rattle.case_file.specs.declared.Contents.{Contents}
 use Rattle.case_file.specs.Reading.{read}
 use Rattle.case_file.specs.Handed.{contents}
@@ -66,15 +67,15 @@ wrong-image-test w = image-test (w .row) && clash (image-numbers (w .found)) (im
 -- the numbers that the reader hands back
 unfoldable pub file-numbers : Contents → List ℕ
 file-numbers r =
-    r .fault .number ∷ r .fault .place ∷ r .modulus ∷ r .«first_count» ∷ r .«second_count» ∷ r .«skeleton_count» ∷ r .«points_count»
-    ∷ r .first ++ r .second ++ r .skeleton ++ r .points
+    after-fault (r .fault) (r .modulus ∷ r .«first_count» ∷ r .«second_count» ∷ r .«skeleton_count» ∷ r .«points_count»
+    ∷ r .first ++ r .second ++ r .skeleton ++ r .points)
 
 unfoldable pub wrong-file-test : WrongFile → Bool
 wrong-file-test w = clash (file-numbers (w .found)) (file-numbers (contents (read (w .row .bytes))))
 
 -- the numbers of the writer's record, and the buffer left behind them
 unfoldable pub write-numbers : WriteResult → List ℕ
-write-numbers r = r .found .fault .number ∷ r .found .fault .place ∷ r .found .length ∷ r .buffer
+write-numbers r = after-fault (r .found .fault) (r .found .length ∷ r .buffer)
 
 unfoldable pub wrong-write-test : WriteRow → Bool
 wrong-write-test w = clash (write-numbers (w .result)) (write-numbers (right-write (w .call)))

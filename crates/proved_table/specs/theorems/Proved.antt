@@ -13,6 +13,7 @@ use Rattle.algebra.specs.Mono.{mono}
 use Rattle.algebra.specs.Laws.Four.{compare-by, compare}
 use Rattle.field.specs.Prime.{Prime}
 use Rattle.field.specs.Moduli.{listed}
+use Rattle.field.specs.Numbers.{list-at-fault}
 use Rattle.field.specs.modulus.Laws.{every, listed-decided}
 use Rattle.field.specs.Fp.{el, add, mul, neg, chase, inv}
 use Rattle.field.specs.elements.Fp.{Fp-discrete}
@@ -56,7 +57,7 @@ use Rattle.proved_table.specs.CancelRows.{cancels}
 use Rattle.proved_table.specs.Table.{images, products, p1, table}
 
 pub table-passes : (every test table ≡ true) × (every test more-rows ≡ true)
-unfolding ℕ-discrete decLe decLt mono pow listed listed-decided el add mul neg chase inv Fp-discrete Dec·not Dec·and placed-check look first-check
+unfolding list-at-fault ℕ-discrete decLe decLt mono pow listed listed-decided el add mul neg chase inv Fp-discrete Dec·not Dec·and placed-check look first-check
     decided cells plus-term with-term fold value-of size-to scaled monic between subtract downwards euclid gcd image-of-values
     image-of points-of lesser alike kept-of leading scaled-terms compare-by compare each-at-most plus less before-all leads
     divided division tried divided-by by-answer with-counts by-kept by-least by-looks computed count-decided not-below-decided key-decided
@@ -77,7 +78,7 @@ table-determined = each-follows Holds Determined holds-determined table table-ho
 
 -- the images that the rows name are those, and so are the images beside them
 images-pass : (every image-test images ≡ true) × (every image-test more-images ≡ true)
-unfolding ℕ-discrete decLe decLt listed listed-decided el add mul neg chase inv Dec·not Dec·and placed-check look first-check decided cells
+unfolding list-at-fault ℕ-discrete decLe decLt listed listed-decided el add mul neg chase inv Dec·not Dec·and placed-check look first-check decided cells
     plus-term with-term fold value-of size-to scaled monic between subtract downwards euclid gcd image-of-values image-of
     count-decided not-below-decided key-decided plain-term-decided term-decided number-decided checks-append list-checks point-checks image-checks same-numbers
     image-passes image-agrees image-test
@@ -91,14 +92,14 @@ more-images-hold = each-tested image-test Shows image-tested more-images (images
 
 -- the quotients are those
 pub quotients-hold : Each QuotientHolds quotients
-unfolding ℕ-discrete decLe decLt listed listed-decided el add mul neg chase inv Fp-discrete Dec·not Dec·and placed-check look first-check decided
+unfolding list-at-fault ℕ-discrete decLe decLt listed listed-decided el add mul neg chase inv Fp-discrete Dec·not Dec·and placed-check look first-check decided
     compare-by compare each-at-most plus less less-all before-all leads divided division divided-by count-decided not-below-decided key-decided
     plain-term-decided term-decided list-checks listed-and same-numbers right-lists multiplies quotient-agrees quotient-test
 quotients-hold = each-tested quotient-test QuotientHolds quotient-tested quotients refl
 
 -- the Cancel key hands out those
 cancels-pass : every cancel-test cancels ≡ true
-unfolding ℕ-discrete decLe decLt mono pow listed listed-decided el add mul neg chase inv Fp-discrete Dec·not Dec·and placed-check look first-check
+unfolding list-at-fault ℕ-discrete decLe decLt mono pow listed listed-decided el add mul neg chase inv Fp-discrete Dec·not Dec·and placed-check look first-check
     decided cells plus-term with-term fold value-of size-to scaled monic between subtract downwards euclid gcd image-of-values
     image-of points-of lesser alike kept-of leading scaled-terms compare-by compare each-at-most plus less less-all before-all leads
     divided division tried divided-by by-answer with-counts by-kept by-least by-looks computed count-decided not-below-decided key-decided

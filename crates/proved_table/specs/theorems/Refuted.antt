@@ -6,6 +6,7 @@ use Rattle.algebra.specs.Ring.{pow}
 use Rattle.algebra.specs.Mono.{mono}
 use Rattle.algebra.specs.Laws.Four.{compare-by, compare}
 use Rattle.field.specs.Moduli.{listed}
+use Rattle.field.specs.Numbers.{list-at-fault}
 use Rattle.field.specs.modulus.Laws.{listed-decided}
 use Rattle.field.specs.Fp.{el, add, mul, neg, chase, inv}
 use Rattle.field.specs.elements.Fp.{Fp-discrete}
@@ -51,7 +52,7 @@ use Rattle.proved_table.specs.test.PicksLaws.{pick-refuted, place-refute
 
 -- the contract of the candidate refutes each of its wrong results
 pub wrong-results-refuted : Each Refuted wrong-results
-unfolding ℕ-discrete decLe decLt mono pow listed listed-decided el add mul neg chase inv Fp-discrete Dec·not Dec·and placed-check look first-check
+unfolding list-at-fault ℕ-discrete decLe decLt mono pow listed listed-decided el add mul neg chase inv Fp-discrete Dec·not Dec·and placed-check look first-check
     decided cells plus-term with-term fold value-of size-to scaled monic between subtract downwards euclid gcd image-of-values
     image-of points-of lesser alike kept-of leading scaled-terms compare-by compare each-at-most plus less before-all leads
     divided division tried divided-by by-answer with-counts by-kept by-least by-looks computed count-decided not-below-decided key-decided
@@ -62,7 +63,7 @@ wrong-results-refuted = each-tested wrong-test Refuted refuted wrong-results ref
 
 -- the contract of the quotient
 pub wrong-quotients-refuted : Each QuotientRefuted wrong-quotients
-unfolding ℕ-discrete decLe decLt listed listed-decided el add mul neg chase inv Fp-discrete Dec·not Dec·and placed-check look first-check decided
+unfolding list-at-fault ℕ-discrete decLe decLt listed listed-decided el add mul neg chase inv Fp-discrete Dec·not Dec·and placed-check look first-check decided
     compare-by compare each-at-most plus less less-all before-all leads divided division divided-by count-decided not-below-decided key-decided
     plain-term-decided term-decided list-checks listed-and same-numbers right-lists multiplies quotient-agrees quotient-test
     clash left-full differs wrong-quotient-test
@@ -70,7 +71,7 @@ wrong-quotients-refuted = each-tested wrong-quotient-test QuotientRefuted quotie
 
 -- of the Cancel key
 pub wrong-cancels-refuted : Each CancelRefuted wrong-cancels
-unfolding ℕ-discrete decLe decLt mono pow listed listed-decided el add mul neg chase inv Fp-discrete Dec·not Dec·and placed-check look first-check
+unfolding list-at-fault ℕ-discrete decLe decLt mono pow listed listed-decided el add mul neg chase inv Fp-discrete Dec·not Dec·and placed-check look first-check
     decided cells plus-term with-term fold value-of size-to scaled monic between subtract downwards euclid gcd image-of-values
     image-of points-of lesser alike kept-of leading scaled-terms compare-by compare each-at-most plus less less-all before-all leads
     divided division tried divided-by by-answer with-counts by-kept by-least by-looks computed count-decided not-below-decided key-decided
@@ -81,7 +82,7 @@ wrong-cancels-refuted = each-tested wrong-cancel-test CancelRefuted cancel-refut
 
 -- of the image
 pub wrong-images-refuted : Each ImageRefuted wrong-images
-unfolding ℕ-discrete decLe decLt listed listed-decided el add mul neg chase inv Dec·not Dec·and placed-check look first-check decided cells
+unfolding list-at-fault ℕ-discrete decLe decLt listed listed-decided el add mul neg chase inv Dec·not Dec·and placed-check look first-check decided cells
     plus-term with-term fold value-of size-to scaled monic between subtract downwards euclid gcd image-of-values image-of
     count-decided not-below-decided key-decided plain-term-decided term-decided number-decided checks-append list-checks point-checks image-checks same-numbers
     image-passes image-agrees image-test clash wrong-image-test
@@ -89,13 +90,14 @@ wrong-images-refuted = each-tested wrong-image-test ImageRefuted image-refuted w
 
 -- of the reader
 pub wrong-files-refuted : Each FileRefuted wrong-files
-unfolding read-in read-one-in reading alone fault-number added flat known kind-of follows little padded records packed bytes clash file-numbers wrong-file-test
+unfolding list-at-fault read-in read-one-in reading alone fault-number added flat known kind-of follows little padded records packed bytes clash file-numbers
+    wrong-file-test
 wrong-files-refuted = each-tested wrong-file-test FileRefuted file-refuted wrong-files refl
 
 -- of the writer
 pub wrong-writes-refuted : Each WriteRefuted wrong-writes
-unfolding ℕ-discrete decLt Dec·not placed-check decided kind-of added records packed bytes in-order file-of triples unwritable-decided write-checks
-    by-fault right-write clash write-numbers wrong-write-test
+unfolding list-at-fault ℕ-discrete decLt Dec·not placed-check decided kind-of added records packed bytes in-order file-of triples unwritable-decided
+    write-checks by-fault right-write clash write-numbers wrong-write-test
 wrong-writes-refuted = each-tested wrong-write-test WriteRefuted write-refuted wrong-writes refl
 
 -- of the picker: other terms, wherever the lists lie; and the other list, where the lists begin at two places

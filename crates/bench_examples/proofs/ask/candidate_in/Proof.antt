@@ -7,10 +7,11 @@ use Rattle.bench_examples.proofs.ask.candidate_in.Tie as tie
 
 -- where the service is asked, from where its numbers are listed
 abbrev asked : tie.After-numbers → tie.After-candidate
-asked c = c .before .before .before .before .before .before
+asked c = c .before .before .before .before .before .before .before
 
 pub candidate-in-spec : {M : Type 1} → statement M
 candidate-in-spec =
-    tie.close (tie.spec (λ c κs. search needs) (λ c. search needs) (λ c. search needs) (λ c. search (needs, candidate-first _ _ (asked c .candidate .ensures)))
+    tie.close (tie.spec (λ c κs. search needs) (λ c. search needs) (λ c. search needs) (λ c. search needs)
+    (λ c. search (needs, candidate-first _ _ (asked c .candidate .ensures)))
     (λ c. search (needs, candidate-first _ _ (asked (c .before) .candidate .ensures))) (λ c κs. search needs) (λ c. search needs)
     (λ c. search needs) (λ c. search needs))
