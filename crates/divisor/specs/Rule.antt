@@ -114,12 +114,17 @@ module _ (K : Field) where
   abbrev pub DividesBoth : Polynomial K → Polynomial K → Polynomial K → Type 0
   DividesBoth A B G = Divides K (polynomial R G) (polynomial R A) × Divides K (polynomial R G) (polynomial R B)
 
-  -- What the kept points settle: the number, and the polynomial to be handed out.
+  -- What the divisions by G settle: the number, and the polynomial to be handed out.
+  pub data Tried (A B G : Polynomial K) : ℕ → Polynomial K → Type 0 where
+    rejected : ¬ DividesBoth A B G → Tried A B G DOES_NOT_DIVIDE []
+    accepted : DividesBoth A B G → Tried A B G 0 G
+
+  -- What the kept points settle: the same.
   pub data Verdict (A B : Polynomial K) (monomials : List Exponents) (kept : List Kept) : ℕ → Polynomial K → Type 0 where
     unsolvable : NoSolution monomials kept → Verdict A B monomials kept NO_SOLUTION []
     several : SeveralSolutions monomials kept → Verdict A B monomials kept SEVERAL_SOLUTIONS []
-    rejected : (s : Unknowns) → OnlySolution monomials kept s → ¬ DividesBoth A B (divisor s) → Verdict A B monomials kept DOES_NOT_DIVIDE []
-    accepted : (s : Unknowns) → OnlySolution monomials kept s → DividesBoth A B (divisor s) → Verdict A B monomials kept 0 (divisor s)
+    divided : (s : Unknowns) → OnlySolution monomials kept s → {number : ℕ} {G : Polynomial K} → Tried A B (divisor s) number G
+        → Verdict A B monomials kept number G
 
   -- What the rule answers: the record, and the polynomial to be handed out.
   pub data RuleAnswer (A B : Polynomial K) (monomials : List Exponents) (points : List (Point R)) : CandidateRecord → Polynomial K → Type 0 where

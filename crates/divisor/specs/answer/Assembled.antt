@@ -25,7 +25,7 @@ use Rattle.field.specs.Lent.{written}
 use Rattle.poly.specs.Room.{cleared}
 use Rattle.poly.specs.image.Laws.{image-small}
 use Rattle.divisor.specs.Rule.{Counts, none-good, report, Kept, Sorted, Unknowns, Solution, OnlySolution, without-zeros, made-monic, divisor}
-use Rattle.divisor.specs.Rule.{Verdict, unsolvable, several, rejected, accepted, all-bad, some-good}
+use Rattle.divisor.specs.Rule.{rejected, accepted, Verdict, unsolvable, several, divided, all-bad, some-good}
 use Rattle.divisor.specs.Candidate.{Call, table, prime, Numbers, A, B, monomials, lent-points, Result, Candidate, answered}
 use Rattle.divisor.specs.table.Meaning.{entries}
 use Rattle.divisor.specs.equations.Rows.{all-rows, with-coefficients, unknowns-of}
@@ -191,11 +191,14 @@ module _ (c : Call) (pass : Passes (table c)) (listed : Listed (c .modulus)) whe
       abbrev DividesBothLists : S4 (Numbers c listed .ring) .Car → Type 0
       DividesBothLists g = Divides (Numbers c listed) g (poly p P (c .first-list)) × Divides (Numbers c listed) g (poly p P (c .second-list))
 
-      pub answer-rejected : ¬ Both p P (c .first-list) (c .second-list) (monic-terms p (c .skeleton) cs) → Candidate c (result DOES_NOT_DIVIDE [])
-      answer-rejected n =
-          answer-verdict DOES_NOT_DIVIDE [] (rejected found only (λ both. n (subst DividesBothLists of-list both)))
+      pub answer-rejected : ¬ Both p P (c .first-list) (c .second-list) (monic-terms p (c .skeleton) cs)
+          → Candidate c (result DOES_NOT_DIVIDE [])
+      answer-rejected not-both = answer-verdict DOES_NOT_DIVIDE []
+          (divided found only (rejected (λ both. not-both (subst DividesBothLists of-list both))))
 
-      pub answer-accepted : Both p P (c .first-list) (c .second-list) (monic-terms p (c .skeleton) cs) → Candidate c (result 0 (monic-terms p (c .skeleton) cs))
+      pub answer-accepted : Both p P (c .first-list) (c .second-list) (monic-terms p (c .skeleton) cs)
+          → Candidate c (result 0 (monic-terms p (c .skeleton) cs))
       answer-accepted both =
           subst (λ (ts : List ℕ). Candidate c (result 0 ts)) of-numbers
-          (answer-verdict 0 (divisor (Numbers c listed) found) (accepted found only (subst DividesBothLists (sym of-list) both)))
+          (answer-verdict 0 (divisor (Numbers c listed) found)
+          (divided found only (accepted (subst DividesBothLists (sym of-list) both))))

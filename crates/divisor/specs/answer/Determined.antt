@@ -11,8 +11,9 @@ use Rattle.poly.specs.Terms.{Polynomial}
 use Rattle.poly.specs.PointValue.{Point}
 use Rattle.poly.specs.image.Laws.{image-unique}
 use Rattle.divisor.specs.declared.CandidateRecord.{CandidateRecord}
-use Rattle.divisor.specs.Rule.{report, DividesBoth, Kept, Sorted, done, bad, unlucky, keep, AllBad, Unknowns, OnlySolution, SeveralSolutions}
-use Rattle.divisor.specs.Rule.{divisor, Verdict, unsolvable, several, rejected, accepted, RuleAnswer, all-bad, some-good}
+use Rattle.divisor.specs.Rule.{report, Kept, Sorted, done, bad, unlucky, keep, AllBad, Unknowns, OnlySolution, SeveralSolutions}
+use Rattle.divisor.specs.Rule.{divisor, Tried, rejected, accepted, Verdict, unsolvable, several, divided}
+use Rattle.divisor.specs.Rule.{RuleAnswer, all-bad, some-good}
 
 module _ (K : Field) (A B : Polynomial K) where
   open Field K using (ring as R)
@@ -73,27 +74,25 @@ module _ (K : Field) (A B : Polynomial K) where
   not-several : (monomials : List Exponents) (kept : List (Kept K)) (s : Unknowns K) → OnlySolution K monomials kept s → ¬ SeveralSolutions K monomials kept
   not-several monomials kept s only t = t .4 (only .1 (t .0) (t .2) ∙ sym (only .1 (t .1) (t .3)))
 
+  tried-determined : (G : Polynomial K) (n m : ℕ) (H I : Polynomial K) → Tried K A B G n H → Tried K A B G m I → (n ≡ m) × (H ≡ I)
+  tried-determined G n m H I (rejected x) (rejected y) = (refl, refl)
+  tried-determined G n m H I (rejected x) (accepted y) = absurd (x y)
+  tried-determined G n m H I (accepted x) (rejected y) = absurd (y x)
+  tried-determined G n m H I (accepted x) (accepted y) = (refl, refl)
+
   verdict-determined : (monomials : List Exponents) (kept : List (Kept K)) (n m : ℕ) (G H : Polynomial K)
       → Verdict K A B monomials kept n G → Verdict K A B monomials kept m H → (n ≡ m) × (G ≡ H)
   verdict-determined monomials kept n m G H (unsolvable z) (unsolvable y) = (refl, refl)
   verdict-determined monomials kept n m G H (unsolvable z) (several t) = absurd (z (t .0) (t .2))
-  verdict-determined monomials kept n m G H (unsolvable z) (rejected t only x) = absurd (z t (only .0))
-  verdict-determined monomials kept n m G H (unsolvable z) (accepted t only x) = absurd (z t (only .0))
+  verdict-determined monomials kept n m G H (unsolvable z) (divided t only x) = absurd (z t (only .0))
   verdict-determined monomials kept n m G H (several s) (unsolvable z) = absurd (z (s .0) (s .2))
   verdict-determined monomials kept n m G H (several s) (several t) = (refl, refl)
-  verdict-determined monomials kept n m G H (several s) (rejected t only x) = absurd (not-several monomials kept t only s)
-  verdict-determined monomials kept n m G H (several s) (accepted t only x) = absurd (not-several monomials kept t only s)
-  verdict-determined monomials kept n m G H (rejected s only x) (unsolvable z) = absurd (z s (only .0))
-  verdict-determined monomials kept n m G H (rejected s only x) (several t) = absurd (not-several monomials kept s only t)
-  verdict-determined monomials kept n m G H (rejected s only x) (rejected t only′ y) = (refl, refl)
-  verdict-determined monomials kept n m G H (rejected s only x) (accepted t only′ y) =
-      absurd (x (subst (λ (v : Unknowns K). DividesBoth K A B (divisor K v)) (only .1 t (only′ .0)) y))
-  verdict-determined monomials kept n m G H (accepted s only x) (unsolvable z) = absurd (z s (only .0))
-  verdict-determined monomials kept n m G H (accepted s only x) (several t) = absurd (not-several monomials kept s only t)
-  verdict-determined monomials kept n m G H (accepted s only x) (rejected t only′ y) =
-      absurd (y (subst (λ (v : Unknowns K). DividesBoth K A B (divisor K v)) (only′ .1 s (only .0)) x))
-  verdict-determined monomials kept n m G H (accepted s only x) (accepted t only′ y) =
-      (refl, ap (divisor K) (only′ .1 s (only .0)))
+  verdict-determined monomials kept n m G H (several s) (divided t only x) = absurd (not-several monomials kept t only s)
+  verdict-determined monomials kept n m G H (divided s only x) (unsolvable z) = absurd (z s (only .0))
+  verdict-determined monomials kept n m G H (divided s only x) (several t) = absurd (not-several monomials kept s only t)
+  verdict-determined monomials kept n m G H (divided s only x) (divided t only′ y) =
+      tried-determined (divisor K t) n m G H
+      (subst (λ (v : Unknowns K). Tried K A B (divisor K v) n G) (only′ .1 s (only .0)) x) y
 
   pub answer-determined : (monomials : List Exponents) (points : List (Point R)) (r q : CandidateRecord) (G H : Polynomial K)
       → RuleAnswer K A B monomials points r G → RuleAnswer K A B monomials points q H → (r ≡ q) × (G ≡ H)

@@ -26,7 +26,7 @@ use Rattle.poly.specs.image.Laws.{good-keeps, image-small}
 use Rattle.poly.specs.value.Laws.{polynomial-finite, valued, value-of-polynomial, Bounded, polynomial-ends}
 use Rattle.divisor.specs.declared.CandidateRecord.{CandidateRecord}
 use Rattle.divisor.specs.Rule.{DividesBoth, Kept, Sorted, done, bad, unlucky, keep, First, Equations, Unknowns, Solution, without-zeros}
-use Rattle.divisor.specs.Rule.{divisor, unsolvable, several, rejected, accepted, RuleAnswer, all-bad, some-good}
+use Rattle.divisor.specs.Rule.{divisor, rejected, accepted, unsolvable, several, divided, RuleAnswer, all-bad, some-good}
 use Rattle.divisor.specs.Demands.{DegreeX, IsPolynomial, GreatestInX}
 use Rattle.divisor.specs.monic.Value.{value-without-zeros, without-zeros-nonzero, made-monic-nonzero}
 
@@ -138,7 +138,7 @@ module _ (K : Field) where
       absurd (omega arith)
   accepted-greatest A B monomials points first second r G (some-good d b u k kept sorted n H (several s)) e =
       absurd (omega arith)
-  accepted-greatest A B monomials points first second r G (some-good d b u k kept sorted n H (rejected s only x)) e =
+  accepted-greatest A B monomials points first second r G (some-good d b u k kept sorted n H (divided s only (rejected x))) e =
       absurd (omega arith)
-  accepted-greatest A B monomials points first second r G (some-good d b u k kept sorted n H (accepted s only both)) e =
+  accepted-greatest A B monomials points first second r G (some-good d b u k kept sorted n H (divided s only (accepted both))) e =
       accepted-degree A B monomials points first second d b u k kept sorted s (only .0) both

@@ -19,7 +19,7 @@ use Rattle.divisor.specs.monic.Laws.{monic-is-made-monic}
 use Rattle.divisor.specs.demand.Degree.{accepted-greatest}
 use Rattle.divisor.specs.answer.CandidateDetermined.{candidate-determined}
 use Rattle.divisor.specs.demand.Proposed.{Under, FallingMonomials, terms-at, terms-at-monomials, polynomial-of-terms-at}
-use Rattle.divisor.specs.demand.Complete.{common-divisor-found}
+use Rattle.divisor.specs.demand.Complete.{divisor-is-monic, common-divisor-found}
 use Rattle.divisor.specs.verdict.Output.{answered-output}
 
 -- DEMAND 3, first half
@@ -53,13 +53,16 @@ common-divisor-comes-out c r meets pass listed d b u k kept sorted s only C fin 
     let of-L = polynomial-of-terms-at F (monomials c listed) (keys-falling keys (c .skeleton) (skeleton-falls c pass)) C proposed in
     let divides-both =
     subst (λ (f : S4 (F .ring) .Car). Divides F f (polynomial (F .ring) (A c listed)) × Divides F f (polynomial (F .ring) (B c listed))) (sym of-L) (dA, dB) in
+    let monic = divisor-is-monic F (A c listed) (B c listed) (first-bounded c pass listed) (second-bounded c pass listed)
+    L divides-both d (subst (DegreeX F d) (sym of-L) degree) (monomials c listed) (terms-at-monomials F (monomials c listed) C)
+    (lent-points c listed) b u k kept sorted s only in
     let answer = common-divisor-found F (A c listed) (B c listed) (first-bounded c pass listed) (second-bounded c pass listed)
     L divides-both d (subst (DegreeX F d) (sym of-L) degree) (monomials c listed) (terms-at-monomials F (monomials c listed) C)
     (lent-points c listed) b u k kept sorted s only in
     let same = candidate-determined c _ r (answered pass listed _ _ answer) meets in
     subst (λ (q : Result). (q .found .fault .number ≡ 0) × MadeMonic F C (handed-out c listed q)) same (
       refl,
-      subst (λ (H : Polynomial F). MadeMonic F C H) (sym (answered-output c listed _ _ answer))
+      subst (λ (H : Polynomial F). MadeMonic F C H) (sym (answered-output c listed _ _ answer ∙ monic))
           (subst (λ (f : S4 (F .ring) .Car). MadeMonic F f (made-monic F (without-zeros F L))) of-L
           (monic-is-made-monic F L (λ e. degree .nonzero (ap (λ (f : S4 (F .ring) .Car). f d) (sym of-L ∙ e))))),
     )

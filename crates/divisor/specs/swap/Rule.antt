@@ -7,8 +7,8 @@ use Rattle.poly.specs.Terms.{Polynomial}
 use Rattle.poly.specs.PointValue.{Point}
 use Rattle.poly.specs.image.Laws.{bad-swap, image-swap}
 use Rattle.divisor.specs.declared.CandidateRecord.{CandidateRecord}
-use Rattle.divisor.specs.Rule.{Kept, Sorted, done, bad, unlucky, keep, AllBad, Verdict, unsolvable, several, rejected, accepted}
-use Rattle.divisor.specs.Rule.{RuleAnswer, all-bad, some-good}
+use Rattle.divisor.specs.Rule.{Kept, Sorted, done, bad, unlucky, keep, AllBad, Tried, rejected, accepted}
+use Rattle.divisor.specs.Rule.{Verdict, unsolvable, several, divided, RuleAnswer, all-bad, some-good}
 
 module _ (K : Field) (A B : Polynomial K) where
   open Field K using (ring as R)
@@ -23,12 +23,15 @@ module _ (K : Field) (A B : Polynomial K) where
   all-bad-swap [] h = tt
   all-bad-swap (at ∷ points) h = (bad-swap K A B at (h .0), all-bad-swap points (h .1))
 
+  tried-swap : {G H : Polynomial K} {n : ℕ} → Tried K A B G n H → Tried K B A G n H
+  tried-swap (rejected x) = rejected (λ both. x (both .1, both .0))
+  tried-swap (accepted x) = accepted (x .1, x .0)
+
   verdict-swap : {monomials : List Exponents} {kept : List (Kept K)} {n : ℕ} {G : Polynomial K}
       → Verdict K A B monomials kept n G → Verdict K B A monomials kept n G
   verdict-swap (unsolvable x) = unsolvable x
   verdict-swap (several x) = several x
-  verdict-swap (rejected s only n) = rejected s only (λ both. n (both .1, both .0))
-  verdict-swap (accepted s only both) = accepted s only (both .1, both .0)
+  verdict-swap (divided s only x) = divided s only (tried-swap x)
 
   pub answer-swap : (monomials : List Exponents) (points : List (Point R)) (r : CandidateRecord) (G : Polynomial K)
       → RuleAnswer K A B monomials points r G → RuleAnswer K B A monomials points r G

@@ -10,8 +10,7 @@ use Rattle.algebra.specs.Field.{Field}
 use Rattle.algebra.specs.Four.{Exponents}
 use Rattle.poly.specs.Terms.{Polynomial}
 use Rattle.poly.specs.PointValue.{value}
-use Rattle.divisor.specs.Rule.{DividesBoth, Kept, Unknowns, First, Equations, Solution, OnlySolution, divisor, Verdict, unsolvable, several}
-use Rattle.divisor.specs.Rule.{rejected, accepted}
+use Rattle.divisor.specs.Rule.{Kept, Unknowns, First, Equations, Solution, OnlySolution, divisor, Tried, Verdict, unsolvable, several, divided}
 
 -- ys is xs with x once more, at some place
 pub data Inserted {X : Type 0} (x : X) : List X → List X → Type 0 where
@@ -141,9 +140,8 @@ module _ (K : Field) where
       solves-to (q .1) (q .3),
       λ e. q .4 (sym (from-to (q .0) (q .2)) ∙ ap from e ∙ from-to (q .1) (q .3)),
     )
-    same-verdict n G (rejected s only x) = rejected (to s) (only-to s only) (λ y. x (subst (DividesBoth K A B) (same s) y))
-    same-verdict n G (accepted s only x) =
-        subst (Verdict K A B es ls 0) (same s) (accepted (to s) (only-to s only) (subst (DividesBoth K A B) (sym (same s)) x))
+    same-verdict n G (divided s only x) =
+        divided (to s) (only-to s only) (subst (λ (H : Polynomial K). Tried K A B H n G) (sym (same s)) x)
 
   -- the verdict on the kept points is the same with a point that is kept once more
   module _ (A B : Polynomial K) (es : List Exponents) {k : Kept K} {ks ls : List (Kept K)} (b : Again k ks ls) (d : ℕ) (small : d < 8)
