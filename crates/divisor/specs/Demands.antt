@@ -68,20 +68,6 @@ AcceptedIsGreatest c r =
     r .found .fault .number ≡ 0
     → (listed : Listed (c .modulus)) × GreatestInX (Numbers c listed) (A c listed) (B c listed) (handed-out c listed r) (r .found .degree)
 
--- Second half: where the inputs pass, a point is good, the equations have exactly one solution, and a polynomial C divides A and B, has the least
--- image degree in x and only proposed monomials, the number is 0 and C, made monic, is handed out.
-abbrev pub CommonDivisorComesOut : Call → Result → Type 0
-CommonDivisorComesOut c r =
-    Passes (table c) → (listed : Listed (c .modulus))
-    → (d b u : ℕ) (k : Kept (Numbers c listed)) (kept : List (Kept (Numbers c listed)))
-    → Sorted (Numbers c listed) (A c listed) (B c listed) d (lent-points c listed) b u (k ∷ kept)
-    → (s : Unknowns (Numbers c listed)) → OnlySolution (Numbers c listed) (monomials c listed) (k ∷ kept) s
-    → (C : S4 (Numbers c listed .ring) .Car) → IsPolynomial (Numbers c listed) C
-    → Divides (Numbers c listed) C (polynomial (Numbers c listed .ring) (A c listed))
-    → Divides (Numbers c listed) C (polynomial (Numbers c listed .ring) (B c listed))
-    → DegreeX (Numbers c listed) d C → OnlyProposed (Numbers c listed) (monomials c listed) C
-    → (r .found .fault .number ≡ 0) × MadeMonic (Numbers c listed) C (handed-out c listed r)
-
 -- the lent points sorted, of which one at least is kept
 pub record SortedOut (c : Call) (listed : Listed (c .modulus)) : Type 0 where
   pub d : ℕ
@@ -90,6 +76,28 @@ pub record SortedOut (c : Call) (listed : Listed (c .modulus)) : Type 0 where
   pub first : Kept (Numbers c listed)
   pub others : List (Kept (Numbers c listed))
   pub sorted : Sorted (Numbers c listed) (A c listed) (B c listed) d (lent-points c listed) bad unlucky (first ∷ others)
+
+module _ (c : Call) (listed : Listed (c .modulus)) where
+  -- C divides A and B, it has the degree d in x and only proposed monomials
+  pub record ProposedDivisor (d : ℕ) (C : S4 (Numbers c listed .ring) .Car) : Type 0 where
+    pub finite : IsPolynomial (Numbers c listed) C
+    pub of-first : Divides (Numbers c listed) C (polynomial (Numbers c listed .ring) (A c listed))
+    pub of-second : Divides (Numbers c listed) C (polynomial (Numbers c listed .ring) (B c listed))
+    pub degree : DegreeX (Numbers c listed) d C
+    pub proposed : OnlyProposed (Numbers c listed) (monomials c listed) C
+
+  -- the equations of the sorted points have exactly one solution
+  abbrev pub OneSolution : SortedOut c listed → Type 0
+  OneSolution found = (s : Unknowns (Numbers c listed)) × OnlySolution (Numbers c listed) (monomials c listed) (found .first ∷ found .others) s
+
+  -- Where they have, and a divisor has the least image degree and only proposed monomials, the number is 0 and that divisor, made monic, is handed out.
+  abbrev pub ComesOut : Result → SortedOut c listed → Type 0
+  ComesOut r found = OneSolution found → (C : S4 (Numbers c listed .ring) .Car) → ProposedDivisor (found .d) C
+      → (r .found .fault .number ≡ 0) × MadeMonic (Numbers c listed) C (handed-out c listed r)
+
+-- Second half: where the inputs pass and the points are sorted, one of them kept.
+abbrev pub CommonDivisorComesOut : Call → Result → Type 0
+CommonDivisorComesOut c r = Passes (table c) → (listed : Listed (c .modulus)) (found : SortedOut c listed) → ComesOut c listed r found
 
 -- Where the inputs pass and a lent point is good, some degree is the least and some point is kept.
 abbrev pub GoodPointSorts : Call → Type 0
@@ -101,10 +109,4 @@ GoodPointSorts c =
 abbrev pub GoodPointSuffices : Call → Result → Type 0
 GoodPointSuffices c r =
     Passes (table c) → (listed : Listed (c .modulus)) → SomeGood (Numbers c listed) (A c listed) (B c listed) (lent-points c listed)
-    → (found : SortedOut c listed)
-    × ((s : Unknowns (Numbers c listed)) → OnlySolution (Numbers c listed) (monomials c listed) (found .first ∷ found .others) s
-    → (C : S4 (Numbers c listed .ring) .Car) → IsPolynomial (Numbers c listed) C
-    → Divides (Numbers c listed) C (polynomial (Numbers c listed .ring) (A c listed))
-    → Divides (Numbers c listed) C (polynomial (Numbers c listed .ring) (B c listed))
-    → DegreeX (Numbers c listed) (found .d) C → OnlyProposed (Numbers c listed) (monomials c listed) C
-    → (r .found .fault .number ≡ 0) × MadeMonic (Numbers c listed) C (handed-out c listed r))
+    → (found : SortedOut c listed) × ComesOut c listed r found
