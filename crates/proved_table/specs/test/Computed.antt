@@ -1,4 +1,5 @@
 -- What the rule answers, computed: images, sorting, equations and the divisor by the models, the divisions on short lists.
+use mathlib.Core.Bool.{true, false}
 use mathlib.Core.List.{List, [], _∷_, map}
 use Prim.Native.Nat.{ℕ, zero, suc, _+_, _-_, _/_}
 use lib.ListN.{length, take}
@@ -11,13 +12,14 @@ use Rattle.field.specs.Numbers.{NO_GOOD_POINT, NO_SOLUTION, SEVERAL_SOLUTIONS, 
 use Rattle.poly.specs.declared.PointImage.{PointImage}
 use Rattle.poly.specs.Keys.{exponents}
 use Rattle.poly.specs.Terms.{terms-of}
+use Rattle.poly.specs.division.Model.{most-of}
 use Rattle.divisor.specs.Rule.{Counts, none-good, Kept}
 use Rattle.divisor.specs.Candidate.{points-of}
 use Rattle.divisor.specs.equations.Rows.{all-rows}
 use Rattle.divisor.specs.sorting.Model.{sizes-of, least, alike, kept-of}
 use Rattle.divisor.specs.monic.Model.{monic-terms}
 use Rattle.divisor.specs.points.Seen.{looks-from}
-use Rattle.proved_table.specs.test.TermDivision.{Outcome, divides, does-not, open-still, division}
+use Rattle.proved_table.specs.test.TermDivision.{Outcome, ended, open-still, division}
 
 -- what the kept points settle: the number, and the terms to be handed out
 pub data ComputedVerdict : Type 0 where
@@ -31,19 +33,19 @@ pub data Computed : Type 0 where
 
 -- what the two divisions settle
 unfoldable pub tried : List ℕ → Outcome → Outcome → ComputedVerdict
-tried G divides divides = settled 0 G
-tried G divides does-not = settled DOES_NOT_DIVIDE []
-tried G divides open-still = unsettled
-tried G does-not o = settled DOES_NOT_DIVIDE []
+tried G (ended n true) (ended m true) = settled 0 G
+tried G (ended n true) (ended m false) = settled DOES_NOT_DIVIDE []
+tried G (ended n true) open-still = unsettled
+tried G (ended n false) o = settled DOES_NOT_DIVIDE []
 tried G open-still o = unsettled
 
 -- the steps that a division is given; those of the table take fewer
-abbrev pub most-steps : ℕ
-most-steps = 64
+abbrev pub steps-given : ℕ
+steps-given = 64
 
 -- f by G
 unfoldable pub divided-by : (p : ℕ) → Prime p → List ℕ → List ℕ → Outcome
-divided-by p P G f = division (Modulo p P) most-steps (terms-of p P f) (terms-of p P G)
+divided-by p P G f = division (Modulo p P) (most-of f) (most-of G) steps-given (terms-of p P f) (terms-of p P G)
 
 module _ (p : ℕ) (P : Prime p) (A B skeleton points : List ℕ) where
   -- by the divisions of A and B by the divisor

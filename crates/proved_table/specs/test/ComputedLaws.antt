@@ -1,9 +1,13 @@
 -- What is computed for a call whose inputs pass meets the promise of the call.
 use mathlib.Core.Path.{_≡_, refl, sym, _∙_, ap, ap₂, subst}
+use mathlib.Core.Logic.{_↔_}
+use mathlib.Core.Bool.{Bool, true, false, false≢true}
 use mathlib.Core.List.{List, [], _∷_, map}
 use Prim.Native.Nat.{ℕ, zero, suc, _+_, _≤_, _<_}
 use native.Mathlib.Omega.{arith}
 use lib.ListN.{length, getD, take, length-map}
+use Rattle.algebra.specs.Monomial.{Term}
+use Rattle.algebra.specs.Division.{Division}
 use Rattle.algebra.specs.Linear.{Solutions, unsolvable, one, several, Meets}
 use Rattle.algebra.specs.Linear as linear
 use Rattle.algebra.specs.Laws.Linear.{solve-meets}
@@ -20,7 +24,10 @@ use Rattle.poly.specs.Terms.{term-of, terms-of, poly}
 use Rattle.field.specs.Lent.{written}
 use Rattle.poly.specs.Room.{cleared}
 use Rattle.poly.specs.Lists.{Falling}
-use Rattle.poly.specs.key.Terms.{poly-lead}
+use Rattle.poly.specs.Divides.{Divides}
+use Rattle.poly.specs.key.Terms.{poly-head}
+use Rattle.poly.specs.division.GreatestExponents.{sizes}
+use Rattle.poly.specs.division.Trial.{rule-says}
 use Rattle.divisor.specs.declared.CandidateRecord.{CandidateRecord}
 use Rattle.divisor.specs.Rule.{report, Kept}
 use Rattle.divisor.specs.Candidate.{Call, table, prime, Numbers, monomials, lent-points, candidate-result, Candidate}
@@ -30,12 +37,12 @@ use Rattle.divisor.specs.sorting.Model.{sizes-of, least, kept-of}
 use Rattle.divisor.specs.monic.Model.{monic-terms}
 use Rattle.divisor.specs.monic.Terms.{AllBelow}
 use Rattle.divisor.specs.sorting.Laws.{Least, AtLeast, least-is}
-use Rattle.divisor.specs.checks.Passed.{looks-of}
+use Rattle.divisor.specs.checks.Passed.{looks-of, right-lists}
 use Rattle.divisor.specs.answer.Assembled as assembled
-use Rattle.proved_table.specs.test.TermDivision.{Outcome, divides, does-not, open-still}
+use Rattle.proved_table.specs.test.TermDivision.{Outcome, ended, open-still}
 use Rattle.proved_table.specs.test.TermDivisionLaws.{Means, division-means}
-use Rattle.proved_table.specs.test.Computed.{ComputedVerdict, unsettled, settled, Computed, unanswered, answered, tried, most-steps}
-use Rattle.proved_table.specs.test.Computed.{divided-by, by-division, by-answer, with-counts, by-kept, by-least, by-looks, computed}
+use Rattle.proved_table.specs.test.Computed.{ComputedVerdict, unsettled, settled, Computed, unanswered, answered, tried}
+use Rattle.proved_table.specs.test.Computed.{steps-given, divided-by, by-division, by-answer, with-counts, by-kept, by-least, by-looks, computed}
 
 -- the numbers of field elements
 abbrev values-of : {p : ℕ} → List (Fp p) → List ℕ
@@ -62,11 +69,14 @@ Told X unanswered = Unit {0}
 Told X (answered number counts terms) = X (report number counts (length terms)) terms
 
 -- what the division of lists says of their polynomials
-pub divided-by-means : (p : ℕ) (P : Prime p) (G f : List ℕ) → 0 < length G → Falling p keys G
+pub divided-by-means : (p : ℕ) (P : Prime p) (G f : List ℕ) → 0 < length G → Falling p keys G → 0 < length f → Falling p keys f
     → Means (Modulo p P) (poly p P f) (poly p P G) (divided-by p P G f)
 unfolding divided-by
-divided-by-means p P [] f l h = absurd (omega arith)
-divided-by-means p P (t ∷ ts) f l h = division-means (Modulo p P) most-steps (terms-of p P f) (term-of p P t) (terms-of p P ts) (poly-lead p P t ts keys h)
+divided-by-means p P [] f l h k m = absurd (omega arith)
+divided-by-means p P (u ∷ us) [] l h k m = absurd (omega arith)
+divided-by-means p P (u ∷ us) (t ∷ ts) l h k m =
+    division-means (Modulo p P) steps-given (terms-of p P (t ∷ ts)) (term-of p P u) (terms-of p P us) (sizes p P t ts u us m h) refl
+    (poly-head p P u us (h .3))
 
 module _ (c : Call) (pass : Passes (table c)) (listed : Listed (c .modulus)) where
   abbrev p : ℕ
@@ -108,22 +118,34 @@ module _ (c : Call) (pass : Passes (table c)) (listed : Listed (c .modulus)) whe
       below : AllBelow p (take (length (c .skeleton)) (values-of v))
       below = values-below (prime-positive P) (length (c .skeleton)) v
 
+      -- what the rule says of a list and G
+      says-of : (f : List ℕ) (ts : List (Term (Modulo (c .modulus) (prime c listed) .ring))) (whole : Bool)
+          → Division (Modulo (c .modulus) (prime c listed) .ring) (poly p P f) (poly p P G) ts whole
+          → (whole ≡ true) ↔ Divides (Modulo (c .modulus) (prime c listed)) (poly p P G) (poly p P f)
+      says-of f = rule-says P f G
+
       tried-settles : (first second : Outcome) → Means (Numbers c listed) (poly p P (c .first-list)) (poly p P G) first
           → Means (Numbers c listed) (poly p P (c .second-list)) (poly p P G) second → Settled (tried G first second)
       unfolding tried
-      tried-settles divides divides a b = assembled.answer-accepted c pass listed d at-least k ks kept (values-of v) solves long below (a, b)
-      tried-settles divides does-not a b =
-          assembled.answer-rejected c pass listed d at-least k ks kept (values-of v) solves long below (λ both. b (both .1))
-      tried-settles divides open-still a b = tt
-      tried-settles does-not o a b =
-          assembled.answer-rejected c pass listed d at-least k ks kept (values-of v) solves long below (λ both. a (both .0))
+      tried-settles (ended n true) (ended m true) a b =
+          assembled.answer-accepted c pass listed d at-least k ks kept (values-of v) solves long below
+          (says-of (c .first-list) (a .0) true (a .1) .0 refl, says-of (c .second-list) (b .0) true (b .1) .0 refl)
+      tried-settles (ended n true) (ended m false) a b =
+          assembled.answer-rejected c pass listed d at-least k ks kept (values-of v) solves long below
+          (λ both. false≢true (says-of (c .second-list) (b .0) false (b .1) .1 (both .1)))
+      tried-settles (ended n true) open-still a b = tt
+      tried-settles (ended n false) o a b =
+          assembled.answer-rejected c pass listed d at-least k ks kept (values-of v) solves long below
+          (λ both. false≢true (says-of (c .first-list) (a .0) false (a .1) .1 (both .0)))
       tried-settles open-still o a b = tt
 
       division-settles : Settled (by-division p P (c .first-list) (c .second-list) (c .skeleton) (c .points) G)
       division-settles =
           let g = assembled.list c pass listed d at-least k ks kept (values-of v) solves long below in
+          let right = right-lists c pass in
           tried-settles (divided-by p P G (c .first-list)) (divided-by p P G (c .second-list))
-          (divided-by-means p P G (c .first-list) (g .some) (g .falls)) (divided-by-means p P G (c .second-list) (g .some) (g .falls))
+          (divided-by-means p P G (c .first-list) (g .some) (g .falls) (right .first .some) (right .first .falls))
+          (divided-by-means p P G (c .second-list) (g .some) (g .falls) (right .second .some) (right .second .falls))
 
     answer-settles : (a : Solutions (Fp (c .modulus))) → Meets (Numbers c listed) (length (c .skeleton) + length ks) rows a
         → Settled (by-answer p P (c .first-list) (c .second-list) (c .skeleton) (c .points) a)

@@ -21,7 +21,7 @@ use Rattle.poly.specs.image.Model.{image-of}
 use Rattle.divisor.specs.declared.CandidateRecord.{CandidateRecord}
 use Rattle.divisor.specs.Rule.{report}
 use Rattle.proved_table.specs.Row.{Row, QuotientRow, ImageRow, Product}
-use Rattle.proved_table.specs.test.TermDivision.{less-all, Outcome, divides, does-not, open-still}
+use Rattle.proved_table.specs.test.TermDivision.{less-all, Outcome, ended, open-still}
 use Rattle.proved_table.specs.test.Decisions.{list-checks, lines, checks, image-checks}
 use Rattle.proved_table.specs.test.Computed.{Computed, unanswered, answered, divided-by, computed}
 
@@ -79,10 +79,10 @@ module _ (r : QuotientRow) where
 
   -- by what the division finds: the row's terms are the quotient, or the row has 15 and no terms
   unfoldable pub quotient-agrees : Prime (r .modulus) → Outcome → Bool
-  quotient-agrees P divides =
+  quotient-agrees P (ended n true) =
       right-lists (r .modulus) (r .first-list) (r .terms) && multiplies (r .modulus) P product-of
       && same-numbers (quotient-numbers (r .found) (r .terms)) (after-fault none (length (r .terms) ∷ r .terms))
-  quotient-agrees P does-not = same-numbers (quotient-numbers (r .found) (r .terms)) (after-fault (fault DOES_NOT_DIVIDE 0) (0 ∷ []))
+  quotient-agrees P (ended n false) = same-numbers (quotient-numbers (r .found) (r .terms)) (after-fault (fault DOES_NOT_DIVIDE 0) (0 ∷ []))
   quotient-agrees P open-still = false
 
   unfoldable pub quotient-test : Bool

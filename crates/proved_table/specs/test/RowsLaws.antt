@@ -27,6 +27,7 @@ use Rattle.field.specs.Lent.{written}
 use Rattle.poly.specs.Room.{room-lines, of-rooms, work-room, cleared}
 use Rattle.poly.specs.image.Model.{image-of}
 use Rattle.poly.specs.image.Call.{image-fine, image-passes as image-in-order, image-answered, model-answers}
+use Rattle.poly.specs.division.Trial.{rule-says}
 use Rattle.poly.specs.list.Right.{lists-are-right}
 use Rattle.poly.specs.list.Falling.{falling-right}
 use Rattle.divisor.specs.declared.CandidateRecord.{CandidateRecord}
@@ -35,7 +36,7 @@ use Rattle.divisor.specs.Candidate.{candidate-result, Candidate}
 use Rattle.divisor.specs.answer.CandidateDetermined.{candidate-determined}
 use Rattle.proved_table.specs.Row.{Row, call, result, Holds, Determined, QuotientRow, quotient-call-of, quotient-result-of, QuotientHolds}
 use Rattle.proved_table.specs.Row.{ImageRow, Shows, Product, Multiplies, Each}
-use Rattle.proved_table.specs.test.TermDivision.{Outcome, divides, does-not, open-still}
+use Rattle.proved_table.specs.test.TermDivision.{Outcome, ended, open-still}
 use Rattle.proved_table.specs.test.TermDivisionLaws.{Means, nothing-left-means}
 use Rattle.proved_table.specs.test.Decisions.{list-checks, image-checks}
 use Rattle.proved_table.specs.test.Computed.{Computed, unanswered, answered, computed}
@@ -135,7 +136,7 @@ module _ (r : QuotientRow) (output work : List ℕ) (long : keys ≤ length outp
       (poly (r .modulus) (listed-prime listed) (r .second-list)) o
       → quotient-agrees r (listed-prime listed) o ≡ true → Quotient asked (quotient-result-of r output work)
   unfolding quotient-agrees
-  quotient-settled pass listed divides m h =
+  quotient-settled pass listed (ended n true) m h =
       let first = and-eq-true-iff _ (same-numbers _ _) .0 h in
       let second = and-eq-true-iff (right-lists (r .modulus) (r .first-list) (r .terms)) _ .0 (first .0) in
       let right = lists-are-right (r .modulus) (r .first-list) (r .terms) (lists-pass (r .modulus) (r .first-list) (r .terms) (second .0)) in
@@ -144,8 +145,9 @@ module _ (r : QuotientRow) (output work : List ℕ) (long : keys ≤ length outp
         right = falling-right (r .modulus) (r .terms) (right .second .falls);
         product = sym (multiplied (r .modulus) (listed-prime listed) (product-of r) (second .1));
       }))
-  quotient-settled pass listed does-not m h =
-      quotient-known (record { fault = fault DOES_NOT_DIVIDE 0; terms = 0 }) [] h (no-quotient pass listed m)
+  quotient-settled pass listed (ended n false) m h =
+      quotient-known (record { fault = fault DOES_NOT_DIVIDE 0; terms = 0 }) [] h
+      (no-quotient pass listed (λ d. false≢true (rule-says (listed-prime listed) (r .first-list) (r .second-list) (m .0) false (m .1) .1 d)))
   quotient-settled pass listed open-still m h = absurd (false≢true h)
 
   quotient-tested-here : quotient-test r ≡ true → Quotient asked (quotient-result-of r output work)
@@ -155,7 +157,8 @@ module _ (r : QuotientRow) (output work : List ℕ) (long : keys ≤ length outp
       let right = lists-are-right (r .modulus) (r .first-list) (r .second-list) (lists-pass (r .modulus) (r .first-list) (r .second-list) (both .0)) in
       let a = listed-and-means (r .modulus) _ (both .1) in
       quotient-settled (quotient-lines-pass (both .0)) (a .0) _
-      (divided-by-means (r .modulus) (listed-prime (a .0)) (r .second-list) (r .first-list) (right .second .some) (right .second .falls)) (a .1)
+      (divided-by-means (r .modulus) (listed-prime (a .0)) (r .second-list) (r .first-list) (right .second .some) (right .second .falls)
+      (right .first .some) (right .first .falls)) (a .1)
 
 pub quotient-tested : (r : QuotientRow) → quotient-test r ≡ true → QuotientHolds r
 quotient-tested r h output work long room = quotient-tested-here r output work long room h

@@ -38,7 +38,7 @@ use Rattle.console.specs.OfFile.{asked}
 use Rattle.console.specs.CandidateOfFile.{CandidateOfFile}
 use Rattle.proved_table.specs.Row.{result, Holds, Determined, QuotientHolds, CancelRow, Cancels, CancelDetermined, ShortRefused, Reads, Writes, Picks}
 use Rattle.proved_table.specs.Row.{Shows, Multiplies, Each}
-use Rattle.proved_table.specs.test.TermDivision.{each-at-most, plus, less, less-all, before-all, leads, divided, division}
+use Rattle.proved_table.specs.test.TermDivision.{one-more, each-at-most, plus, less, less-all, before-all, leads, can-divide, divided, division}
 use Rattle.proved_table.specs.test.Computed.{tried, divided-by, by-answer, with-counts, by-kept, by-least, by-looks, computed}
 use Rattle.proved_table.specs.test.Decisions.{count-decided, not-below-decided, key-decided, plain-term-decided, term-decided, number-decided}
 use Rattle.proved_table.specs.test.Decisions.{checks-append, list-checks, terms-checks, two-lists-checks, skeleton-checks, points-checks}
@@ -60,8 +60,8 @@ pub table-passes : (every test table ≡ true) × (every test more-rows ≡ true
 unfolding list-at-fault ℕ-discrete decLe decLt mono pow listed listed-decided el add mul neg chase inv Fp-discrete Dec·not Dec·and placed-check look first-check
     decided cells plus-term with-term fold value-of size-to scaled monic between subtract downwards euclid gcd image-of-values
     image-of points-of lesser alike kept-of leading scaled-terms compare-by compare each-at-most plus less before-all leads
-    divided division tried divided-by by-answer with-counts by-kept by-least by-looks computed count-decided not-below-decided key-decided
-    plain-term-decided term-decided number-decided checks-append list-checks skeleton-checks points-checks checks
+    one-more can-divide divided division tried divided-by by-answer with-counts by-kept by-least by-looks computed
+    count-decided not-below-decided key-decided plain-term-decided term-decided number-decided checks-append list-checks skeleton-checks points-checks checks
     listed-and same-numbers agrees passes answers test
 table-passes = (refl, refl)
 
@@ -93,8 +93,9 @@ more-images-hold = each-tested image-test Shows image-tested more-images (images
 -- the quotients are those
 pub quotients-hold : Each QuotientHolds quotients
 unfolding list-at-fault ℕ-discrete decLe decLt listed listed-decided el add mul neg chase inv Fp-discrete Dec·not Dec·and placed-check look first-check decided
-    compare-by compare each-at-most plus less less-all before-all leads divided division divided-by count-decided not-below-decided key-decided
-    plain-term-decided term-decided list-checks listed-and same-numbers right-lists multiplies quotient-agrees quotient-test
+    compare-by compare each-at-most plus less less-all before-all leads one-more can-divide divided division divided-by
+    count-decided not-below-decided key-decided plain-term-decided term-decided list-checks listed-and same-numbers
+    right-lists multiplies quotient-agrees quotient-test
 quotients-hold = each-tested quotient-test QuotientHolds quotient-tested quotients refl
 
 -- the Cancel key hands out those
@@ -102,8 +103,8 @@ cancels-pass : every cancel-test cancels ≡ true
 unfolding list-at-fault ℕ-discrete decLe decLt mono pow listed listed-decided el add mul neg chase inv Fp-discrete Dec·not Dec·and placed-check look first-check
     decided cells plus-term with-term fold value-of size-to scaled monic between subtract downwards euclid gcd image-of-values
     image-of points-of lesser alike kept-of leading scaled-terms compare-by compare each-at-most plus less less-all before-all leads
-    divided division tried divided-by by-answer with-counts by-kept by-least by-looks computed count-decided not-below-decided key-decided
-    plain-term-decided term-decided number-decided checks-append list-checks skeleton-checks points-checks checks
+    one-more can-divide divided division tried divided-by by-answer with-counts by-kept by-least by-looks computed
+    count-decided not-below-decided key-decided plain-term-decided term-decided number-decided checks-append list-checks skeleton-checks points-checks checks
     listed-and same-numbers agrees passes answers test
     right-lists multiplies begins-with-one hands-out cancel-test
 cancels-pass = refl

@@ -19,7 +19,7 @@ use Rattle.poly.specs.image.Model.{image-of-values, image-of}
 use Rattle.divisor.specs.Candidate.{points-of}
 use Rattle.divisor.specs.sorting.Model.{lesser, alike, kept-of}
 use Rattle.divisor.specs.monic.Model.{leading, scaled-terms}
-use Rattle.proved_table.specs.test.TermDivision.{each-at-most, plus, less, less-all, before-all, leads, divided, division}
+use Rattle.proved_table.specs.test.TermDivision.{one-more, each-at-most, plus, less, less-all, before-all, leads, can-divide, divided, division}
 use Rattle.proved_table.specs.test.Computed.{tried, divided-by, by-answer, with-counts, by-kept, by-least, by-looks, computed}
 use Rattle.proved_table.specs.test.Decisions.{count-decided, not-below-decided, key-decided, plain-term-decided, term-decided, number-decided}
 use Rattle.proved_table.specs.test.Decisions.{checks-append, list-checks, terms-checks, two-lists-checks, skeleton-checks, points-checks}
@@ -55,8 +55,8 @@ pub wrong-results-refuted : Each Refuted wrong-results
 unfolding list-at-fault ℕ-discrete decLe decLt mono pow listed listed-decided el add mul neg chase inv Fp-discrete Dec·not Dec·and placed-check look first-check
     decided cells plus-term with-term fold value-of size-to scaled monic between subtract downwards euclid gcd image-of-values
     image-of points-of lesser alike kept-of leading scaled-terms compare-by compare each-at-most plus less before-all leads
-    divided division tried divided-by by-answer with-counts by-kept by-least by-looks computed count-decided not-below-decided key-decided
-    plain-term-decided term-decided number-decided checks-append list-checks skeleton-checks points-checks checks
+    one-more can-divide divided division tried divided-by by-answer with-counts by-kept by-least by-looks computed
+    count-decided not-below-decided key-decided plain-term-decided term-decided number-decided checks-append list-checks skeleton-checks points-checks checks
     listed-and same-numbers agrees passes answers test
     clash left-full differs wrong-test
 wrong-results-refuted = each-tested wrong-test Refuted refuted wrong-results refl
@@ -64,8 +64,9 @@ wrong-results-refuted = each-tested wrong-test Refuted refuted wrong-results ref
 -- the contract of the quotient
 pub wrong-quotients-refuted : Each QuotientRefuted wrong-quotients
 unfolding list-at-fault ℕ-discrete decLe decLt listed listed-decided el add mul neg chase inv Fp-discrete Dec·not Dec·and placed-check look first-check decided
-    compare-by compare each-at-most plus less less-all before-all leads divided division divided-by count-decided not-below-decided key-decided
-    plain-term-decided term-decided list-checks listed-and same-numbers right-lists multiplies quotient-agrees quotient-test
+    compare-by compare each-at-most plus less less-all before-all leads one-more can-divide divided division divided-by
+    count-decided not-below-decided key-decided plain-term-decided term-decided list-checks listed-and same-numbers
+    right-lists multiplies quotient-agrees quotient-test
     clash left-full differs wrong-quotient-test
 wrong-quotients-refuted = each-tested wrong-quotient-test QuotientRefuted quotient-refuted wrong-quotients refl
 
@@ -74,8 +75,8 @@ pub wrong-cancels-refuted : Each CancelRefuted wrong-cancels
 unfolding list-at-fault ℕ-discrete decLe decLt mono pow listed listed-decided el add mul neg chase inv Fp-discrete Dec·not Dec·and placed-check look first-check
     decided cells plus-term with-term fold value-of size-to scaled monic between subtract downwards euclid gcd image-of-values
     image-of points-of lesser alike kept-of leading scaled-terms compare-by compare each-at-most plus less less-all before-all leads
-    divided division tried divided-by by-answer with-counts by-kept by-least by-looks computed count-decided not-below-decided key-decided
-    plain-term-decided term-decided number-decided checks-append list-checks skeleton-checks points-checks checks
+    one-more can-divide divided division tried divided-by by-answer with-counts by-kept by-least by-looks computed
+    count-decided not-below-decided key-decided plain-term-decided term-decided number-decided checks-append list-checks skeleton-checks points-checks checks
     listed-and same-numbers agrees passes answers test
     right-lists multiplies begins-with-one hands-out cancel-test clash left-full differs wrong-cancel-test
 wrong-cancels-refuted = each-tested wrong-cancel-test CancelRefuted cancel-refuted wrong-cancels refl
