@@ -21,7 +21,7 @@ use Rattle.poly.specs.Lists.{Falling}
 use Rattle.poly.specs.list.Laws.{FallFrom}
 use Rattle.poly.specs.image.Laws.{image-small}
 use Rattle.divisor.specs.declared.CandidateRecord.{CandidateRecord}
-use Rattle.divisor.specs.Rule.{Kept, Sorted, Unknowns, Solution, without-zeros, made-monic, divisor, rejected, accepted}
+use Rattle.divisor.specs.Rule.{Kept, Sorted, Unknowns, Solution, without-zeros, made-monic, divisor, cut-off, rejected, accepted}
 use Rattle.divisor.specs.Rule.{unsolvable, several, divided, all-bad, some-good}
 use Rattle.divisor.specs.Candidate.{Call, table, prime, Numbers, A, B, monomials, lent-points, AnswerTo}
 use Rattle.divisor.specs.Demands.{LeadsWith}
@@ -113,8 +113,9 @@ module _ (c : Call) (pass : Passes (table c)) (listed : Listed (c .modulus)) whe
   pub accepted-list : (r : CandidateRecord) (G : Polynomial (Numbers c listed)) → AnswerTo c listed r G → r .fault .number ≡ 0
       → AcceptedList (c .modulus) (prime c listed) (length (c .skeleton)) G
   accepted-list r G (all-bad all) e = absurd (omega arith)
-  accepted-list r G (some-good d b u k kept sorted n H (unsolvable z)) e = absurd (omega arith)
-  accepted-list r G (some-good d b u k kept sorted n H (several z)) e = absurd (omega arith)
-  accepted-list r G (some-good d b u k kept sorted n H (divided s only (rejected x))) e = absurd (omega arith)
-  accepted-list r G (some-good d b u k kept sorted n H (divided s only (accepted x))) e =
+  accepted-list r G (some-good d b u k kept sorted n H m (unsolvable z)) e = absurd (omega arith)
+  accepted-list r G (some-good d b u k kept sorted n H m (several z)) e = absurd (omega arith)
+  accepted-list r G (some-good d b u k kept sorted n H m (divided s only (cut-off a t l))) e = absurd (omega arith)
+  accepted-list r G (some-good d b u k kept sorted n H m (divided s only (rejected a t l x))) e = absurd (omega arith)
+  accepted-list r G (some-good d b u k kept sorted n H m (divided s only (accepted a t l x))) e =
       solution-list d b u k kept sorted s (only .0)

@@ -3,7 +3,7 @@
 use mathlib.Core.Path.{_≡_, sym, _∙_, ap, subst}
 use mathlib.Core.List.{List, [], _∷_, map}
 use lib.ListN.{length}
-use Prim.Native.Nat.{ℕ}
+use Prim.Native.Nat.{ℕ, _≤_}
 use Rattle.algebra.specs.Ring.{CommRing}
 use Rattle.algebra.specs.Field.{Field}
 use Rattle.algebra.specs.Series.{Seq}
@@ -22,7 +22,7 @@ use Rattle.poly.specs.PointImage.{Image}
 use Rattle.poly.specs.image.Laws.{image-top}
 use Rattle.poly.specs.value.Laws.{polynomial-finite, value-finite, value-of-polynomial, Bounded}
 use Rattle.divisor.specs.Rule.{report, DividesBoth, Kept, Sorted, Unknowns, Equations, Solution, OnlySolution, without-zeros, divided-by}
-use Rattle.divisor.specs.Rule.{made-monic, divisor, accepted, divided, RuleAnswer, some-good}
+use Rattle.divisor.specs.Rule.{made-monic, divisor, Steps, accepted, divided, RuleAnswer, some-good}
 use Rattle.divisor.specs.Demands.{DegreeX}
 use Rattle.divisor.specs.monic.Value.{value-divided}
 use Rattle.divisor.specs.monic.Laws.{monic-of-multiple, monic-divides, divided-monomials}
@@ -91,7 +91,7 @@ module _ (K : Field) (A B : Polynomial K) (first : Bounded K A) (second : Bounde
       divisor-divides = subst (DividesBoth K A B) (sym divisor-is-monic) (monic-divides K C _ (both .0), monic-divides K C _ (both .1))
 
       -- DEMAND 3, second half
-      pub common-divisor-found :
-          RuleAnswer K A B monomials points
-          (report 0 (record { d = d; bad = b; unlucky = u; kept = length (k ∷ kept) }) (length (divisor K s))) (divisor K s)
-      common-divisor-found = some-good d b u k kept sorted 0 _ (divided s only (accepted divisor-divides))
+      pub common-divisor-found : (ceiling n : ℕ) → Steps K A B (divisor K s) n → n ≤ ceiling
+          → RuleAnswer K A B monomials points ceiling
+          (report 0 (record { d = d; bad = b; unlucky = u; kept = length (k ∷ kept) }) (length (divisor K s)) n) (divisor K s)
+      common-divisor-found ceiling n steps l = some-good d b u k kept sorted 0 _ n (divided s only (accepted n steps l divisor-divides))

@@ -3,6 +3,7 @@ use mathlib.Core.Path.{_≡_, refl, sym, _∙_, ap, subst}
 use mathlib.Core.List.{List, [], _∷_, map}
 use Prim.Native.Nat.{ℕ, _≤_, _<_}
 use native.Mathlib.Omega.{arith}
+use lib.ListN.{length}
 use Rattle.algebra.specs.Field.{Field}
 use Rattle.algebra.specs.SeriesRing.{S4}
 use Rattle.algebra.specs.Monomial.{polynomial}
@@ -15,16 +16,18 @@ use Rattle.poly.specs.Divides.{Divides}
 use Rattle.poly.specs.key.Laws.{exponents-order}
 use Rattle.poly.specs.list.Laws.{FallFrom}
 use Rattle.divisor.specs.Rule.{DividesBoth, Unknowns, without-zeros, made-monic, divisor}
-use Rattle.divisor.specs.Candidate.{Call, table, Numbers, A, B, monomials, lent-points, handed-out, Result, Candidate, refused}
+use Rattle.divisor.specs.Candidate.{Call, most-steps, table, Numbers, A, B, monomials, lent-points, handed-out, Result, Candidate, refused}
 use Rattle.divisor.specs.Candidate.{answered}
-use Rattle.divisor.specs.Demands.{DegreeX, GreatestInX, MadeMonic, AcceptedIsGreatest, SortedOut, ProposedDivisor, OneSolution}
-use Rattle.divisor.specs.Demands.{CommonDivisorComesOut}
+use Rattle.divisor.specs.Demands.{DegreeX, GreatestInX, HasTerms, MadeMonic, AcceptedIsGreatest, SortedOut, ProposedDivisor, CeilingCovers, OneSolution}
+use Rattle.divisor.specs.Demands.{CommonDivisorComesOut, LargeCeilingCovers}
 use Rattle.divisor.specs.checks.Passed.{first-bounded, second-bounded, skeleton-falls}
 use Rattle.divisor.specs.monic.Laws.{monic-is-made-monic}
 use Rattle.divisor.specs.demand.Degree.{accepted-greatest}
 use Rattle.divisor.specs.answer.CandidateDetermined.{candidate-determined}
 use Rattle.divisor.specs.demand.Proposed.{Under, FallingMonomials, terms-at, terms-at-monomials, polynomial-of-terms-at}
-use Rattle.divisor.specs.demand.Complete.{divisor-is-monic, common-divisor-found}
+use Rattle.divisor.specs.demand.Complete.{divisor-is-monic, divisor-divides, common-divisor-found}
+use Rattle.divisor.specs.demand.Quotients.{has-terms-unique, quotient-terms}
+use Rattle.divisor.specs.ceiling.Steps.{StepsFound, divisor-steps, BothQuotients, both-quotients}
 use Rattle.divisor.specs.verdict.Output.{answered-output}
 
 -- DEMAND 3, first half
@@ -34,7 +37,7 @@ accepted-is-greatest c r (answered pass listed f G x) e = (
   listed,
   subst (λ (H : Polynomial (Numbers c listed)). GreatestInX (Numbers c listed) (A c listed) (B c listed) H (f .degree))
       (sym (answered-output c listed f G x))
-      (accepted-greatest (Numbers c listed) (A c listed) (B c listed) (monomials c listed) (lent-points c listed)
+      (accepted-greatest (Numbers c listed) (A c listed) (B c listed) (monomials c listed) (lent-points c listed) (c .ceiling)
       (first-bounded c pass listed) (second-bounded c pass listed) f G x e),
 )
 
@@ -87,16 +90,57 @@ module _ (c : Call) (pass : Passes (table c)) (listed : Listed (c .modulus)) (fo
       (subst (λ (f : S4 (F .ring) .Car). MadeMonic F f (made-monic F (without-zeros F L))) of-L
       (monic-is-made-monic F L (λ e. C-nonzero (sym of-L ∙ e))))
 
+  both : DividesBoth F (A c listed) (B c listed) (divisor F s)
+  both =
+      divisor-divides F (A c listed) (B c listed) (first-bounded c pass listed) (second-bounded c pass listed) L L-divides (found .d) L-degree
+      (monomials c listed) (terms-at-monomials F (monomials c listed) C) (lent-points c listed) (found .bad) (found .unlucky) (found .first)
+      (found .others) (found .sorted) s (one .1)
+
+  -- the steps of its divisions are the terms of both quotients by C
+  steps : StepsFound F (A c listed) (B c listed) (divisor F s)
+  steps = divisor-steps c pass listed found s (one .1 .0)
+
+  quotients : BothQuotients F (A c listed) (B c listed) (divisor F s) (steps .steps)
+  quotients = both-quotients F (A c listed) (B c listed) (divisor F s) (steps .steps) both (steps .takes)
+
+  first-terms : HasTerms F (length (quotients .of-A)) (h .of-first .quo)
+  first-terms = quotient-terms F C (divisor F s) monic C-nonzero (A c listed) (quotients .of-A) (quotients .first) (h .of-first)
+
+  second-terms : HasTerms F (length (quotients .of-B)) (h .of-second .quo)
+  second-terms = quotient-terms F C (divisor F s) monic C-nonzero (B c listed) (quotients .of-B) (quotients .second) (h .of-second)
+
+  -- so a ceiling that covers these terms covers the steps
+  covered : CeilingCovers c listed h → steps .steps ≤ c .ceiling
+  covered covers =
+      let a = has-terms-unique F (covers .0) (length (quotients .of-A)) (h .of-first .quo) (covers .2) first-terms in
+      let b = has-terms-unique F (covers .1) (length (quotients .of-B)) (h .of-second .quo) (covers .3) second-terms in
+      let e = quotients .counted in
+      let l = covers .4 in
+      omega arith
+
+  -- and 8,192 covers them
+  covers-large : most-steps ≤ c .ceiling → CeilingCovers c listed h
+  covers-large l = (
+    length (quotients .of-A),
+    length (quotients .of-B),
+    first-terms,
+    second-terms,
+    let e = quotients .counted in let w = steps .few in omega arith,
+  )
+
   -- what the rule answers
-  comes-out : (r : Result) → Candidate c r → (r .found .fault .number ≡ 0) × MadeMonic F C (handed-out c listed r)
-  comes-out r meets =
+  comes-out : (r : Result) → Candidate c r → CeilingCovers c listed h → (r .found .fault .number ≡ 0) × MadeMonic F C (handed-out c listed r)
+  comes-out r meets covers =
       let answer = common-divisor-found F (A c listed) (B c listed) (first-bounded c pass listed) (second-bounded c pass listed) L L-divides (found .d) L-degree
       (monomials c listed) (terms-at-monomials F (monomials c listed) C) (lent-points c listed) (found .bad) (found .unlucky) (found .first)
-      (found .others) (found .sorted) s (one .1) in
+      (found .others) (found .sorted) s (one .1) (c .ceiling) (steps .steps) (steps .takes) (covered covers) in
       subst (λ (q : Result). (q .found .fault .number ≡ 0) × MadeMonic F C (handed-out c listed q))
       (candidate-determined c _ r (answered pass listed _ _ answer) meets)
       (refl, subst (λ (H : Polynomial F). MadeMonic F C H) (sym (answered-output c listed _ _ answer)) monic)
 
 -- DEMAND 3, second half
 pub common-divisor-comes-out : (c : Call) (r : Result) → Candidate c r → CommonDivisorComesOut c r
-common-divisor-comes-out c r meets pass listed found one C h = comes-out c pass listed found one C h r meets
+common-divisor-comes-out c r meets pass listed found one C h covers = comes-out c pass listed found one C h r meets covers
+
+pub large-ceiling-covers : (c : Call) → LargeCeilingCovers c
+large-ceiling-covers c l pass listed found one C h = covers-large c pass listed found one C h l

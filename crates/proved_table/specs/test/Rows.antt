@@ -37,11 +37,11 @@ same-numbers (m ∷ ms) (n ∷ ns) = eqb m n && same-numbers ms ns
 
 -- the numbers of a record, and terms behind them
 abbrev pub numbers : CandidateRecord → List ℕ → List ℕ
-numbers r terms = after-fault (r .fault) (r .degree ∷ r .bad ∷ r .unlucky ∷ r .kept ∷ r .terms ∷ terms)
+numbers r terms = after-fault (r .fault) (r .degree ∷ r .bad ∷ r .unlucky ∷ r .kept ∷ r .terms ∷ r .steps ∷ terms)
 
 unfoldable pub agrees : Computed → CandidateRecord → List ℕ → Bool
 agrees unanswered found terms = false
-agrees (answered number counts ts) found terms = same-numbers (numbers (report number counts (length ts)) ts) (numbers found terms)
+agrees (answered number counts ts steps) found terms = same-numbers (numbers (report number counts (length ts) steps) ts) (numbers found terms)
 
 module _ (r : Row) where
   -- the lines of its inputs, and their checks
@@ -55,7 +55,8 @@ module _ (r : Row) where
   passes = eqb (decided input-lines input-checks .number) 0
 
   unfoldable pub answers : Listed (r .modulus) → Bool
-  answers h = agrees (computed (r .modulus) (listed-prime h) (r .first-list) (r .second-list) (r .skeleton) (r .points)) (r .found) (r .terms)
+  answers h =
+      agrees (computed (r .modulus) (listed-prime h) (r .first-list) (r .second-list) (r .skeleton) (r .points) (r .ceiling)) (r .found) (r .terms)
 
   unfoldable pub test : Bool
   test = passes && listed-and (r .modulus) answers

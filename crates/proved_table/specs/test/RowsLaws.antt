@@ -57,11 +57,11 @@ same-is (m ∷ ms) (n ∷ ns) h =
 -- the record of a fault and the numbers behind it
 abbrev pub record-of : Fault → List ℕ → CandidateRecord
 record-of f l =
-    record { fault = f; degree = getD l 0 0; bad = getD l 1 0; unlucky = getD l 2 0; kept = getD l 3 0; terms = getD l 4 0 }
+    record { fault = f; degree = getD l 0 0; bad = getD l 1 0; unlucky = getD l 2 0; kept = getD l 3 0; terms = getD l 4 0; steps = getD l 5 0 }
 
 -- a record and terms are known by their numbers
 numbers-settle : (X : CandidateRecord → List ℕ → Type 0) (r q : CandidateRecord) (terms ts : List ℕ) → numbers r terms ≡ numbers q ts → X r terms → X q ts
-numbers-settle X r q terms ts e x = after-fault-known (λ f l. X (record-of f l) (drop 5 l)) (r .fault) (q .fault) _ _ e x
+numbers-settle X r q terms ts e x = after-fault-known (λ f l. X (record-of f l) (drop 6 l)) (r .fault) (q .fault) _ _ e x
 
 -- of a listed modulus the test was passed
 pub listed-and-means : (p : ℕ) (f : Listed p → Bool) → listed-and p f ≡ true → (h : Listed p) × (f h ≡ true)
@@ -82,7 +82,8 @@ inputs-pass r h = decided-passes (input-lines r) tt (input-checks r) (eqb-true _
 
 -- what is so of the computed answer is so of a row that passes
 pub test-settles : (r : Row) (X : CandidateRecord → List ℕ → Type 0)
-    → ((listed : Listed (r .modulus)) → Told X (computed (r .modulus) (listed-prime listed) (r .first-list) (r .second-list) (r .skeleton) (r .points)))
+    → ((listed : Listed (r .modulus))
+    → Told X (computed (r .modulus) (listed-prime listed) (r .first-list) (r .second-list) (r .skeleton) (r .points) (r .ceiling)))
     → test r ≡ true → X (r .found) (r .terms)
 unfolding test answers
 test-settles r X law h =
@@ -91,7 +92,8 @@ test-settles r X law h =
   where
     go : (x : Computed) → Told X x → agrees x (r .found) (r .terms) ≡ true → X (r .found) (r .terms)
     go unanswered s h = (unfold agrees in absurd (false≢true h))
-    go (answered number counts ts) s h = (unfold agrees in numbers-settle X (report number counts (length ts)) (r .found) ts (r .terms) (same-is _ _ h) s)
+    go (answered number counts ts steps) s h =
+        (unfold agrees in numbers-settle X (report number counts (length ts) steps) (r .found) ts (r .terms) (same-is _ _ h) s)
 
 -- the test turned into the contract
 pub tested : (r : Row) → test r ≡ true → Holds r
