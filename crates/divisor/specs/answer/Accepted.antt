@@ -40,6 +40,11 @@ pub record AcceptedList (p : ℕ) (P : Prime p) (most : ℕ) (G : Polynomial (Mo
   pub falls : Falling p keys (numbers-of p P G)
   pub reads : terms-of p P (numbers-of p P G) ≡ G
 
+-- it has a term
+pub some-terms : (p : ℕ) (P : Prime p) (most : ℕ) (G : Polynomial (Modulo p P)) → AcceptedList p P most G → 0 < length (numbers-of p P G)
+some-terms p P most [] list = absurd (list .leads)
+some-terms p P most (t ∷ ts) list = omega arith
+
 module _ (p : ℕ) (P : Prime p) (small : p < coefficient-limit) where
   abbrev K : Field
   K = Modulo p P

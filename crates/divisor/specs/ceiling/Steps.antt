@@ -2,8 +2,8 @@
 -- lists, the steps are the terms of both quotients, in either order of the lists.
 use mathlib.Core.Path.{_≡_, refl, sym, subst}
 use mathlib.Core.Bool.{Bool, true, false, true≢false}
-use mathlib.Core.List.{List, [], _∷_}
-use Prim.Native.Nat.{ℕ, _+_, _≤_, _<_}
+use mathlib.Core.List.{List, _∷_}
+use Prim.Native.Nat.{ℕ, _+_, _≤_}
 use native.Mathlib.Omega.{arith}
 use lib.ListN.{length}
 use Rattle.algebra.specs.Field.{Field}
@@ -11,7 +11,6 @@ use Rattle.algebra.specs.Polynomials.{domain}
 use Rattle.algebra.specs.Monomial.{Term, polynomial}
 use Rattle.algebra.specs.Division.{Division}
 use Rattle.algebra.specs.Laws.Division.{division-says}
-use Rattle.field.specs.Fp.{el}
 use Rattle.field.specs.Prime.{Prime}
 use Rattle.field.specs.Moduli.{Listed}
 use Rattle.field.specs.modulus.Laws.{listed-below}
@@ -23,11 +22,10 @@ use Rattle.poly.specs.list.Right.{RightList}
 use Rattle.poly.specs.division.Ends.{Dividing, Ended, division-ends}
 use Rattle.divisor.specs.Rule.{DividesBoth, Unknowns, Solution, divisor, Steps, of-first, of-both}
 use Rattle.divisor.specs.Candidate.{Call, most-steps, table, prime, Numbers, A, B, monomials}
-use Rattle.divisor.specs.Demands.{LeadsWith, SortedOut}
+use Rattle.divisor.specs.Demands.{SortedOut}
 use Rattle.divisor.specs.checks.Passed.{right-lists}
 use Rattle.divisor.specs.verdict.Laws.{takes-first, takes-both}
-use Rattle.divisor.specs.verdict.Output.{length-numbers}
-use Rattle.divisor.specs.answer.Accepted.{AcceptedList, solution-list}
+use Rattle.divisor.specs.answer.Accepted.{AcceptedList, some-terms, solution-list}
 
 -- so many steps are taken, and no more than two divisions can
 pub record StepsFound (K : Field) (A B G : Polynomial K) : Type 0 where
@@ -58,11 +56,6 @@ module _ (p : ℕ) (A B G : List ℕ) (first : Dividing p A G) (second : Dividin
         few = let l = a .few in let m = b .few in omega arith;
       }
 
--- a polynomial that begins with a term has one
-some-term : (p : ℕ) (P : Prime p) (G : Polynomial (Modulo p P)) → LeadsWith (Modulo p P) (el p 1) G → 0 < length G
-some-term p P [] h = absurd h
-some-term p P (t ∷ ts) h = omega arith
-
 -- of the divisor of a call
 module _ (c : Call) (pass : Passes (table c)) (listed : Listed (c .modulus)) where
   pub divisor-steps : (found : SortedOut c listed) (s : Unknowns (Numbers c listed))
@@ -83,19 +76,12 @@ module _ (c : Call) (pass : Passes (table c)) (listed : Listed (c .modulus)) whe
         word = let b = listed-below listed in omega arith;
         some-dividend = right .some;
         dividend-falls = right .falls;
-        some-divisor = omega (
-          arith,
-          some-term (c .modulus) (prime c listed) (divisor (Numbers c listed) s) (list .leads),
-          length-numbers (c .modulus) (prime c listed) (divisor (Numbers c listed) s),
-        );
+        some-divisor = some-terms (c .modulus) (prime c listed) (length (c .skeleton)) (divisor (Numbers c listed) s) list;
         divisor-falls = list .falls;
       }
 
 -- Where G divides both lists, both divisions say yes.
 module _ (K : Field) (A B G : Polynomial K) where
-  abbrev Yes : Polynomial K → List (Term (K .ring)) → Type 0
-  Yes F qs = Division (K .ring) (polynomial (K .ring) F) (polynomial (K .ring) G) qs true
-
   pub record BothQuotients (n : ℕ) : Type 0 where
     pub of-A : List (Term (K .ring))
     pub of-B : List (Term (K .ring))

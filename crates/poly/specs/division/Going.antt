@@ -75,10 +75,6 @@ module _ (d : Setting) where
       (ap (left-of d work) e ∙ zeros-passed work (keys - top) top (omega arith) (can .above))
 
   module _ {before work : List ℕ} {k taken : ℕ} (g : Going d before work k taken) where
-    -- no more steps than cells
-    pub going-few : taken ≤ keys
-    going-few = let f = found-few d keys (remainder-cells before) in let c = g .counted in omega arith
-
     -- an end within the ceiling: no term is left to be found
     ends : (ceiling : ℕ) {b : Bool} → taken ≤ ceiling → left-of d work k .0 ≡ [] → left-of d work k .1 ≡ record { whole = b; quotient = quotient-cells work }
         → Stepped d ceiling before work (record { number = says b; steps = taken })

@@ -187,4 +187,5 @@ steps-spec =
     tie.close (tie.spec Inv-loop μ-loop Inv-steps μ-steps steps-holds (λ c. search needs) (λ c. search needs) (λ c. search needs)
     (λ c. search needs) (λ c. search needs) (λ c κs. search needs) (λ c. search needs) loop-again add-taken sub-shift (λ c. search needs)
     (λ c. search needs) (λ c. search needs) (λ c. search needs) (λ c κs. search needs) product-requires (λ c. search needs) (λ c. search needs)
-    (λ c. search needs) subtract-requires (λ c. search needs) steps-again (λ c. search needs) returns (λ c. search needs) returns-2 (λ c. search needs) returns-3)
+    (λ c. search needs) subtract-requires (λ c. search needs) steps-again (λ c. search needs) returns (λ c. search needs) returns-2
+    (λ c. search needs) returns-3)
