@@ -1,5 +1,5 @@
-/* The library's six calls that are measured, by the types that their plain C twins have too. A length is 64 bits wide in the proved module,
-   also where the module is compiled for a core whose own size_t has 32. */
+/* The library's six calls that are measured, by the types that their plain C twins have too. A length, and so a ceiling and a number of steps, is 64
+   bits wide in the proved module, also where the module is compiled for a core whose own size_t has 32. */
 #ifndef CALLS_H
 #define CALLS_H
 
@@ -8,8 +8,8 @@
 typedef uint64_t length;
 
 typedef void candidate_call(uint16_t modulus, const uint32_t *first, length first_terms, const uint32_t *second, length second_terms,
-                            const uint16_t *skeleton, length keys, const uint16_t *points, length numbers,
-                            uint32_t *out, length out_terms, uint16_t *work, length work_numbers, length record[8]);
+                            const uint16_t *skeleton, length keys, const uint16_t *points, length numbers, length ceiling,
+                            uint32_t *out, length out_terms, uint16_t *work, length work_numbers, length record[9]);
 
 typedef void quotient_call(uint16_t modulus, const uint32_t *first, length first_terms, const uint32_t *second, length second_terms,
                            uint32_t *out, length out_terms, uint16_t *work, length work_numbers, length record[4]);
@@ -24,9 +24,12 @@ typedef void write_call(uint16_t modulus, const uint32_t *first, length first_te
 typedef void shorter_call(const uint32_t *first, length first_terms, const uint32_t *second, length second_terms, length part[2]);
 
 typedef void cancel_call(uint16_t modulus, const uint32_t *numerator, length numerator_terms, const uint32_t *denominator, length denominator_terms,
-                         const uint16_t *skeleton, length keys, const uint16_t *points, length numbers,
+                         const uint16_t *skeleton, length keys, const uint16_t *points, length numbers, length ceiling,
                          uint32_t *numerator_out, length numerator_room, uint32_t *denominator_out, length denominator_room,
-                         uint16_t *work, length work_numbers, length record[9]);
+                         uint16_t *work, length work_numbers, length record[10]);
+
+/* Two divisions never take more steps. */
+enum { MOST_STEPS = 8192 };
 
 candidate_call balungkiro_candidate;
 quotient_call balungkiro_quotient;

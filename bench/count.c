@@ -6,12 +6,14 @@ enum { KEYS = 4096, WORK_ROOM = 8192 };
 
 static uint32_t out[KEYS], denominator_out[KEYS];
 static uint16_t work[WORK_ROOM];
-static length record[9];
+static length record[10];
 static const workload *now;
 
-#define CANDIDATE(f) f(now->modulus, now->first, now->first_terms, now->second, now->second_terms, now->skeleton, now->keys, now->points, now->numbers, out, KEYS, work, WORK_ROOM, record)
+#define CANDIDATE(f) f(now->modulus, now->first, now->first_terms, now->second, now->second_terms, now->skeleton, now->keys, \
+                       now->points, now->numbers, MOST_STEPS, out, KEYS, work, WORK_ROOM, record)
 #define QUOTIENT(f) f(now->modulus, now->dividend, now->dividend_terms, now->divisor, now->divisor_terms, out, KEYS, work, WORK_ROOM, record)
-#define CANCEL(f) f(now->modulus, now->first, now->first_terms, now->second, now->second_terms, now->skeleton, now->keys, now->points, now->numbers, out, KEYS, denominator_out, KEYS, work, WORK_ROOM, record)
+#define CANCEL(f) f(now->modulus, now->first, now->first_terms, now->second, now->second_terms, now->skeleton, now->keys, \
+                    now->points, now->numbers, MOST_STEPS, out, KEYS, denominator_out, KEYS, work, WORK_ROOM, record)
 
 static void library_candidate(void) { CANDIDATE(balungkiro_candidate); }
 static void twin_of_candidate(void) { CANDIDATE(twin_candidate); }

@@ -17,7 +17,7 @@ static uint32_t out[KEYS], denominator_out[KEYS];
 static uint16_t work[WORK_ROOM];
 static uint16_t coefficients[8];
 static uint8_t buffer[BUFFER];
-static length record[9];
+static length record[10];
 static const workload *now;
 static nmod_mpoly_ctx_t ring;
 static nmod_mpoly_t first, second, divisor, found, first_over, second_over;
@@ -29,13 +29,15 @@ static void fail(const char *what) {
 
 /* The calls that are measured, on the workload `now`. */
 
-#define CANDIDATE(f) f(now->modulus, now->first, now->first_terms, now->second, now->second_terms, now->skeleton, now->keys, now->points, now->numbers, out, KEYS, work, WORK_ROOM, record)
+#define CANDIDATE(f) f(now->modulus, now->first, now->first_terms, now->second, now->second_terms, now->skeleton, now->keys, \
+                       now->points, now->numbers, MOST_STEPS, out, KEYS, work, WORK_ROOM, record)
 #define QUOTIENT(f, a, n) f(now->modulus, a, n, now->divisor, now->divisor_terms, out, KEYS, work, WORK_ROOM, record)
 #define IMAGE(f) f(now->modulus, now->first, now->first_terms, now->second, now->second_terms, now->at, now->at_numbers, coefficients, record)
 #define WRITE(f) f(now->modulus, now->first, now->first_terms, now->second, now->second_terms, now->skeleton, now->keys, now->points, now->numbers, buffer, BUFFER, record)
 /* A part is two numbers without a fault; they stand behind the number, which stays 0. */
 #define SHORTER(f) f(now->first, now->first_terms, now->second, now->second_terms, record + 1)
-#define CANCEL(f) f(now->modulus, now->first, now->first_terms, now->second, now->second_terms, now->skeleton, now->keys, now->points, now->numbers, out, KEYS, denominator_out, KEYS, work, WORK_ROOM, record)
+#define CANCEL(f) f(now->modulus, now->first, now->first_terms, now->second, now->second_terms, now->skeleton, now->keys, \
+                    now->points, now->numbers, MOST_STEPS, out, KEYS, denominator_out, KEYS, work, WORK_ROOM, record)
 
 static void library_candidate(void) { CANDIDATE(balungkiro_candidate); }
 static void twin_of_candidate(void) { CANDIDATE(twin_candidate); }
@@ -104,7 +106,7 @@ static void same(void (*library)(void), void (*twin)(void), const char *what) {
     static uint32_t library_out[KEYS], library_denominator[KEYS];
     static uint8_t library_buffer[BUFFER];
     uint16_t library_coefficients[8];
-    length library_record[9];
+    length library_record[10];
     forget();
     library();
     if (record[0] != 0)

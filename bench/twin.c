@@ -15,6 +15,7 @@ enum { KEYS = 4096, COEFFICIENTS = 65536, WORK_ROOM = 2 * KEYS, COLUMNS = 64, MO
 typedef struct { uint16_t cells[COLUMNS]; } row;
 typedef struct { row rows[COLUMNS]; size_t columns; } table;
 typedef struct { size_t number, list, place; } fault;
+typedef struct { size_t number; length steps; } trial;
 
 /* The list at fault, or 0. */
 enum { LIST_FIRST = 1, LIST_SECOND, LIST_SKELETON, LIST_POINTS, LIST_OUTPUT, LIST_WORK };
@@ -250,11 +251,13 @@ static bool at_most(uint16_t a, uint16_t b) {
     return x_of(a) <= x_of(b) && y_of(a) <= y_of(b) && z_of(a) <= z_of(b) && w_of(a) <= w_of(b);
 }
 
-/* Whether the divisor divides, in a work room whose first 4,096 numbers are 0; the quotient's coefficients go behind them. */
-static bool divide(uint16_t p, const uint32_t *dividend, size_t n, const uint32_t *divisor, size_t m, uint16_t *work) {
+/* 0 if the divisor divides, else 15, or 18 where a further term is due and the ceiling is reached; and the steps. It is worked in a work room whose
+   first 4,096 numbers are 0; the quotient's coefficients go behind them. */
+static trial divide(uint16_t p, const uint32_t *dividend, size_t n, const uint32_t *divisor, size_t m, length ceiling, uint16_t *work) {
+    length steps = 0;
     uint16_t above = most(dividend, n), below = most(divisor, m);
     if (!at_most(below, above))
-        return false;
+        return (trial){15, 0};
     uint16_t bound = above - below, lead = key_of(divisor[0]), inv = inverse(p, coefficient_of(divisor[0]));
     for (size_t i = 0; i < n; i++)
         work[key_of(dividend[i])] = coefficient_of(dividend[i]);
@@ -262,7 +265,10 @@ static bool divide(uint16_t p, const uint32_t *dividend, size_t n, const uint32_
         if (work[k] == 0)
             continue;
         if (!at_most(lead, (uint16_t)k) || !at_most((uint16_t)(k - lead), bound))
-            return false;
+            return (trial){15, steps};
+        if (steps == ceiling)
+            return (trial){18, steps};
+        steps++;
         size_t shift = k - lead;
         uint16_t q = times(p, work[k], inv), opposite = (uint16_t)(p - q);
         work[KEYS + shift] = q;
@@ -271,14 +277,24 @@ static bool divide(uint16_t p, const uint32_t *dividend, size_t n, const uint32_
             work[at] = plus_times(p, work[at], opposite, coefficient_of(divisor[i]));
         }
     }
-    return true;
+    return (trial){0, steps};
 }
 
-static bool divides(uint16_t p, const uint32_t *dividend, size_t n, const uint32_t *divisor, size_t m, uint16_t *work) {
+static trial divides(uint16_t p, const uint32_t *dividend, size_t n, const uint32_t *divisor, size_t m, length ceiling, uint16_t *work) {
     memset(work, 0, KEYS * sizeof *work);
-    bool whole = divide(p, dividend, n, divisor, m, work);
+    trial found = divide(p, dividend, n, divisor, m, ceiling, work);
     memset(work, 0, WORK_ROOM * sizeof *work);
-    return whole;
+    return found;
+}
+
+/* Both lists in turn, under one ceiling. */
+static trial divides_both(uint16_t p, const uint32_t *first, size_t n, const uint32_t *second, size_t m, const uint32_t *divisor, size_t k,
+                          length ceiling, uint16_t *work) {
+    trial one = divides(p, first, n, divisor, k, ceiling, work);
+    if (one.number)
+        return one;
+    trial other = divides(p, second, m, divisor, k, ceiling - one.steps, work);
+    return (trial){other.number, one.steps + other.steps};
 }
 
 /* A case file: of each record its kind byte and its numbers, the low byte first. Each function gives what is behind the bytes that it puts. */
@@ -384,7 +400,7 @@ void twin_quotient(uint16_t p, const uint32_t *first, length n, const uint32_t *
     if (found.number)
         return;
     memset(work, 0, WORK_ROOM * sizeof *work);
-    if (divide(p, first, n, second, m, work)) {
+    if (divide(p, first, n, second, m, KEYS, work).number == 0) {
         for (size_t k = KEYS; k-- > 0;)
             if (work[KEYS + k] != 0)
                 out[record[3]++] = (uint32_t)k << 16 | work[KEYS + k];
@@ -411,9 +427,9 @@ static fault candidate_fault(uint16_t p, const uint32_t *first, size_t n, const 
     return out_terms < keys ? (fault){10, LIST_OUTPUT, 0} : work_numbers < WORK_ROOM ? (fault){11, LIST_WORK, 0} : found;
 }
 
-/* The verdict on the equations: a number, and the divisor's terms. */
+/* The verdict on the equations: a number, the divisor's terms, and the steps of division. */
 static size_t verdict(const table *t, uint16_t p, const uint32_t *first, size_t n, const uint32_t *second, size_t m, const uint16_t *skeleton, size_t keys,
-                      uint32_t *out, uint16_t *work, length *count) {
+                      length ceiling, uint32_t *out, uint16_t *work, length *count, length *steps) {
     uint16_t values[COLUMNS];
     uint32_t terms[MOST_KEYS];
     size_t number = solve(t, p, values), lead = 0;
@@ -428,18 +444,21 @@ static size_t verdict(const table *t, uint16_t p, const uint32_t *first, size_t 
     for (size_t i = 0; i < keys; i++)
         if (values[i] != 0)
             terms[k++] = (uint32_t)skeleton[i] << 16 | times(p, values[i], factor);
-    if (!divides(p, first, n, terms, k, work) || !divides(p, second, m, terms, k, work))
-        return 15;
+    trial found = divides_both(p, first, n, second, m, terms, k, ceiling, work);
+    *steps = found.steps;
+    if (found.number)
+        return found.number;
     memcpy(out, terms, k * sizeof *terms);
     *count = k;
     return 0;
 }
 
 void twin_candidate(uint16_t p, const uint32_t *first, length n, const uint32_t *second, length m, const uint16_t *skeleton, length keys,
-                    const uint16_t *points, length numbers, uint32_t *out, length out_terms, uint16_t *work, length work_numbers, length record[8]) {
+                    const uint16_t *points, length numbers, length ceiling, uint32_t *out, length out_terms, uint16_t *work, length work_numbers,
+                    length record[9]) {
     size_t sizes[MOST_POINTS], least = 0, bad = 0, kept = 0, count = numbers / 3, next = 0;
     fault found = candidate_fault(p, first, n, second, m, skeleton, keys, points, numbers, out_terms, work_numbers);
-    memset(record, 0, 8 * sizeof *record);
+    memset(record, 0, 9 * sizeof *record);
     begin(record, found);
     if (found.number)
         return;
@@ -469,7 +488,7 @@ void twin_candidate(uint16_t p, const uint32_t *first, length n, const uint32_t 
             point_equations(&t, p, skeleton, keys, points + 3 * i, work + 8 * i, next == 0 ? t.columns - 1 : keys + next - 1);
             next++;
         }
-    record[0] = verdict(&t, p, first, n, second, m, skeleton, keys, out, work, &record[7]);
+    record[0] = verdict(&t, p, first, n, second, m, skeleton, keys, ceiling, out, work, &record[7], &record[8]);
 }
 
 /* Each coefficient times the factor. */
@@ -480,12 +499,13 @@ static void scale(uint16_t p, uint16_t factor, uint32_t *terms, size_t n) {
 
 /* Without room for its divisor the candidate refuses with 10, which is where a short output of the key stands. */
 void twin_cancel(uint16_t p, const uint32_t *numerator, length n, const uint32_t *denominator, length m, const uint16_t *skeleton, length keys,
-                 const uint16_t *points, length numbers, uint32_t *numerator_out, length numerator_room, uint32_t *denominator_out,
-                 length denominator_room, uint16_t *work, length work_numbers, length record[9]) {
+                 const uint16_t *points, length numbers, length ceiling, uint32_t *numerator_out, length numerator_room, uint32_t *denominator_out,
+                 length denominator_room, uint16_t *work, length work_numbers, length record[10]) {
     uint32_t divisor[MOST_KEYS];
     length quotient[4], room = numerator_room < KEYS || denominator_room < KEYS ? 0 : MOST_KEYS;
-    twin_candidate(p, numerator, n, denominator, m, skeleton, keys, points, numbers, divisor, room, work, work_numbers, record);
+    twin_candidate(p, numerator, n, denominator, m, skeleton, keys, points, numbers, ceiling, divisor, room, work, work_numbers, record);
     size_t terms = record[7];
+    record[9] = record[8];
     record[8] = 0;
     if (record[0])
         return;

@@ -6,7 +6,8 @@ in x and the second keeps it; of the others the divisor is planted: the inputs a
 and the points are random. A seed fixes them. The divisor, made monic, is what library, twin and FLINT must all give. The quotient is the first input
 over it, the image is at the last point. What is written is the file of the candidate's lists. The sixth is the dearest candidate that is known, and
 so the dearest call of the Cancel key, which is given what the candidate is. The seventh is the dearest call of each of the other kinds, and a
-candidate that is refused late; the shorter leading part is that of the two inputs.
+candidate that is refused late; the shorter leading part is that of the two inputs. The last two have a skeleton that is wrong: its divisor agrees
+with the inputs at the points alone, and is refused after the dearest division that is known, and after the most steps.
 """
 
 import random
@@ -15,8 +16,9 @@ from pathlib import Path
 
 sys.path.insert(0, str(Path(__file__).resolve().parent.parent / "second"))
 import bench  # noqa: E402
-from candidate import only_solution  # noqa: E402
-from polynomials import POWERS, at_point, key, monic, monomials_at, multiply, remainder, term_list  # noqa: E402
+from candidate import candidate, only_solution  # noqa: E402
+from case_file import Case  # noqa: E402
+from polynomials import POWERS, add, at_point, key, monic, monomials_at, multiply, remainder, term_list  # noqa: E402
 
 MODULUS = 65521
 
@@ -87,7 +89,7 @@ def vanishing(p, f, g, x, monomials, points):
     for t in triples:
         rest = remainder(at_point(f, t, p), at_point(g, t, p), p) + [0] * POWERS
         rows.append(monomials_at(monomials, t, p) + [-rest[x] % p])
-    return f | {512 * x + m: c for m, c in zip(monomials, only_solution(rows, len(monomials), p)) if c}
+    return add(f, {512 * x + m: c for m, c in zip(monomials, only_solution(rows, len(monomials), p)) if c}, p)
 
 
 def long_division(rng, p, sizes):
@@ -160,6 +162,64 @@ def worst():
     return "worst", p, first, second, sorted(keys, reverse=True), points, 15, dividend, divisor, random_points(rng, p, 1)
 
 
+def with_root(rng, p, root, terms):
+    """A polynomial of degree 7 with so many terms and this root; where there is none, any with all eight."""
+    if root is None:
+        return [rng.randrange(1, p) for _ in range(8)]
+    f = [0] * 7 + [1]
+    for power in rng.sample(range(1, 7), terms - 2):
+        f[power] = rng.randrange(1, p)
+    f[0] = -sum(c * pow(root, power, p) for power, c in enumerate(f)) % p
+    return f
+
+
+def on_roots(rng, p, roots):
+    """Points with one coordinate at its root: so many of each that a polynomial of degree 1 in each of these that is 0 there is their product."""
+    places = [place for place, root in enumerate(roots) if root is not None]
+    points = []
+    for turn, place in enumerate(places):
+        for _ in range(2 ** (len(places) - 1 - turn)):
+            point = random_points(rng, p, 1)
+            point[place] = roots[place]
+            points += point
+    return points
+
+
+def refused_late(name, seed, degree, roots, terms, others):
+    """A wrong skeleton: its divisor is f, in x alone and of this degree, times y - b, z - c, w - d for the roots, and divides the first input.
+
+    Both inputs are products of four polynomials, in x, y, z, w, that have these roots, few terms and dense quotients; that in x is x^7 less its
+    remainder by f, and in the second input f. The second then gets f and terms without x that are 0 at the other points. So there both have f in
+    common, and where a coordinate is at its root the first is 0 and the second not a multiple of f: a multiple of f in the skeleton has to be 0
+    there, and that fixes the divisor. The second input is divided until nothing of the highest power of x is left but the one term of f.
+    """
+    rng = random.Random(seed)
+    p = MODULUS
+    roots = [rng.randrange(1, p) if root else None for root in roots]
+    f = [rng.randrange(1, p) for _ in range(degree)] + [1]
+    g = box(p, [f] + [[1] if root is None else [-root % p, 1] for root in roots])
+    first = box(p, [whole([0] * 7 + [1], f, p)] + [with_root(rng, p, root, terms) for root in roots])
+    second = add(box(p, [f] + [with_root(rng, p, root, terms) for root in roots]), box(p, [f]), p)
+    points = random_points(rng, p, others)
+    low = rng.sample([k for k in sorted(second) if k < 512], others + 1)
+    second = vanishing(p, add(second, {low[0]: 1}, p), g, 0, low[1:], points)
+    points += on_roots(rng, p, roots)
+    skeleton = sorted(g, reverse=True)
+    assert len(first) == len(second) == 256, "not the longest inputs"
+    assert candidate(Case(p, term_list(first), term_list(second), skeleton, points)).number == 15, "not refused by division"
+    return name, p, first, second, skeleton, points, 15, first, g, points[:3]
+
+
+def late():
+    """The dearest division that is known to end in 15: 32 keys, 32 kept points, and 1,715 and 343 steps."""
+    return refused_late("late", 8, 3, (True, True, True), 4, 25)
+
+
+def steps():
+    """The most steps that are known to end in 15, 3,136 and 448, of a quick guess: four keys and three points."""
+    return refused_late("steps", 9, 1, (True, False, False), 2, 2)
+
+
 def c_array(kind, name, numbers):
     return f"static const {kind} {name}[] = {{{', '.join(map(str, numbers))}}};"
 
@@ -189,6 +249,8 @@ def main():
         planted("wide", 6, 32, 7, 32),
         long(),
         worst(),
+        late(),
+        steps(),
     ]
     print("/* Made by bench/workloads.py. */")
     lines = [written(*workload) for workload in workloads]

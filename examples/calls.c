@@ -1,11 +1,11 @@
 /* Asks the library what the lines of standard input say, a call on each line, and answers each by a line of its own.
  * A line is a service and its arguments, decimal; a list is its length and its numbers; a room that is lent is its length alone.
  *
- *   candidate MODULUS FIRST SECOND SKELETON POINTS OUTPUT WORK      quotient MODULUS FIRST SECOND OUTPUT WORK
- *   cancel MODULUS NUMERATOR DENOMINATOR SKELETON POINTS NUMERATOR_OUTPUT DENOMINATOR_OUTPUT WORK
- *   image MODULUS FIRST SECOND POINT                                list TERMS, lists FIRST SECOND
- *   sum MODULUS VALUE MODULUS VALUE (difference, product)           inverse MODULUS VALUE
- *   write MODULUS FIRST SECOND SKELETON POINTS BUFFER               copy BYTES BUFFER
+ *   candidate MODULUS FIRST SECOND SKELETON POINTS CEILING OUTPUT WORK      quotient MODULUS FIRST SECOND OUTPUT WORK
+ *   cancel MODULUS NUMERATOR DENOMINATOR SKELETON POINTS CEILING NUMERATOR_OUTPUT DENOMINATOR_OUTPUT WORK
+ *   image MODULUS FIRST SECOND POINT                                        list TERMS, lists FIRST SECOND
+ *   sum MODULUS VALUE MODULUS VALUE (difference, product)                   inverse MODULUS VALUE
+ *   write MODULUS FIRST SECOND SKELETON POINTS BUFFER                       copy BYTES BUFFER
  *
  * The answer is the record; behind '|' the terms, of the key those of the numerator and behind a second '|' those of the denominator, and how many
  * numbers of each output behind its terms, of the work room's first 8192 and of the rest of the work room are as before the call, and how many of
@@ -14,6 +14,7 @@
  * Each number of a room is MARK before the call. A line that is not such a call is answered by 'not a call'. */
 #include "balungkiro.h"
 
+#include <limits.h>
 #include <stdio.h>
 #include <stdlib.h>
 #include <string.h>
@@ -157,11 +158,11 @@ static void ask_candidate(void)
 {
     uint16_t p = small();
     size_t a = terms(first), b = terms(second), keys = numbers(skeleton, MOST_KEYS), n = numbers(points, MOST_NUMBERS);
-    size_t output_count = lend_output(out), work_count = lend_work(), record[8];
+    size_t ceiling = number(ULONG_MAX), output_count = lend_output(out), work_count = lend_work(), record[9];
     if (!is_call())
         return;
-    balungkiro_candidate(p, first, a, second, b, skeleton, keys, points, n, out, output_count, work, work_count, record);
-    print_record(record, 8);
+    balungkiro_candidate(p, first, a, second, b, skeleton, keys, points, n, ceiling, out, output_count, work, work_count, record);
+    print_record(record, 9);
     print_rooms(record[7], output_count, work_count);
 }
 
@@ -169,12 +170,13 @@ static void ask_cancel(void)
 {
     uint16_t p = small();
     size_t a = terms(first), b = terms(second), keys = numbers(skeleton, MOST_KEYS), n = numbers(points, MOST_NUMBERS);
-    size_t numerator_count = lend_output(out), denominator_count = lend_output(denominator_out), work_count = lend_work(), record[9];
+    size_t ceiling = number(ULONG_MAX), numerator_count = lend_output(out), denominator_count = lend_output(denominator_out);
+    size_t work_count = lend_work(), record[10];
     if (!is_call())
         return;
-    balungkiro_cancel(p, first, a, second, b, skeleton, keys, points, n, out, numerator_count, denominator_out, denominator_count,
+    balungkiro_cancel(p, first, a, second, b, skeleton, keys, points, n, ceiling, out, numerator_count, denominator_out, denominator_count,
                       work, work_count, record);
-    print_record(record, 9);
+    print_record(record, 10);
     print_terms(out, record[7]);
     print_terms(denominator_out, record[8]);
     printf(" | %zu %zu", output_left(out, record[7], numerator_count), output_left(denominator_out, record[8], denominator_count));

@@ -1,7 +1,7 @@
 /* The Cancel key. Reads a case file, its first list the numerator and its second the denominator, from standard input and prints the reduced
- * transfer function: number, list, place, d, bad, unlucky, kept, count of terms of the numerator, count of terms of the denominator. Then, if
- * accepted, the numerator over the denominator: a line for each term (coefficient, then the exponents of x, y, z, w), with the line '-----' between
- * the two. A reader's refusal is number, list, place and six zeros. */
+ * transfer function: number, list, place, d, bad, unlucky, kept, count of terms of the numerator, count of terms of the denominator, steps of trial
+ * division. Then, if accepted, the numerator over the denominator: a line for each term (coefficient, then the exponents of x, y, z, w), with the
+ * line '-----' between the two. A reader's refusal is number, list, place and seven zeros. No division is cut short. */
 #include "balungkiro.h"
 
 #include <stdio.h>
@@ -23,15 +23,15 @@ static void print_terms(const uint32_t *terms, size_t count)
 
 int main(void)
 {
-    size_t read[8], found[9], i;
+    size_t read[8], found[10], i;
     balungkiro_read(file, fread(file, 1, sizeof file, stdin), numerator, denominator, skeleton, points, read);
     if (read[0] != 0) {
-        printf("%zu %zu %zu 0 0 0 0 0 0\n", read[0], read[1], read[2]);
+        printf("%zu %zu %zu 0 0 0 0 0 0 0\n", read[0], read[1], read[2]);
         return 0;
     }
     balungkiro_cancel((uint16_t)read[3], numerator, read[4], denominator, read[5], skeleton, read[6], points, read[7],
-                      numerator_out, BALUNGKIRO_QUOTIENT, denominator_out, BALUNGKIRO_QUOTIENT, work, BALUNGKIRO_WORK, found);
-    for (i = 0; i < 9; i++)
+                      BALUNGKIRO_MOST_STEPS, numerator_out, BALUNGKIRO_QUOTIENT, denominator_out, BALUNGKIRO_QUOTIENT, work, BALUNGKIRO_WORK, found);
+    for (i = 0; i < 10; i++)
         printf(i == 0 ? "%zu" : " %zu", found[i]);
     printf("\n");
     if (found[0] != 0)

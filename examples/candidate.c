@@ -17,14 +17,14 @@ static void print_term(uint32_t term)
 
 int main(void)
 {
-    size_t read[8], found[8], i;
+    size_t read[8], found[9], i;
     balungkiro_read(file, fread(file, 1, sizeof file, stdin), first, second, skeleton, points, read);
     if (read[0] != 0) {
         printf("%zu %zu %zu 0 0 0 0\n", read[0], read[1], read[2]);
         return 0;
     }
     balungkiro_candidate((uint16_t)read[3], first, read[4], second, read[5], skeleton, read[6], points, read[7],
-                         out, BALUNGKIRO_KEYS, work, BALUNGKIRO_WORK, found);
+                         BALUNGKIRO_MOST_STEPS, out, BALUNGKIRO_KEYS, work, BALUNGKIRO_WORK, found);
     printf("%zu %zu %zu %zu %zu %zu %zu\n", found[0], found[1], found[2], found[3], found[4], found[5], found[6]);
     for (i = 0; i < found[7]; i++)
         print_term(out[i]);

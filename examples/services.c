@@ -1,7 +1,8 @@
 /* Asks each service of the library where it answers and where it refuses, and prints the records with what is left in the buffers. Each of
  * the six lists is refused, and the place 1 is that of a term of the first, a term of the second, a key and a coordinate.
  * A = x^2 y - y and B = x + 1 modulo 17: A over B is xy - y. At y = 0 A is 0, and the x-leading coefficient of C = x^2 y + 5x + 5 is.
- * D = 3x^2 + 6x + 3 is 3B^2: with B struck out, A over D is 6xy - 6y over x + 1. */
+ * D = 3x^2 + 6x + 3 is 3B^2: with B struck out, A over D is 6xy - 6y over x + 1.
+ * Trial division of A by B takes two steps, that of B by B one, that of D by B two. A over x^2 + 2x + 1 is refused after one step. */
 #include "balungkiro.h"
 
 #include <stdio.h>
@@ -60,13 +61,13 @@ static void quotient(const char *call, const uint32_t *first, size_t m, const ui
 }
 
 /* The common divisor of A and B in two monomials, in an output whose two numbers are 9 before the call. */
-static void candidate(const char *call, const uint16_t skeleton[2], size_t room)
+static void candidate(const char *call, const uint16_t skeleton[2], size_t ceiling, size_t room)
 {
     static const uint16_t points[] = { 0, 0, 0, 1, 0, 0 };
     static uint16_t work[BALUNGKIRO_WORK];
     uint32_t out[2] = { 9, 9 };
-    size_t record[8];
-    balungkiro_candidate(P, A, COUNT(A), B, COUNT(B), skeleton, 2, points, COUNT(points),
+    size_t record[9];
+    balungkiro_candidate(P, A, COUNT(A), B, COUNT(B), skeleton, 2, points, COUNT(points), ceiling,
                          out, room, work, COUNT(work), record);
     print_record(call, record, COUNT(record));
     printf("  output %lu %lu\n", (unsigned long)out[0], (unsigned long)out[1]);
@@ -86,17 +87,17 @@ static void print_output(const char *name, const uint32_t *out, size_t terms, si
 
 /* The Cancel key on A over D, with the powers of x from a degree down to 1 as skeleton and the points y = 0, 1, or the first of them. The numbers of
  * the outputs and of the work room are 9 before the call, and each has one number more than is used. */
-static void cancel(const char *call, size_t degree, size_t point_count, size_t numerator_room, size_t denominator_room)
+static void cancel(const char *call, size_t degree, size_t point_count, size_t ceiling, size_t numerator_room, size_t denominator_room)
 {
     static const uint16_t powers[] = { 2 * X, X, 0 }, points[] = { 0, 0, 0, 1, 0, 0 };
     static uint32_t numerator[BALUNGKIRO_QUOTIENT + 1], denominator[BALUNGKIRO_QUOTIENT + 1];
     static uint16_t work[BALUNGKIRO_WORK + 1];
-    size_t record[9], i, nonzero = 0;
+    size_t record[10], i, nonzero = 0;
     for (i = 0; i < COUNT(numerator); i++)
         numerator[i] = denominator[i] = 9;
     for (i = 0; i < COUNT(work); i++)
         work[i] = 9;
-    balungkiro_cancel(P, A, COUNT(A), D, COUNT(D), powers + 2 - degree, degree + 1, points, 3 * point_count,
+    balungkiro_cancel(P, A, COUNT(A), D, COUNT(D), powers + 2 - degree, degree + 1, points, 3 * point_count, ceiling,
                       numerator, numerator_room, denominator, denominator_room, work, COUNT(work), record);
     print_record(call, record, COUNT(record));
     print_output("numerator", numerator, record[7], COUNT(numerator));
@@ -189,9 +190,25 @@ static void images(void)
 static void candidates(void)
 {
     static const uint16_t falling[] = { X, 0 }, rising[] = { 0, X };
-    candidate("candidate of A and B", falling, 2);
-    candidate("candidate with rising keys", rising, 2);
-    candidate("candidate in a short output", falling, 1);
+    candidate("candidate of A and B", falling, BALUNGKIRO_MOST_STEPS, 2);
+    candidate("candidate with a ceiling of its three steps", falling, 3, 2);
+    candidate("candidate with a ceiling of two steps, those of A", falling, 2, 2);
+    candidate("candidate with a ceiling of no step", falling, 0, 2);
+    candidate("candidate with rising keys", rising, BALUNGKIRO_MOST_STEPS, 2);
+    candidate("candidate in a short output", falling, BALUNGKIRO_MOST_STEPS, 1);
+}
+
+static void cancels(void)
+{
+    enum { STEPS = BALUNGKIRO_MOST_STEPS, ROOM = BALUNGKIRO_QUOTIENT };
+    cancel("cancel of A over D", 1, 2, STEPS, ROOM + 1, ROOM);
+    cancel("cancel with a ceiling of its four steps", 1, 2, 4, ROOM, ROOM);
+    cancel("cancel with a ceiling of three steps", 1, 2, 3, ROOM, ROOM);
+    cancel("cancel at y=0 alone, where x^2 + 2x + 1 divides D but not A", 2, 1, STEPS, ROOM, ROOM + 1);
+    cancel("cancel at y=0 alone with a ceiling of one step", 2, 1, 1, ROOM, ROOM);
+    cancel("cancel at y=0 alone with a ceiling of no step", 2, 1, 0, ROOM, ROOM);
+    cancel("cancel in a short output for the numerator", 1, 2, STEPS, ROOM - 1, ROOM);
+    cancel("cancel in a short output for the denominator", 1, 2, STEPS, ROOM, ROOM - 1);
 }
 
 static void leading_parts(void)
@@ -218,10 +235,7 @@ int main(void)
     quotient("A over B in a short work room", A, COUNT(A), B, COUNT(B), BALUNGKIRO_WORK - 1);
     quotient("A over no list", A, COUNT(A), B, 0, BALUNGKIRO_WORK);
     candidates();
-    cancel("cancel of A over D", 1, 2, BALUNGKIRO_QUOTIENT + 1, BALUNGKIRO_QUOTIENT);
-    cancel("cancel at y=0 alone, where x^2 + 2x + 1 divides D but not A", 2, 1, BALUNGKIRO_QUOTIENT, BALUNGKIRO_QUOTIENT + 1);
-    cancel("cancel in a short output for the numerator", 1, 2, BALUNGKIRO_QUOTIENT - 1, BALUNGKIRO_QUOTIENT);
-    cancel("cancel in a short output for the denominator", 1, 2, BALUNGKIRO_QUOTIENT, BALUNGKIRO_QUOTIENT - 1);
+    cancels();
     leading_parts();
     arithmetic(17, 5, 17, 9);
     arithmetic(65521, 65520, 65521, 65520);

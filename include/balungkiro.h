@@ -9,6 +9,10 @@
  * List         a polynomial: 1 to 256 terms, keys strictly falling.
  * Skeleton     1 to 32 keys, strictly falling.
  * Points       1 to 32 triples y, z, w, flat, each number below p.
+ * Step         one term of a quotient, when the divisor that was found is tried: the first list by it, then the second. A look that ends in
+ *              "does not divide" is no step.
+ * Ceiling      on the steps of both divisions together; it may be any number. 18 comes exactly when a further term is due and the ceiling is
+ *              reached. With a higher ceiling any answer other than 18 is unchanged; with BALUNGKIRO_MOST_STEPS or more 18 never comes.
  *
  * A list is passed as a pointer and a count of numbers. Every input is answered: what is wrong is refused by number.
  *
@@ -30,7 +34,7 @@
  *    11      work room shorter than 8192 numbers                                 list 6     place 0
  *    12      no good point: both x-leading coefficients are 0 at each            list 0     place 0
  *    13, 14  equations have no solution, more than one                           list 0     place 0
- *    15      does not divide                                                     list 0     place 0
+ *    15, 18  does not divide, a step is due at the ceiling: which comes first    list 0     place 0
  *    17      arithmetic operand at least p, or another modulus (before 16)       list 0     0 first operand, 1 second
  *    16      inverse of 0                                                        list 0     place 0
  *    20..25  the case file; see balungkiro_read                                  list 0
@@ -56,7 +60,8 @@ enum {
     BALUNGKIRO_QUOTIENT = 4096,      /* the terms that a quotient's output, and each output of the Cancel key, has room for */
     BALUNGKIRO_WORK = 8192,          /* the numbers of the work room */
     BALUNGKIRO_FILE = 4096,          /* no byte of a case file after these changes what is read */
-    BALUNGKIRO_MOST_BYTES = 2884     /* the bytes of the fullest case file: no file that is written is longer */
+    BALUNGKIRO_MOST_BYTES = 2884,    /* the bytes of the fullest case file: no file that is written is longer */
+    BALUNGKIRO_MOST_STEPS = 8192     /* two divisions never take more steps: with this ceiling, or a higher one, 18 never comes */
 };
 
 /* The list at fault. */
@@ -71,9 +76,11 @@ enum {
 };
 
 /* The common divisor of first and second that the images at the points fix, in the monomials of the skeleton.
- * Record: number, list, place, d (the least degree of an image), bad, unlucky, kept (numbers of points), count of terms.
- * Numbers 1 to 15. With 1 to 11 the last five are 0; with 12 bad is the number of points and the rest 0; with 13 to 15 the count of terms is 0.
- * Where both lists pass 1 to 5, swapping them changes nothing in record, out and work.
+ * Record: number, list, place, d (the least degree of an image), bad, unlucky, kept (numbers of points), count of terms, steps taken.
+ * Numbers 1 to 15 and 18. With 1 to 11 the last six are 0; with 12 bad is the number of points and the rest 0; with 13 to 15 and 18 the count of
+ * terms is 0. No division is begun with 1 to 14: the steps are 0. With 15 they are those of both divisions, also where the second list alone is not
+ * divided; with 18 the ceiling; on acceptance the terms of both quotients together.
+ * Where both lists pass 1 to 5, swapping them changes nothing in record, out and work, but for the steps of a 15 or 18 and which of the two comes.
  * out, at least as long as the skeleton (10): acceptance writes the terms first in it and leaves the rest; a refusal leaves it unchanged.
  * work, at least 8192 (11): unchanged with 1 to 11, otherwise its first 8192 numbers are 0 and the rest unchanged. */
 void balungkiro_candidate(uint16_t modulus,
@@ -81,12 +88,13 @@ void balungkiro_candidate(uint16_t modulus,
                           const uint32_t *second, size_t second_count,
                           const uint16_t *skeleton, size_t skeleton_count,
                           const uint16_t *points, size_t points_count,
+                          size_t ceiling,
                           uint32_t *out, size_t out_count,
                           uint16_t *work, size_t work_count,
-                          size_t record[8]);
+                          size_t record[9]);
 
 /* First over second, exact.
- * Record: number, list, place, count of terms (0 on refusal). Numbers 1 to 5, 10, 11, 15.
+ * Record: number, list, place, count of terms (0 on refusal). Numbers 1 to 5, 10, 11, 15. It has no ceiling.
  * out, at least 4096 (10), and work, at least 8192 (11): as in balungkiro_candidate. */
 void balungkiro_quotient(uint16_t modulus,
                          const uint32_t *first, size_t first_count,
@@ -100,8 +108,10 @@ void balungkiro_quotient(uint16_t modulus,
  * On acceptance no common divisor of N and D has a higher degree in x than G, which is struck out; N D' = D N'; and N' and D' have no common
  * divisor that contains x.
  * Record: number, list, place, d, bad, unlucky, kept, as balungkiro_candidate gives them to N as its first list and D as its second; then the
- * count of terms of N', then that of D'.
- * Numbers 1 to 15. With 1 to 11 the last six are 0; with 12 bad is the number of points and the rest 0; with 13 to 15 both counts of terms are 0.
+ * count of terms of N', then that of D', then the steps that balungkiro_candidate takes under the same ceiling; the key's own two quotients are not
+ * counted.
+ * Numbers 1 to 15 and 18. With 1 to 11 the last seven are 0; with 12 bad is the number of points and the rest 0; with 13 to 15 and 18 both counts
+ * of terms are 0.
  * numerator_out and denominator_out, each at least 4096 (10, where either is shorter): acceptance writes N' first in the one and D' first in the
  * other and leaves the rest of both; a refusal leaves both unchanged.
  * work, at least 8192 (11): as in balungkiro_candidate. */
@@ -110,10 +120,11 @@ void balungkiro_cancel(uint16_t modulus,
                        const uint32_t *denominator, size_t denominator_count,
                        const uint16_t *skeleton, size_t skeleton_count,
                        const uint16_t *points, size_t points_count,
+                       size_t ceiling,
                        uint32_t *numerator_out, size_t numerator_out_count,
                        uint32_t *denominator_out, size_t denominator_out_count,
                        uint16_t *work, size_t work_count,
-                       size_t record[9]);
+                       size_t record[10]);
 
 /* The image at one point: the monic greatest common divisor of first and second there, as polynomials in x; where one of them is 0, the other
  * made monic.

@@ -10,20 +10,24 @@ from typing import NamedTuple
 import bench
 import case_file
 import cases
+import ceilings
 import damage
 import plans
 from arithmetic import arithmetic, leading_length, list_check, lists_check
 from candidate import cancel, candidate, image_at, quotient_terms
 from polynomials import POWERS, key, term_list
-from refusals import ACCEPTED, COEFFICIENTS, KEYS, MODULI, MOST_TERMS, QUOTIENT_TERMS, WORK_NUMBERS, Refusal
+from refusals import (
+    ACCEPTED, COEFFICIENTS, KEYS, MODULI, MOST_SKELETON_KEYS, MOST_STEPS, MOST_TERMS, QUOTIENT_TERMS, WORK_NUMBERS, Refusal,
+)
 
-NUMBERS = (*range(0, 18), *range(20, 28))
+NUMBERS = (*range(0, 19), *range(20, 28))
 LISTS = range(1, 7)
-X, ONE = key(1, 0, 0, 0), key(0, 0, 0, 0)
-X_POWER, Y_POWER = X * COEFFICIENTS, key(0, 1, 0, 0) * COEFFICIENTS
+X, Y, ONE = key(1, 0, 0, 0), key(0, 1, 0, 0), key(0, 0, 0, 0)
+X_POWER, Y_POWER = X * COEFFICIENTS, Y * COEFFICIENTS
 OPERATIONS = ("sum", "difference", "product")
 MARK = b"\x09"  # each byte of a buffer before the call
 MOST_READ = 4096  # no byte of a case file after these changes what is read
+CANDIDATE_ROOMS = (MOST_SKELETON_KEYS, WORK_NUMBERS)  # an output that is always enough, and the work room
 KEY_ROOMS = (QUOTIENT_TERMS, QUOTIENT_TERMS, WORK_NUMBERS)  # what the Cancel key needs: two outputs and the work room
 
 
@@ -31,7 +35,7 @@ KEY_ROOMS = (QUOTIENT_TERMS, QUOTIENT_TERMS, WORK_NUMBERS)  # what the Cancel ke
 TIE, FIRST_SHORTER, SECOND_SHORTER = "picker: a tie", "picker: the first is shorter", "picker: the second is shorter"
 REFUSED = tuple(f"picker: refused with {number}" for number in range(2, 6))
 SWAPPED = "calls with their lists swapped"
-KEY_REFUSED = tuple(f"key: refused with {number}" for number in range(1, 16))
+KEY_REFUSED = {number: f"key: refused with {number}" for number in (*range(1, 16), 18)}
 KEY_SHORT = {  # whether the numerator's output is short, and whether the denominator's is
     (True, False): "key: the numerator's output alone is short",
     (False, True): "key: the denominator's output alone is short",
@@ -40,8 +44,8 @@ KEY_SHORT = {  # whether the numerator's output is short, and whether the denomi
 KEY_MONIC, KEY_SCALED = "key: accepted, c is 1", "key: accepted, c is not 1"
 KEY_LONGER = tuple(f"key: accepted, the {room} is longer than needed" for room in ("numerator's output", "denominator's output", "work room"))
 KEY_MANY = tuple(f"key: accepted, {name} has more than {MOST_TERMS} terms" for name in ("N'", "D'"))
-KEY_KINDS = (*KEY_REFUSED, *KEY_SHORT.values(), KEY_MONIC, KEY_SCALED, *KEY_LONGER, *KEY_MANY)
-KINDS = (TIE, FIRST_SHORTER, SECOND_SHORTER, *REFUSED, SWAPPED, *KEY_KINDS)
+KEY_KINDS = (*KEY_REFUSED.values(), *KEY_SHORT.values(), KEY_MONIC, KEY_SCALED, *KEY_LONGER, *KEY_MANY)
+KINDS = (TIE, FIRST_SHORTER, SECOND_SHORTER, *REFUSED, SWAPPED, *KEY_KINDS, *ceilings.KINDS, *ceilings.SWAP_KINDS)
 
 
 class Call(NamedTuple):
@@ -71,30 +75,46 @@ def _rooms(number, work_room, *outputs):
     return [*written, "|", *left, used if refused else 0, work_room - used, 0 if refused else used]
 
 
-def candidate_call(label, case, output_room=32, work_room=WORK_NUMBERS):
-    r = candidate(case, output_room, work_room)
-    asked = _candidate_line(case, output_room, work_room)
-    return Call(label, asked, _line(*r.head(), len(r.terms), *_rooms(r.number, work_room, (r.terms, output_room))))
+def candidate_call(label, case, ceiling=MOST_STEPS, rooms=CANDIDATE_ROOMS):
+    return next(candidate_both_ways(label, case, candidate(case), ceiling, rooms))
 
 
-def _candidate_line(case, output_room, work_room):
-    return _line("candidate", case.modulus, case.first, case.second, case.skeleton, case.points, output_room, work_room)
+def candidate_both_ways(label, case, unhindered, ceiling, rooms):
+    """The call, and where both lists pass the checks 1 to 5 the call with these swapped. The same answer is wanted, but for a 15 or 18: which of
+    the two comes, and after how many steps, is worked anew. `unhindered` is the record under a ceiling that is never reached."""
+    record = candidate(case, ceiling, *rooms)
+    yield _candidate_call(label, case, ceiling, rooms, record, ceilings.kinds("candidate", ceiling, record, unhindered))
+    if record.number in range(1, 6):
+        return
+    kinds = [SWAPPED]
+    if record.number in ceilings.REFUSED:
+        other = candidate(case.swapped(), ceiling, *rooms)
+        kinds += ceilings.swap_kinds(record, other)
+        record = replace(record, number=other.number, steps=other.steps)
+    yield _candidate_call(f"{label}, lists swapped", case.swapped(), ceiling, rooms, record, kinds)
 
 
-def cancel_call(label, case, rooms=KEY_ROOMS):
-    answer = cancel(case, *rooms)
-    asked = _line("cancel", case.modulus, case.first, case.second, case.skeleton, case.points, *rooms)
+def _candidate_call(label, case, ceiling, rooms, record, kinds):
+    asked = _line("candidate", case.modulus, case.first, case.second, case.skeleton, case.points, ceiling, *rooms)
+    output_room, work_room = rooms
+    return Call(label, asked, _line(*record.numbers(), *_rooms(record.number, work_room, (record.terms, output_room))), tuple(kinds))
+
+
+def cancel_call(label, case, ceiling=MOST_STEPS, rooms=KEY_ROOMS, unhindered=None):
+    answer = cancel(case, ceiling, *rooms)
+    asked = _line("cancel", case.modulus, case.first, case.second, case.skeleton, case.points, ceiling, *rooms)
     numerator_room, denominator_room, work_room = rooms
     outputs = (answer.numerator, numerator_room), (answer.denominator, denominator_room)
     told = _line(*answer.numbers(), *_rooms(answer.record.number, work_room, *outputs))
-    return Call(label, asked, told, tuple(_key_kinds(case, answer, rooms)))
+    kinds = [*_key_kinds(case, answer, rooms), *ceilings.kinds("key", ceiling, answer.record, unhindered or candidate(case))]
+    return Call(label, asked, told, tuple(kinds))
 
 
 def _key_kinds(case, answer, rooms):
     """What a call of the key meets."""
     number = answer.record.number
     if number:
-        yield KEY_REFUSED[number - 1]
+        yield KEY_REFUSED[number]
     if number == 10:
         yield KEY_SHORT[tuple(room < QUOTIENT_TERMS for room in rooms[:2])]
     if number == 0:
@@ -200,8 +220,8 @@ def run_only():
     }
     for label, case in changed.items():
         yield candidate_call(label, case)
-    for output_room, work_room in ((1, 8191), (1, 8192), (2, 8191), (2, 8192)):
-        yield candidate_call(f"output {output_room}, work {work_room}", p1, output_room, work_room)
+    for rooms in ((1, 8191), (1, 8192), (2, 8191), (2, 8192)):
+        yield candidate_call("output {}, work {}".format(*rooms), p1, rooms=rooms)
     by_x_plus_1 = replace(p1, second=[X_POWER + 1, 1])
     yield quotient_call("quotient, output 4095", by_x_plus_1, output_room=4095)
     yield quotient_call("quotient, work 8191", by_x_plus_1, work_room=8191)
@@ -209,6 +229,7 @@ def run_only():
     yield quotient_call("x^2-1 by x^2+2x+1", p1)
     yield quotient_call("F by E", replace(p1, first=bench.case("p9").first, second=term_list(bench.E)))
     yield from cancelled()
+    yield from hindered()
     yield from imaged()
     yield from calculated()
     yield list_call("leading part of F", bench.case("p9").first)
@@ -220,12 +241,11 @@ def run_only():
 
 def cancelled():
     """The Cancel key: what it strikes out, each of its refusals, and its rooms at their limits."""
-    notch, no_good_point, one_value = bench.case("filter"), bench.case("p2"), bench.case("zero_value")
-    only_second_divided = replace(one_value, skeleton=[2 * X, X, ONE], points=[0, 0, 0])
+    notch, no_good_point, alone = bench.case("filter"), bench.case("p2"), divided_alone()
     changed = {
         **{name: bench.case(name) for name in ("filter", "p1", "p2", "p3", "p4", "p5", "p6", "p7", "p8", "p10", "p12")},
         "filter upside down": notch.swapped(), "many terms": many_terms(), "many terms upside down": many_terms().swapped(),
-        "G divides the denominator alone": only_second_divided, "G divides the numerator alone": only_second_divided.swapped(),
+        "G divides the denominator alone": alone["x^2+3x+2 divides B alone"], "G divides the numerator alone": alone["x^2+3x+2 divides A alone"],
         "modulus 15": replace(notch, modulus=15), "no numerator": replace(notch, first=[]), "no denominator": replace(notch, second=[]),
         "numerator coefficient 0": replace(notch, first=[X_POWER + 1, 0]), "denominator keys equal": replace(notch, second=[1, 1]),
         "33 keys": replace(notch, skeleton=falling(33)), "key 4096": replace(notch, skeleton=[4096]),
@@ -235,16 +255,41 @@ def cancelled():
         yield cancel_call(f"cancel, {label}", case)
     for rooms in ((4095, 4096, 8192), (4096, 4095, 8192), (4095, 4095, 8192), (4095, 4096, 8191), (4096, 4096, 8191), (0, 4096, 8192),
                   (4096, 0, 8192), (4096, 4096, 0), (4097, 4096, 8192), (4096, 4097, 8192), (4096, 4096, 8193)):
-        yield cancel_call("cancel, rooms {} {} {}".format(*rooms), notch, rooms)
-    yield cancel_call("cancel, point number 65521, short output", changed["point number 65521"], (4095, 4095, 8192))
-    yield cancel_call("cancel, no good point, short output", no_good_point, (4096, 4095, 8192))
-    yield cancel_call("cancel, no good point, short work room", no_good_point, (4096, 4096, 8191))
+        yield cancel_call("cancel, rooms {} {} {}".format(*rooms), notch, rooms=rooms)
+    yield cancel_call("cancel, point number 65521, short output", changed["point number 65521"], rooms=(4095, 4095, 8192))
+    yield cancel_call("cancel, no good point, short output", no_good_point, rooms=(4096, 4095, 8192))
+    yield cancel_call("cancel, no good point, short work room", no_good_point, rooms=(4096, 4096, 8191))
 
 
 def many_terms():
     """128 monomials without x, times x^7 - 1 over 3x - 3: the numerator without x - 1 has 896 terms."""
     numerator = [7 * X_POWER + k * COEFFICIENTS + 1 for k in reversed(range(128))] + [k * COEFFICIENTS + 16 for k in reversed(range(128))]
     return case_file.Case(17, numerator, [X_POWER + 3, 14], [X, ONE], [1, 0, 0])
+
+
+def hindered():
+    """Cases under ceilings around their steps: the candidate both ways, and the key. A short room is refused before a ceiling is met."""
+    for name, case in hindered_cases().items():
+        unhindered = candidate(case)
+        for ceiling in ceilings.around(unhindered):
+            yield from candidate_both_ways(f"{name}, ceiling {ceiling}", case, unhindered, ceiling, CANDIDATE_ROOMS)
+            yield cancel_call(f"cancel, {name}, ceiling {ceiling}", case, ceiling, unhindered=unhindered)
+    yield candidate_call("ceiling 0, work 8191", bench.case("p1"), 0, (2, 8191))
+    yield cancel_call("cancel, ceiling 0, rooms 4096 4095 8192", bench.case("p1"), 0, (4096, 4095, 8192))
+
+
+def hindered_cases():
+    """The bench examples, and those where one list alone is divided."""
+    return {example.name: example.case for example in bench.EXAMPLES} | divided_alone()
+
+
+def divided_alone():
+    """x + 1 divides (x+1)(x+2), and (x+1)(x+3) + y at y = 0 alone. There y(x+1) is 0, and (x+1)(x+2) divides itself."""
+    near = term_list({2 * X: 1, X: 4, Y: 1, ONE: 3})
+    first = case_file.Case(17, term_list(bench.TEACHER_SECOND), near, [X, ONE], [0, 0, 0])
+    second = replace(bench.case("zero_value"), skeleton=[2 * X, X, ONE], points=[0, 0, 0])
+    return {"x+1 divides A alone": first, "x+1 divides B alone": first.swapped(),
+            "x^2+3x+2 divides B alone": second, "x^2+3x+2 divides A alone": second.swapped()}
 
 
 def imaged():
@@ -316,7 +361,8 @@ def written():
     yield write_call("write, 33 keys, no buffer", changed["33 keys"], 0)
 
 
-# Seeded calls: a case of the families of files, lent with any lengths. A maker gives one call, or a call and its swap.
+# Seeded calls: a case of the families of files, lent with any lengths. A maker gives one call, or a call and its swap; of the candidate and the key,
+# where they divide, these under several ceilings.
 
 def seeded(seed, count):
     for index in range(count):
@@ -359,7 +405,9 @@ def _seeded_candidate(rng):
     name, case = _case(rng)
     needed = len(case.skeleton)
     rooms = rng.choice((needed, 40, needed, max(needed - 1, 0))), _work(rng)
-    yield from _both_ways(candidate_call(name, case, *rooms), _candidate_line, case, *rooms)
+    unhindered = candidate(case)
+    for ceiling in ceilings.some(rng, candidate(case, MOST_STEPS, *rooms)):
+        yield from candidate_both_ways(f"{name}, ceiling {ceiling}", case, unhindered, ceiling, rooms)
 
 
 def _seeded_cancel(rng):
@@ -368,7 +416,10 @@ def _seeded_cancel(rng):
     rooms = [needed + rng.choice((0, rng.randint(1, 100))) for needed in KEY_ROOMS]
     for place in rng.sample(range(len(rooms)), rng.choice((0, 0, 0, 0, 1, 2))):
         rooms[place] = rng.choice((KEY_ROOMS[place] - 1, rng.randrange(KEY_ROOMS[place])))
-    yield cancel_call(f"cancel, {name}", rng.choice((case, case.swapped())), rooms)
+    case = rng.choice((case, case.swapped()))
+    unhindered = candidate(case)
+    for ceiling in ceilings.some(rng, cancel(case, MOST_STEPS, *rooms).record):
+        yield cancel_call(f"cancel, {name}, ceiling {ceiling}", case, ceiling, rooms, unhindered)
 
 
 def _seeded_quotient(rng):

@@ -10,10 +10,10 @@ from dataclasses import dataclass, field
 
 import case_file
 from polynomials import (
-    POWERS, exponents, image, monic, monomials_at, multiply, polynomial, quotient, term_list,
+    POWERS, division, exponents, image, monic, monomials_at, multiply, polynomial, quotient, term_list,
 )
 from refusals import (
-    ACCEPTED, COEFFICIENTS, MOST_SKELETON_KEYS, NO_LIST, QUOTIENT_TERMS, WORK_NUMBERS, Refusal,
+    ACCEPTED, COEFFICIENTS, MOST_SKELETON_KEYS, MOST_STEPS, NO_LIST, QUOTIENT_TERMS, WORK_NUMBERS, Refusal,
     check_modulus_and_lists, check_point_numbers, check_rooms, check_skeleton,
 )
 
@@ -22,7 +22,8 @@ FRACTION_BAR = "-----\n"
 
 @dataclass
 class Record:
-    """The candidate's answer; `at_fault` is the list, and `terms` holds the terms themselves."""
+    """The candidate's answer; `at_fault` is the list, `terms` holds the terms themselves, and `steps` has a number for
+    each trial division that was begun, A's first: the record's own number is their sum."""
 
     number: int
     at_fault: int = NO_LIST
@@ -32,9 +33,14 @@ class Record:
     unlucky: int = 0
     kept: int = 0
     terms: list = field(default_factory=list)
+    steps: list = field(default_factory=list)
 
     def head(self):
         return self.number, self.at_fault, self.place, self.d, self.bad, self.unlucky, self.kept
+
+    def numbers(self):
+        """The whole record."""
+        return *self.head(), len(self.terms), sum(self.steps)
 
 
 @dataclass
@@ -47,17 +53,20 @@ class Cancelled:
 
     def numbers(self):
         """The key's own record: both counts of terms in place of one."""
-        return *self.record.head(), len(self.numerator), len(self.denominator)
+        return *self.record.head(), len(self.numerator), len(self.denominator), sum(self.record.steps)
 
 
-def candidate(case, output_room=MOST_SKELETON_KEYS, work_room=WORK_NUMBERS):
+def candidate(case, ceiling=MOST_STEPS, output_room=MOST_SKELETON_KEYS, work_room=WORK_NUMBERS):
     """The candidate's record for a case whose values are not yet tested."""
     try:
         _check_inputs(case)
         check_rooms(output_room, len(case.skeleton), work_room)
     except Refusal as refusal:
         return Record(*refusal.numbers())
-    return _candidate_by_rule(case)
+    record, divisor = _by_rule(case, ceiling)
+    if record.number == 0:
+        record.terms = term_list(divisor)
+    return record
 
 
 def _check_inputs(case):
@@ -67,15 +76,13 @@ def _check_inputs(case):
     check_point_numbers(case.points, case.modulus)
 
 
-def _candidate_by_rule(case):
+def _by_rule(case, ceiling):
+    """The record without its terms, and the divisor that was tried; or 12 to 14 and None."""
     record, divisor = _by_equations(case)
-    if divisor is None:
-        return record
-    if divides_both(divisor, polynomial(case.first), polynomial(case.second), case.modulus):
-        record.terms = term_list(divisor)
-    else:
-        record.number = 15
-    return record
+    if divisor is not None:
+        dividends = polynomial(case.first), polynomial(case.second)
+        record.number, record.steps = trial(divisor, dividends, case.modulus, ceiling)
+    return record, divisor
 
 
 def _by_equations(case):
@@ -99,14 +106,14 @@ def _by_equations(case):
     return record, monic({k: c for k, c in zip(case.skeleton, solution) if c}, p)
 
 
-def cancel(case, numerator_room=QUOTIENT_TERMS, denominator_room=QUOTIENT_TERMS, work_room=WORK_NUMBERS):
+def cancel(case, ceiling=MOST_STEPS, numerator_room=QUOTIENT_TERMS, denominator_room=QUOTIENT_TERMS, work_room=WORK_NUMBERS):
     """The Cancel key's answer for a case: its first list is the numerator, its second the denominator."""
     try:
         _check_inputs(case)
         check_rooms(least_output(numerator_room, denominator_room), QUOTIENT_TERMS, work_room)
     except Refusal as refusal:
         return Cancelled(Record(*refusal.numbers()))
-    record, divisor = _by_equations(case)
+    record, divisor = _by_rule(case, ceiling)
     if divisor is None:
         return Cancelled(record)
     quotients = [quotient(polynomial(terms), divisor, case.modulus) for terms in (case.first, case.second)]
@@ -119,9 +126,10 @@ def least_output(numerator_room, denominator_room):
 
 
 def handed_out(record, numerator, denominator, p):
-    """Both quotients by the divisor, scaled; or 15 where the divisor does not divide one of the two."""
-    if numerator is None or denominator is None:
+    """Both quotients by the divisor, scaled, where the trial accepts it; what does not divide is not handed out."""
+    if record.number == 0 and (numerator is None or denominator is None):
         record.number = 15
+    if record.number:
         return Cancelled(record)
     return Cancelled(record, *map(term_list, scaled(numerator, denominator, p)))
 
@@ -192,9 +200,20 @@ def _back_substituted(pivots, unknowns, p):
     return solution
 
 
-def divides_both(divisor, first, second, p):
-    return (quotient(first, divisor, p) is not None
-            and quotient(second, divisor, p) is not None)
+def trial(divisor, dividends, p, ceiling):
+    """Trial division of each in turn, under one ceiling on the steps of all: 0, 15 or 18, and the steps of each
+    division that was begun. A step is a term of a quotient."""
+    steps = []
+    try:
+        for dividend in dividends:
+            steps.append(0)
+            for _ in division(dividend, divisor, p):
+                if sum(steps) == ceiling:
+                    raise Refusal(18)
+                steps[-1] += 1
+    except Refusal as refusal:
+        return refusal.number, steps
+    return 0, steps
 
 
 def quotient_terms(case, output_room=QUOTIENT_TERMS, work_room=WORK_NUMBERS):

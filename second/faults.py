@@ -1,6 +1,6 @@
 """Deliberate faults of the second program, to see that a comparison reports them.
 
-Those of the Cancel key and of short rooms, which no program reaches, are reported with `--calls`.
+Those of the Cancel key, of short rooms and of the steps, which no program shows, are reported with `--calls`.
 """
 
 import candidate
@@ -10,6 +10,7 @@ from refusals import SKELETON, Refusal
 true_equations = candidate.equations
 true_image = candidate.image
 true_handed_out = candidate.handed_out
+true_trial = candidate.trial
 true_check_point_numbers = candidate.check_point_numbers
 true_check_rooms = candidate.check_rooms
 
@@ -25,21 +26,53 @@ def multipliers_one(skeleton, kept, p):
     return rows
 
 
-def divides_only_first(divisor, first, _second, p):
-    return candidate.quotient(first, divisor, p) is not None
+def divides_only_first(divisor, dividends, p, ceiling):
+    return true_trial(divisor, dividends[:1], p, ceiling)
 
 
 def unlucky_kept(good, _d):
     return good
 
 
-def divides_as_values(divisor, first, second, p):
+def divides_as_values(divisor, dividends, p, _ceiling):
     """Division is tested at one point only."""
     point = (2, 3, 5)
     values = at_point(divisor, point, p)
-    return bool(values) and all(
+    divides = bool(values) and all(
         len(monic_gcd(values, at_point(poly, point, p), p)) == len(values)
-        for poly in (first, second))
+        for poly in dividends)
+    return 0 if divides else 15, []
+
+
+def steps_looks_counted(divisor, dividends, p, ceiling):
+    """The look that ends in "does not divide" is a step too, which the ceiling has to allow."""
+    number, steps = true_trial(divisor, dividends, p, ceiling)
+    if number == 15 and sum(steps) == ceiling:
+        return 18, steps
+    return number, [*steps[:-1], steps[-1] + 1] if number == 15 else steps
+
+
+def steps_ceiling_each(divisor, dividends, p, ceiling):
+    """Each of the two divisions may take as many steps as the ceiling."""
+    steps = []
+    for dividend in dividends:
+        number, taken = true_trial(divisor, [dividend], p, ceiling)
+        steps += taken
+        if number:
+            return number, steps
+    return 0, steps
+
+
+def steps_15_for_18(divisor, dividends, p, ceiling):
+    """What is not divided within the ceiling is said not to be divided."""
+    number, steps = true_trial(divisor, dividends, p, ceiling)
+    return 15 if number == 18 else number, steps
+
+
+def steps_of_first_forgotten(divisor, dividends, p, ceiling):
+    """Where B is refused, the steps of B alone are in the record."""
+    number, steps = true_trial(divisor, dividends, p, ceiling)
+    return number, steps[-1:] if number else steps
 
 
 def bad_by_first(first, second, point, p):
@@ -95,9 +128,9 @@ def list_without_rooms(*rooms):
 
 FAULTS = {
     "multipliers-one": ("equations", multipliers_one),
-    "divides-only-first": ("divides_both", divides_only_first),
+    "divides-only-first": ("trial", divides_only_first),
     "unlucky-kept": ("kept_images", unlucky_kept),
-    "divides-as-values": ("divides_both", divides_as_values),
+    "divides-as-values": ("trial", divides_as_values),
     "bad-by-first": ("image", bad_by_first),
     "key-numerator-unscaled": ("scaled", key_numerator_unscaled),
     "key-not-monic": ("scaled", key_not_monic),
@@ -106,6 +139,10 @@ FAULTS = {
     "key-written-with-15": ("handed_out", key_written_with_15),
     "list-of-points": ("check_point_numbers", list_of_points),
     "list-without-rooms": ("check_rooms", list_without_rooms),
+    "steps-looks-counted": ("trial", steps_looks_counted),
+    "steps-ceiling-each": ("trial", steps_ceiling_each),
+    "steps-15-for-18": ("trial", steps_15_for_18),
+    "steps-of-first-forgotten": ("trial", steps_of_first_forgotten),
 }
 
 

@@ -6,7 +6,7 @@ A polynomial in x alone is a list of coefficients, x^0 first, without leading ze
 
 from functools import cache
 
-from refusals import COEFFICIENTS
+from refusals import COEFFICIENTS, Refusal
 
 POWERS = 8
 
@@ -75,24 +75,30 @@ def monic(poly, p):
     return {monomial: coefficient * inverse % p for monomial, coefficient in poly.items()}
 
 
-def quotient(dividend, divisor, p):
-    """The polynomial Q with dividend = divisor * Q, or None where there is none."""
+def division(dividend, divisor, p):
+    """Division by leading terms: each term of the quotient, key and coefficient, when it is due and before it is
+    taken off the remainder. A Refusal with 15 at the first look that finds none."""
     leading = max(divisor)
     inverse = pow(divisor[leading], -1, p)
     tops = tuple(map(int.__sub__, greatest_exponents(dividend), greatest_exponents(divisor)))
     remainder = dict(dividend)
-    result = {}
     while remainder:
         head = max(remainder)
-        steps = map(int.__sub__, exponents(head), exponents(leading))
-        if not all(0 <= step <= top for step, top in zip(steps, tops)):
-            return None
-        shift = head - leading
+        shifts = map(int.__sub__, exponents(head), exponents(leading))
+        if not all(0 <= shift <= top for shift, top in zip(shifts, tops)):
+            raise Refusal(15)
         factor = remainder[head] * inverse % p
-        result[shift] = factor
+        yield head - leading, factor
         for monomial, coefficient in divisor.items():
-            _add_term(remainder, monomial + shift, -factor * coefficient, p)
-    return result
+            _add_term(remainder, monomial + head - leading, -factor * coefficient, p)
+
+
+def quotient(dividend, divisor, p):
+    """The polynomial Q with dividend = divisor * Q, or None where there is none."""
+    try:
+        return dict(division(dividend, divisor, p))
+    except Refusal:
+        return None
 
 
 def monomials_at(monomials, point, p):

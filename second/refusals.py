@@ -7,6 +7,7 @@ MOST_SKELETON_KEYS = 32
 MOST_POINT_NUMBERS = 96
 WORK_NUMBERS = 8192
 QUOTIENT_TERMS = 4096
+MOST_STEPS = 8192  # two divisions never take more
 COEFFICIENTS = 65536
 
 # The list at fault, as a record names it.

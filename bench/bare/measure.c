@@ -19,16 +19,19 @@ static uint16_t coefficients[8];
 static uint8_t buffer[BUFFER], library_buffer[BUFFER];
 static uint32_t found[MOST_KEYS];
 static length found_terms;
-static length record[9];
+static length record[10];
+static length ceiling = MOST_STEPS;
 static const workload *now;
 
-#define CANDIDATE(f) f(now->modulus, now->first, now->first_terms, now->second, now->second_terms, now->skeleton, now->keys, now->points, now->numbers, out, now->keys, work, WORK_ROOM, record)
+#define CANDIDATE(f) f(now->modulus, now->first, now->first_terms, now->second, now->second_terms, now->skeleton, now->keys, \
+                       now->points, now->numbers, ceiling, out, now->keys, work, WORK_ROOM, record)
 #define QUOTIENT(f) f(now->modulus, now->dividend, now->dividend_terms, now->divisor, now->divisor_terms, out, KEYS, work, WORK_ROOM, record)
 #define IMAGE(f) f(now->modulus, now->first, now->first_terms, now->second, now->second_terms, now->at, now->at_numbers, coefficients, record)
 #define WRITE(f) f(now->modulus, now->first, now->first_terms, now->second, now->second_terms, now->skeleton, now->keys, now->points, now->numbers, buffer, BUFFER, record)
 /* A part is two numbers without a fault; they stand behind the number, which stays 0. */
 #define SHORTER(f) f(now->first, now->first_terms, now->second, now->second_terms, record + 1)
-#define CANCEL(f) f(now->modulus, now->first, now->first_terms, now->second, now->second_terms, now->skeleton, now->keys, now->points, now->numbers, out, KEYS, denominator_out, KEYS, work, WORK_ROOM, record)
+#define CANCEL(f) f(now->modulus, now->first, now->first_terms, now->second, now->second_terms, now->skeleton, now->keys, \
+                    now->points, now->numbers, ceiling, out, KEYS, denominator_out, KEYS, work, WORK_ROOM, record)
 
 static void library_candidate(void) { CANDIDATE(balungkiro_candidate); }
 static void twin_of_candidate(void) { CANDIDATE(twin_candidate); }
@@ -94,7 +97,7 @@ __attribute__((noinline)) static cost measured(void (*call)(void)) {
 /* The bytes that a call is lent beside the stack: both lists, skeleton, points, outputs, work room and record. Of the buffer only
    the file's bytes: how many they are is in the record of the call just made. */
 static uint32_t candidate_room(void) {
-    return (uint32_t)(4 * (now->first_terms + now->second_terms + now->keys) + 2 * (now->keys + now->numbers) + sizeof work + 8 * sizeof record[0]);
+    return (uint32_t)(4 * (now->first_terms + now->second_terms + now->keys) + 2 * (now->keys + now->numbers) + sizeof work + 9 * sizeof record[0]);
 }
 static uint32_t quotient_room(void) { return (uint32_t)(4 * (now->dividend_terms + now->divisor_terms) + sizeof out + sizeof work + 4 * sizeof record[0]); }
 static uint32_t image_room(void) { return (uint32_t)(4 * (now->first_terms + now->second_terms) + 6 + sizeof coefficients + 4 * sizeof record[0]); }
@@ -106,24 +109,25 @@ static uint32_t cancel_room(void) {
     return (uint32_t)(4 * (now->first_terms + now->second_terms) + 2 * (now->keys + now->numbers) + sizeof out + sizeof denominator_out + sizeof work + sizeof record);
 }
 
-typedef struct { const char *name; void (*library)(void), (*twin)(void); uint32_t (*room)(void); } service;
+/* Where the record has the steps, 0 where it has none. */
+typedef struct { const char *name; void (*library)(void), (*twin)(void); uint32_t (*room)(void); size_t steps; } service;
 
 static const service services[] = {
-    {"candidate", library_candidate, twin_of_candidate, candidate_room},
-    {"quotient", library_quotient, twin_of_quotient, quotient_room},
-    {"image", library_image, twin_of_image, image_room},
-    {"write", library_write, twin_of_write, write_room},
-    {"shorter", library_shorter, twin_of_shorter, shorter_room},
-    {"cancel", library_cancel, twin_of_cancel, cancel_room},
+    {"candidate", library_candidate, twin_of_candidate, candidate_room, 8},
+    {"quotient", library_quotient, twin_of_quotient, quotient_room, 0},
+    {"image", library_image, twin_of_image, image_room, 0},
+    {"write", library_write, twin_of_write, write_room, 0},
+    {"shorter", library_shorter, twin_of_shorter, shorter_room, 0},
+    {"cancel", library_cancel, twin_of_cancel, cancel_room, 9},
 };
 
-/* The number that a call has to give: the workload's for the candidate and the key, no other refuses. */
-static length number_of(const service *s) { return s->library == library_candidate || s->library == library_cancel ? now->number : 0; }
+/* The number that a call has to give: the workload's where there are steps, of the candidate and the key; no other refuses. */
+static length number_of(const service *s) { return s->steps ? now->number : 0; }
 
 /* What a call leaves behind, as one number: the record, both outputs, the coefficients and the work room. */
 static uint32_t left_behind(void) {
     uint32_t sum = 0;
-    for (size_t i = 0; i < 9; i++)
+    for (size_t i = 0; i < sizeof record / sizeof record[0]; i++)
         sum = sum * 31 + (uint32_t)record[i];
     for (size_t i = 0; i < KEYS; i++)
         sum = (sum * 31 + out[i]) * 31 + denominator_out[i];
@@ -135,7 +139,7 @@ static uint32_t left_behind(void) {
 }
 
 static void forget(void) {
-    for (size_t i = 0; i < 9; i++)
+    for (size_t i = 0; i < sizeof record / sizeof record[0]; i++)
         record[i] = 0;
     for (size_t i = 0; i < KEYS; i++)
         out[i] = denominator_out[i] = 0;
@@ -158,27 +162,54 @@ static bool same_buffer(void) {
     return true;
 }
 
-static void report(const service *s) {
+typedef struct { cost library, twin; } costs;
+
+/* Both are measured, and have to leave the same behind. */
+static costs compared(const service *s) {
     forget();
     cost library = measured(s->library);
-    if (record[0] != number_of(s))
-        fail(": another number\n");
     uint32_t left = left_behind();
     keep_buffer();
     forget();
     cost twin = measured(s->twin);
     if (left != left_behind() || !same_buffer())
         fail(": the twin's answer is not the module's\n");
-    uint32_t microseconds = (uint32_t)((uint64_t)library.instructions * 10 / 960);
+    return (costs){library, twin};
+}
+
+/* At 96 MHz, with a cycle for an instruction. */
+static void print_seconds(uint32_t instructions) {
+    uint32_t microseconds = (uint32_t)((uint64_t)instructions * 10 / 960);
+    print("0.");
+    for (uint32_t unit = 100000; unit > 0; unit /= 10)
+        print_number(microseconds / unit % 10, 1);
+}
+
+static void print_ratio(uint32_t part, uint32_t whole) {
+    uint32_t ratio = (part * 100 + whole / 2) / whole;
+    print_number(ratio / 100, 0);
+    print(".");
+    print_number(ratio / 10 % 10, 0);
+    print_number(ratio % 10, 0);
+}
+
+static void print_call(const service *s) {
     print("| ");
     print_padded(now->name, 9);
     print(" | ");
     print_padded(s->name, 9);
     print(" | ");
+}
+
+static void report(const service *s) {
+    costs both = compared(s);
+    cost library = both.library, twin = both.twin;
+    if (record[0] != number_of(s))
+        fail(": another number\n");
+    print_call(s);
     print_number(library.instructions, 12);
-    print(" | 0.");
-    for (uint32_t unit = 100000; unit > 0; unit /= 10)
-        print_number(microseconds / unit % 10, 1);
+    print(" | ");
+    print_seconds(library.instructions);
     print(" | ");
     print_number(library.stack, 10);
     print(" | ");
@@ -210,7 +241,7 @@ static uint32_t parts_cost(length numerator_terms, length denominator_terms) {
 static void report_key(void) {
     forget();
     cost key = measured(library_cancel);
-    uint32_t parts = parts_cost(record[7], record[8]), ratio = (key.instructions * 100 + parts / 2) / parts;
+    uint32_t parts = parts_cost(record[7], record[8]);
     print("| ");
     print_padded(now->name, 9);
     print(" | ");
@@ -218,11 +249,44 @@ static void report_key(void) {
     print(" | ");
     print_number(parts, 27);
     print(" | ");
-    print_number(ratio / 100, 0);
-    print(".");
-    print_number(ratio / 10 % 10, 0);
-    print_number(ratio % 10, 0);
+    print_ratio(key.instructions, parts);
     print("  |\n");
+}
+
+/* The ceilings that are tried, the first of which is never reached. */
+static const length ceilings[] = {MOST_STEPS, 64, 16, 0};
+
+/* Whether the call takes more steps than each ceiling but the first. */
+static bool divides_long(const service *s) {
+    s->library();
+    return record[s->steps] > ceilings[1];
+}
+
+/* A call under each ceiling: its number, its steps, and what it takes of the instructions of the one that is not cut short. */
+static void report_ceilings(const service *s) {
+    uint32_t whole = 0;
+    for (size_t c = 0; c < sizeof ceilings / sizeof ceilings[0]; c++) {
+        ceiling = ceilings[c];
+        uint32_t instructions = compared(s).library.instructions;
+        if (c == 0)
+            whole = instructions;
+        if (record[0] != (c == 0 ? now->number : 18) || (c > 0 && record[s->steps] != ceiling))
+            fail(": another answer under a ceiling\n");
+        print_call(s);
+        print_number((uint32_t)ceiling, 7);
+        print(" | ");
+        print_number((uint32_t)record[0], 6);
+        print(" | ");
+        print_number((uint32_t)record[s->steps], 5);
+        print(" | ");
+        print_number(instructions, 12);
+        print(" | ");
+        print_seconds(instructions);
+        print(" | ");
+        print_ratio(instructions, whole);
+        print("  |\n");
+    }
+    ceiling = MOST_STEPS;
 }
 
 int main(void) {
@@ -239,6 +303,12 @@ int main(void) {
     for (now = workloads; now < workloads + WORKLOADS; now++)
         if (now->number == 0)
             report_key();
+    print("\n| Workload  | Call      | Ceiling | Number | Steps | Instructions | Seconds  | Ratio |\n");
+    print("|-----------|-----------|---------|--------|-------|--------------|----------|-------|\n");
+    for (now = workloads; now < workloads + WORKLOADS; now++)
+        for (size_t s = 0; s < sizeof services / sizeof services[0]; s++)
+            if (services[s].steps && divides_long(&services[s]))
+                report_ceilings(&services[s]);
     print("\nThe library's code: ");
     print_number((uint32_t)(library_end - library_start), 0);
     print(" bytes.\n");

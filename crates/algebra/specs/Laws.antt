@@ -14,6 +14,7 @@ pub mod MonicGreatest
 pub mod Four
 pub mod Monomial
 pub mod Lead
+pub mod Falls
 pub mod Maps
 pub mod Finite
 pub mod Front

@@ -5,6 +5,7 @@ ghost use Rattle.divisor.specs.declared.CandidateRecord.{CandidateRecord};
 ghost use Rattle.divisor.specs.Candidate.{candidate-call, candidate-result, Candidate};
 use crate::lists::MODULUS;
 use console::print;
+use divisor::MOST_STEPS;
 use field::Answer;
 use field::KeyBits;
 use field::Residue;
@@ -27,7 +28,7 @@ fn print_found(label: &[u8], numbers: &[usize], terms: &[Term]) {
     print::terms(terms);
 }
 
-// The candidate in rooms that are long enough.
+// The candidate with the programs' ceiling.
 pub(crate) fn candidate(
     label: &[u8],
     p: Residue,
@@ -35,6 +36,19 @@ pub(crate) fn candidate(
     second: &[Term],
     skeleton: &[KeyBits],
     points: &[Residue],
+) {
+    candidate_under(label, p, first, second, skeleton, points, MOST_STEPS);
+}
+
+// The candidate in rooms that are long enough.
+pub(crate) fn candidate_under(
+    label: &[u8],
+    p: Residue,
+    first: &[Term],
+    second: &[Term],
+    skeleton: &[KeyBits],
+    points: &[Residue],
+    ceiling: usize,
 ) {
     let mut out = [0; SKELETON];
     let mut work = [0; WORK_ROOM];
@@ -45,6 +59,7 @@ pub(crate) fn candidate(
         second,
         skeleton,
         points,
+        ceiling,
         &mut out,
         &mut work,
     );
@@ -58,14 +73,15 @@ pub(crate) fn candidate_in(
     second: &[Term],
     skeleton: &[KeyBits],
     points: &[Residue],
+    ceiling: usize,
     out: &mut [Term],
     work: &mut [Residue],
 )
     ensures { λ _. ⌜ ((found : CandidateRecord) × Candidate (candidate-call p (now (first .entry)) (now (second .entry)) (now (skeleton .entry))
-        (now (points .entry)) (now (out .entry)) (now (work .entry)))
+        (now (points .entry)) ceiling (now (out .entry)) (now (work .entry)))
         (candidate-result found (now (out .exit)) (now (work .exit)))) ⌝ }
 {
-    let found = divisor::candidate(p, first, second, skeleton, points, out, work);
+    let found = divisor::candidate(p, first, second, skeleton, points, ceiling, out, work);
     let number = found.fault.number as usize;
     let list = found.fault.list as usize;
     let terms = found.terms;
@@ -78,6 +94,7 @@ pub(crate) fn candidate_in(
         found.unlucky,
         found.kept,
         terms,
+        found.steps,
     ];
     print_found(label, &numbers, &out[..terms]);
 }

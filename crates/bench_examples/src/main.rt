@@ -12,6 +12,7 @@ fn main() {
     run_only::lists();
     run_only::swapped();
     run_only::skeletons_and_points();
+    run_only::ceilings();
     run_only::rooms();
     run_only::quotients();
     run_only::images();

@@ -1,13 +1,22 @@
 // The lines that are run only, also those that no case file can bring about: P1 with one input changed.
 ghost use mathlib.Core.List.{[], _∷_};
 ghost use Rattle.divisor.specs.declared.CandidateRecord.{CandidateRecord};
-ghost use Rattle.divisor.specs.Candidate.{candidate-call, candidate-result, Candidate};
+ghost use Rattle.divisor.specs.Candidate.{candidate-call, most-steps, candidate-result, Candidate};
 use crate::ask;
 use crate::lists;
+use crate::lists::F;
+use crate::lists::H;
 use crate::lists::MODULUS;
+use crate::lists::ONLY_X;
 use crate::lists::P1_FIRST;
 use crate::lists::P1_SECOND;
+use crate::lists::P4_FIRST;
+use crate::lists::P4_SECOND;
+use crate::lists::P11;
 use crate::lists::X_1;
+use crate::lists::X_Y7;
+use crate::lists::X3Y_X3_Y;
+use divisor::MOST_STEPS;
 use field::KeyBits;
 use field::Residue;
 use field::Term;
@@ -27,7 +36,7 @@ fn with_points(label: &[u8], points: &[Residue]) {
 // P1 in rooms of the caller's, which are left as the service leaves them.
 fn with_rooms(label: &[u8], out: &mut [Term], work: &mut [Residue])
     ensures { λ _. ⌜ ((found : CandidateRecord) × Candidate (candidate-call 17 (67108865 ∷ 16 ∷ []) (67108865 ∷ 33554434 ∷ 1 ∷ []) (512 ∷ 0 ∷ [])
-        (0 ∷ 0 ∷ 0 ∷ []) (now (out .entry)) (now (work .entry)))
+        (0 ∷ 0 ∷ 0 ∷ []) most-steps (now (out .entry)) (now (work .entry)))
         (candidate-result found (now (out .exit)) (now (work .exit)))) ⌝ }
 {
     let origin = [0, 0, 0];
@@ -38,6 +47,7 @@ fn with_rooms(label: &[u8], out: &mut [Term], work: &mut [Residue])
         &P1_SECOND,
         &X_1,
         &origin,
+        MOST_STEPS,
         out,
         work,
     );
@@ -86,6 +96,35 @@ pub(crate) fn skeletons_and_points() {
     with_points(b"95 point numbers", &[0; 95]);
     with_points(b"96 point numbers", &[0; 96]);
     with_points(b"99 point numbers", &[0; 99]);
+}
+
+// P10, whose divisions take three steps each.
+fn with_ceiling(label: &[u8], ceiling: usize) {
+    ask::candidate_under(
+        label,
+        MODULUS,
+        &F,
+        &H,
+        &X3Y_X3_Y,
+        &[1, 0, 0, 0, 0, 0, 5, 0, 0, 2, 0, 0],
+        ceiling,
+    );
+}
+
+// P10 at its steps and with one less; and P4 and P11, of which the one has a step to take and the other has none, with no step allowed.
+pub(crate) fn ceilings() {
+    with_ceiling(b"P10, ceiling 6", 6);
+    with_ceiling(b"P10, ceiling 5", 5);
+    ask::candidate_under(
+        b"P4, ceiling 0",
+        MODULUS,
+        &P4_FIRST,
+        &P4_SECOND,
+        &ONLY_X,
+        &[0, 0, 0],
+        0,
+    );
+    ask::candidate_under(b"P11, ceiling 0", 7, &P11, &P11, &X_Y7, &[1, 0, 0], 0);
 }
 
 pub(crate) fn rooms() {

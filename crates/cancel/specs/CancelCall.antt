@@ -24,26 +24,28 @@ use Rattle.divisor.specs.Candidate.{Call, candidate-call, of-inputs, AnswerTo, 
 use Rattle.divisor.specs.Demands.{LeadsWith, constant}
 use Rattle.cancel.specs.declared.CancelRecord.{CancelRecord}
 
--- what the key is lent
+-- what the key is lent, and the ceiling on the steps of division
 pub record CancelCall : Type 0 where
   pub modulus : ℕ
   pub numerator : List ℕ
   pub denominator : List ℕ
   pub skeleton : List ℕ
   pub points : List ℕ
+  pub ceiling : ℕ
   pub numerator-output : List ℕ
   pub denominator-output : List ℕ
   pub work : List ℕ
 
 -- a call by its parts
-abbrev pub cancel-call : ℕ → List ℕ → List ℕ → List ℕ → List ℕ → List ℕ → List ℕ → List ℕ → CancelCall
-cancel-call p N D skeleton points numerator-output denominator-output work =
+abbrev pub cancel-call : ℕ → List ℕ → List ℕ → List ℕ → List ℕ → ℕ → List ℕ → List ℕ → List ℕ → CancelCall
+cancel-call p N D skeleton points ceiling numerator-output denominator-output work =
     record {
       modulus = p;
       numerator = N;
       denominator = D;
       skeleton = skeleton;
       points = points;
+      ceiling = ceiling;
       numerator-output = numerator-output;
       denominator-output = denominator-output;
       work = work;
@@ -58,9 +60,9 @@ abbrev pub cancel-table : CancelCall → List Line
 cancel-table c =
     of-inputs (c .modulus) (c .numerator) (c .denominator) (c .skeleton) (c .points) (room-lines (TooShort c) (length (c .work)))
 
--- the candidate's call with the same inputs and the same work room, and an output for G
+-- the candidate's call with the same inputs, the same ceiling and the same work room, and an output for G
 abbrev pub divisor-call : CancelCall → List ℕ → Call
-divisor-call c output = candidate-call (c .modulus) (c .numerator) (c .denominator) (c .skeleton) (c .points) output (c .work)
+divisor-call c output = candidate-call (c .modulus) (c .numerator) (c .denominator) (c .skeleton) (c .points) (c .ceiling) output (c .work)
 
 module _ (c : CancelCall) (listed : Listed (c .modulus)) where
   abbrev pub Numbers : Field
@@ -108,6 +110,7 @@ with-both r numerator denominator =
       kept = r .kept;
       numerator = numerator;
       denominator = denominator;
+      steps = r .steps;
     }
 
 -- the promise of the key

@@ -5,5 +5,6 @@ pub mod Products
 pub mod Lists
 pub mod Determined
 pub mod Theorems
+pub mod Ceiling
 pub mod Reducing
 pub mod Answers

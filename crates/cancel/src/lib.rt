@@ -12,7 +12,7 @@ use poly::rooms::CELLS;
 
 mod scaling;
 
-// The candidate's record, with the counts of the terms of both results in place of one.
+// The candidate's record, with the counts of the terms of both results in place of one. The steps are those of the candidate's divisions.
 pub struct CancelRecord {
     pub fault: Fault,
     pub degree: usize,
@@ -21,6 +21,7 @@ pub struct CancelRecord {
     pub kept: usize,
     pub numerator: usize,
     pub denominator: usize,
+    pub steps: usize,
 }
 
 impl CancelRecord {
@@ -37,6 +38,7 @@ impl CancelRecord {
             kept: found.kept,
             numerator,
             denominator,
+            steps: found.steps,
         }
     }
 }
@@ -79,19 +81,20 @@ fn reduce(
 }
 
 // The numerator and the denominator without their common divisor that the candidate finds, by one constant such that the denominator is monic; or the
-// candidate's refusal. What is struck out divides both: the candidate has divided.
+// candidate's refusal. What is struck out divides both: the candidate has divided, in no more steps than the ceiling.
 pub fn cancel(
     p: Residue,
     numerator: &[Term],
     denominator: &[Term],
     skeleton: &[KeyBits],
     points: &[Residue],
+    ceiling: usize,
     numerator_out: &mut [Term],
     denominator_out: &mut [Term],
     work: &mut [Residue],
 ) -> CancelRecord
     ensures { λ r. ⌜ Cancel (cancel-call p (now (numerator .entry)) (now (denominator .entry)) (now (skeleton .entry)) (now (points .entry))
-        (now («numerator_out» .entry)) (now («denominator_out» .entry)) (now (work .entry)))
+        ceiling (now («numerator_out» .entry)) (now («denominator_out» .entry)) (now (work .entry)))
         (cancel-result r (now («numerator_out» .exit)) (now («denominator_out» .exit)) (now (work .exit))) ⌝ }
 {
     let mut divisor = [0; MOST_KEYS];
@@ -102,6 +105,7 @@ pub fn cancel(
         denominator,
         skeleton,
         points,
+        ceiling,
         &mut divisor[..room],
         work,
     );

@@ -3,11 +3,12 @@ ghost use Rattle.divisor.specs.Candidate.{candidate-result};
 ghost use Rattle.console.specs.CandidateOfFile.{CandidateAnswered};
 use crate::print;
 use divisor::CandidateRecord;
+use divisor::MOST_STEPS;
 use field::Residue;
 use field::Term;
 use poly::rooms::WORK_ROOM;
 
-// Reads the case and asks for its candidate.
+// Reads the case and asks for its candidate, with a ceiling that two divisions never pass.
 pub fn candidate_of(bytes: &[u8], out: &mut [Term], work: &mut [Residue]) -> CandidateRecord
     ensures { λ r. ⌜ CandidateAnswered (now (out .entry)) (now (work .entry)) (now (bytes .entry)) (candidate-result r (now (out .exit)) (now (work .exit))) ⌝ }
 {
@@ -30,6 +31,7 @@ pub fn candidate_of(bytes: &[u8], out: &mut [Term], work: &mut [Residue]) -> Can
         &second[..b],
         &skeleton[..keys],
         &points[..numbers],
+        MOST_STEPS,
         out,
         work,
     )

@@ -14,7 +14,7 @@ use Rattle.field.specs.Modulo.{Modulo}
 use Rattle.field.specs.Numbers.{SKELETON_COUNT, SKELETON_KEY, POINTS_COUNT, POINT_NUMBER}
 use Rattle.field.specs.Refusal.{Line, line, whole, first, Refuses, Passes}
 use Rattle.field.specs.declared.faults.Fault.{Fault}
-use Rattle.poly.specs.Keys.{exponents}
+use Rattle.poly.specs.Keys.{exponents, keys}
 use Rattle.poly.specs.Terms.{Polynomial, terms-of, numbers-of}
 use Rattle.poly.specs.PointValue.{Point}
 use Rattle.poly.specs.Lists.{Count, WrongKey, WrongNumber, of-lists}
@@ -23,20 +23,21 @@ use Rattle.poly.specs.Room.{of-rooms, cleared}
 use Rattle.divisor.specs.declared.CandidateRecord.{CandidateRecord}
 use Rattle.divisor.specs.Rule.{RuleAnswer}
 
--- what is lent
+-- what is lent, and the ceiling on the steps of division
 pub record Call : Type 0 where
   pub modulus : ℕ
   pub first-list : List ℕ
   pub second-list : List ℕ
   pub skeleton : List ℕ
   pub points : List ℕ
+  pub ceiling : ℕ
   pub output : List ℕ
   pub work : List ℕ
 
 -- a call by its parts
-abbrev pub candidate-call : ℕ → List ℕ → List ℕ → List ℕ → List ℕ → List ℕ → List ℕ → Call
-candidate-call p A B skeleton points output work =
-    record { modulus = p; first-list = A; second-list = B; skeleton = skeleton; points = points; output = output; work = work }
+abbrev pub candidate-call : ℕ → List ℕ → List ℕ → List ℕ → List ℕ → ℕ → List ℕ → List ℕ → Call
+candidate-call p A B skeleton points ceiling output work =
+    record { modulus = p; first-list = A; second-list = B; skeleton = skeleton; points = points; ceiling = ceiling; output = output; work = work }
 
 abbrev pub most-keys : ℕ
 most-keys = 32
@@ -46,6 +47,10 @@ most-points = 32
 
 abbrev pub most-point-numbers : ℕ
 most-point-numbers = 3 * most-points
+
+-- 8,192: two divisions never take more steps, each one for each key at most
+abbrev pub most-steps : ℕ
+most-steps = 2 * keys
 
 -- the lines of the skeleton, and of the points
 abbrev pub of-skeleton : List ℕ → List Line
@@ -100,7 +105,7 @@ module _ (c : Call) (listed : Listed (c .modulus)) where
 
   -- what the rule answers to it
   abbrev pub AnswerTo : CandidateRecord → Polynomial Numbers → Type 0
-  AnswerTo = RuleAnswer Numbers A B monomials lent-points
+  AnswerTo = RuleAnswer Numbers A B monomials lent-points (c .ceiling)
 
 -- what is answered, and the output and the work room afterwards
 pub record Result : Type 0 where
@@ -113,7 +118,7 @@ candidate-result found output work = record { found = found; output = output; wo
 
 -- the record of a refusal by the table: zeros beside the fault
 abbrev pub refused-record : Fault → CandidateRecord
-refused-record f = record { fault = f; degree = 0; bad = 0; unlucky = 0; kept = 0; terms = 0 }
+refused-record f = record { fault = f; degree = 0; bad = 0; unlucky = 0; kept = 0; terms = 0; steps = 0 }
 
 -- the promise of the candidate call
 pub data Candidate (c : Call) : Result → Type 0 where

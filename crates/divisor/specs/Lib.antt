@@ -4,6 +4,7 @@ pub mod Candidate
 pub mod Demands
 pub mod Repeated
 pub mod Swapped
+pub mod HigherCeiling
 pub mod equations
 pub mod points
 pub mod sorting
@@ -15,3 +16,4 @@ pub mod answer
 pub mod demand
 pub mod twice
 pub mod swap
+pub mod ceiling

@@ -25,7 +25,7 @@ once-more i j points = take (3 * j) points ++ (point-at points i ++ drop (3 * j)
 -- the second call
 abbrev pub again : Call → ℕ → ℕ → Call
 again c i j =
-    candidate-call (c .modulus) (c .first-list) (c .second-list) (c .skeleton) (once-more i j (c .points)) (c .output) (c .work)
+    candidate-call (c .modulus) (c .first-list) (c .second-list) (c .skeleton) (once-more i j (c .points)) (c .ceiling) (c .output) (c .work)
 
 -- the lines 1 to 7
 abbrev pub lines-before-points : Call → List Line
@@ -34,7 +34,7 @@ lines-before-points c = of-lists (c .modulus) (c .first-list) (c .second-list) +
 -- what is told, with other counts of points
 abbrev pub with-counts : CandidateRecord → ℕ → ℕ → ℕ → CandidateRecord
 with-counts r bad unlucky kept =
-    record { fault = r .fault; degree = r .degree; bad = bad; unlucky = unlucky; kept = kept; terms = r .terms }
+    record { fault = r .fault; degree = r .degree; bad = bad; unlucky = unlucky; kept = kept; terms = r .terms; steps = r .steps }
 
 -- One count is one more, that of the class to which the point belongs; all else is the same. With number 12 every point is bad.
 pub data OneMore (K : Field) (A B : Polynomial K) (at : Point (K .ring)) (r : CandidateRecord) : CandidateRecord → Type 0 where

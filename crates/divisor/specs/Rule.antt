@@ -1,14 +1,16 @@
 -- The rule of the candidate, 3 to 6, over any field. (Rules 1 and 2, bad points and images, stand in the layer below.)
 use mathlib.Core.Path.{_≡_}
+use mathlib.Core.Bool.{Bool, true, false}
 use mathlib.Core.List.{List, [], _∷_, map}
 use lib.ListN.{length}
-use Prim.Native.Nat.{ℕ, suc, _<_}
+use Prim.Native.Nat.{ℕ, suc, _+_, _≤_, _<_}
 use Rattle.algebra.specs.Ring.{CommRing}
 use Rattle.algebra.specs.Field.{Field}
 use Rattle.algebra.specs.Series.{Seq}
 use Rattle.algebra.specs.Four.{Exponents}
 use Rattle.algebra.specs.Monomial.{Term, polynomial}
-use Rattle.field.specs.Numbers.{NO_GOOD_POINT, NO_SOLUTION, SEVERAL_SOLUTIONS, DOES_NOT_DIVIDE}
+use Rattle.algebra.specs.Division.{Division}
+use Rattle.field.specs.Numbers.{NO_GOOD_POINT, NO_SOLUTION, SEVERAL_SOLUTIONS, DOES_NOT_DIVIDE, CEILING_REACHED}
 use Rattle.field.specs.Refusal.{fault}
 use Rattle.poly.specs.Terms.{Polynomial}
 use Rattle.poly.specs.PointValue.{Point, value}
@@ -27,9 +29,9 @@ pub record Counts : Type 0 where
 abbrev pub none-good : ℕ → Counts
 none-good n = record { d = 0; bad = n; unlucky = 0; kept = 0 }
 
--- what the caller is told where the inputs pass: the number, at place 0, what is counted, and the count of terms
-abbrev pub report : ℕ → Counts → ℕ → CandidateRecord
-report number counts terms =
+-- what the caller is told where the inputs pass: the number, at place 0, what is counted, the count of terms, and the steps of division
+abbrev pub report : ℕ → Counts → ℕ → ℕ → CandidateRecord
+report number counts terms steps =
     record {
       fault = fault number 0;
       degree = counts .d;
@@ -37,6 +39,7 @@ report number counts terms =
       unlucky = counts .unlucky;
       kept = counts .kept;
       terms = terms;
+      steps = steps;
     }
 
 module _ (K : Field) where
@@ -114,16 +117,30 @@ module _ (K : Field) where
   abbrev pub DividesBoth : Polynomial K → Polynomial K → Polynomial K → Type 0
   DividesBoth A B G = Divides K (polynomial R G) (polynomial R A) × Divides K (polynomial R G) (polynomial R B)
 
-  -- What the kept points settle: the number, and the polynomial to be handed out.
-  pub data Verdict (A B : Polynomial K) (monomials : List Exponents) (kept : List Kept) : ℕ → Polynomial K → Type 0 where
-    unsolvable : NoSolution monomials kept → Verdict A B monomials kept NO_SOLUTION []
-    several : SeveralSolutions monomials kept → Verdict A B monomials kept SEVERAL_SOLUTIONS []
-    rejected : (s : Unknowns) → OnlySolution monomials kept s → ¬ DividesBoth A B (divisor s) → Verdict A B monomials kept DOES_NOT_DIVIDE []
-    accepted : (s : Unknowns) → OnlySolution monomials kept s → DividesBoth A B (divisor s) → Verdict A B monomials kept 0 (divisor s)
+  -- How many steps it takes to divide A by G and then, if G divides A, B by G: one for each quotient term of the rule of division.
+  pub data Steps (A B G : Polynomial K) : ℕ → Type 0 where
+    of-first : (qs : List (Term R)) → Division R (polynomial R A) (polynomial R G) qs false → Steps A B G (length qs)
+    of-both : (qs rs : List (Term R)) (whole : Bool) → Division R (polynomial R A) (polynomial R G) qs true
+        → Division R (polynomial R B) (polynomial R G) rs whole → Steps A B G (length qs + length rs)
+
+  -- What the divisions by G settle under a ceiling on their steps: the number, the polynomial to be handed out, and the steps that are taken. Where they
+  -- take more than the ceiling, a further quotient term is due when as many steps as the ceiling are taken.
+  pub data Tried (A B G : Polynomial K) (ceiling : ℕ) : ℕ → Polynomial K → ℕ → Type 0 where
+    cut-off : (n : ℕ) → Steps A B G n → ceiling < n → Tried A B G ceiling CEILING_REACHED [] ceiling
+    rejected : (n : ℕ) → Steps A B G n → n ≤ ceiling → ¬ DividesBoth A B G → Tried A B G ceiling DOES_NOT_DIVIDE [] n
+    accepted : (n : ℕ) → Steps A B G n → n ≤ ceiling → DividesBoth A B G → Tried A B G ceiling 0 G n
+
+  -- What the kept points settle: the same, with no step where no division is begun.
+  pub data Verdict (A B : Polynomial K) (monomials : List Exponents) (kept : List Kept) (ceiling : ℕ) : ℕ → Polynomial K → ℕ → Type 0 where
+    unsolvable : NoSolution monomials kept → Verdict A B monomials kept ceiling NO_SOLUTION [] 0
+    several : SeveralSolutions monomials kept → Verdict A B monomials kept ceiling SEVERAL_SOLUTIONS [] 0
+    divided : (s : Unknowns) → OnlySolution monomials kept s → {number steps : ℕ} {G : Polynomial K} → Tried A B (divisor s) ceiling number G steps
+        → Verdict A B monomials kept ceiling number G steps
 
   -- What the rule answers: the record, and the polynomial to be handed out.
-  pub data RuleAnswer (A B : Polynomial K) (monomials : List Exponents) (points : List (Point R)) : CandidateRecord → Polynomial K → Type 0 where
-    all-bad : AllBad A B points → RuleAnswer A B monomials points (report NO_GOOD_POINT (none-good (length points)) 0) []
+  pub data RuleAnswer (A B : Polynomial K) (monomials : List Exponents) (points : List (Point R)) (ceiling : ℕ) : CandidateRecord → Polynomial K → Type 0 where
+    all-bad : AllBad A B points → RuleAnswer A B monomials points ceiling (report NO_GOOD_POINT (none-good (length points)) 0 0) []
     some-good : (d b u : ℕ) (k : Kept) (kept : List Kept) → Sorted A B d points b u (k ∷ kept)
-        → (number : ℕ) (G : Polynomial K) → Verdict A B monomials (k ∷ kept) number G
-        → RuleAnswer A B monomials points (report number (record { d = d; bad = b; unlucky = u; kept = length (k ∷ kept) }) (length G)) G
+        → (number : ℕ) (G : Polynomial K) (steps : ℕ) → Verdict A B monomials (k ∷ kept) ceiling number G steps
+        → RuleAnswer A B monomials points ceiling
+        (report number (record { d = d; bad = b; unlucky = u; kept = length (k ∷ kept) }) (length G) steps) G

@@ -14,6 +14,7 @@ use field::KeyBits;
 use field::Residue;
 use field::Term;
 use poly::POWERS;
+use poly::rooms::CELLS;
 use poly::rooms::WORK_ROOM;
 
 mod checks;
@@ -24,7 +25,10 @@ mod sorting;
 mod table;
 mod verdict;
 
-// Number and place, the least degree of an image, the numbers of bad, unlucky and kept points, and the count of terms.
+// Two divisions never take more steps: each has at most one for each key. A call with this ceiling is never refused for it.
+pub const MOST_STEPS: usize = 2 * CELLS;
+
+// Number, list and place, the least degree of an image, the numbers of bad, unlucky and kept points, the count of terms, and the steps of division taken.
 pub struct CandidateRecord {
     pub fault: Fault,
     pub degree: usize,
@@ -32,6 +36,7 @@ pub struct CandidateRecord {
     pub unlucky: usize,
     pub kept: usize,
     pub terms: usize,
+    pub steps: usize,
 }
 
 impl CandidateRecord {
@@ -46,6 +51,7 @@ impl CandidateRecord {
             unlucky: 0,
             kept: 0,
             terms: 0,
+            steps: 0,
         }
     }
 }
@@ -63,6 +69,7 @@ fn no_good_point(n: usize, work: &mut [Residue]) -> CandidateRecord
         unlucky: 0,
         kept: 0,
         terms: 0,
+        steps: 0,
     }
 }
 
@@ -73,12 +80,13 @@ fn answer(
     second: &[Term],
     skeleton: &[KeyBits],
     points: &[Residue],
+    ceiling: usize,
     out: &mut [Term],
     work: &mut [Residue],
 ) -> CandidateRecord
-    requires { ⌜ Passes (table-of (candidate-call p (now first) (now second) (now skeleton) (now points) (now out) (now work))) ⌝ }
+    requires { ⌜ Passes (table-of (candidate-call p (now first) (now second) (now skeleton) (now points) ceiling (now out) (now work))) ⌝ }
     ensures { λ r. ⌜ Candidate (candidate-call p (now (first .entry)) (now (second .entry)) (now (skeleton .entry)) (now (points .entry))
-        (now (out .entry)) (now (work .entry)))
+        ceiling (now (out .entry)) (now (work .entry)))
         (candidate-result r (now (out .exit)) (now (work .exit))) ⌝ }
 {
     let n = points.len() / COORDINATES;
@@ -93,7 +101,7 @@ fn answer(
     let equations = (POWERS * kept) as Count;
     let columns = (skeleton.len() + kept) as Column;
     let solved = equations::solved(p, skeleton, points, places, work, equations, columns);
-    let verdict = verdict::settle(p, first, second, skeleton, solved, out, work);
+    let verdict = verdict::settle(p, first, second, skeleton, solved, ceiling, out, work);
     CandidateRecord {
         fault: Fault::at(verdict.number, 0),
         degree: least as usize - 1,
@@ -101,26 +109,29 @@ fn answer(
         unlucky: n - bad - kept,
         kept,
         terms: verdict.terms,
+        steps: verdict.steps,
     }
 }
 
 // The common divisor of two lists that the equations of the kept points fix, in proposed monomials; or a refusal. Nothing that is proposed is trusted.
+// Its two trial divisions take no more steps together than the ceiling, which may be any number.
 pub fn candidate(
     p: Residue,
     first: &[Term],
     second: &[Term],
     skeleton: &[KeyBits],
     points: &[Residue],
+    ceiling: usize,
     out: &mut [Term],
     work: &mut [Residue],
 ) -> CandidateRecord
     ensures { λ r. ⌜ Candidate (candidate-call p (now (first .entry)) (now (second .entry)) (now (skeleton .entry)) (now (points .entry))
-        (now (out .entry)) (now (work .entry)))
+        ceiling (now (out .entry)) (now (work .entry)))
         (candidate-result r (now (out .exit)) (now (work .exit))) ⌝ }
 {
     let fault = checks::candidate_fault(p, first, second, skeleton, points, out.len(), work.len());
     if fault.number != 0 {
         return CandidateRecord::refused(fault);
     }
-    answer(p, first, second, skeleton, points, out, work)
+    answer(p, first, second, skeleton, points, ceiling, out, work)
 }

@@ -13,29 +13,38 @@ use field::KeyBits;
 use field::RefusalNumber;
 use field::Residue;
 use field::Term;
+use poly::Trial;
 use poly::rooms::WORK_ROOM;
 
-// The number, and the count of the terms that are written.
+// The number, the count of the terms that are written, and the steps of division taken.
 pub(crate) struct Ruling {
     pub number: RefusalNumber,
     pub terms: usize,
+    pub steps: usize,
 }
 
-// Whether the divisor divides both lists. The work room is left cleared.
+// Whether the divisor divides both lists, under one ceiling on the steps of both divisions. The work room is left cleared.
 fn divides_both(
     p: Residue,
     first: &[Term],
     second: &[Term],
     divisor: &[Term],
+    ceiling: usize,
     work: &mut [Residue],
-) -> bool
+) -> Trial
     requires { ⌜ CanDivideBoth p (now first) (now second) (now divisor) (now work) ⌝ }
-    ensures { λ r. ⌜ BothDivided p (now (first .entry)) (now (second .entry)) (now (divisor .entry)) (now (work .entry)) (now (work .exit)) r ⌝ }
+    ensures { λ r. ⌜ BothDivided p (now (first .entry)) (now (second .entry)) (now (divisor .entry)) ceiling (now (work .entry))
+        (now (work .exit)) r ⌝ }
 {
-    if !poly::division::divides(p, first, divisor, work) {
-        return false;
+    let one = poly::division::divides(p, first, divisor, ceiling, work);
+    if one.number != 0 {
+        return one;
     }
-    poly::division::divides(p, second, divisor, work)
+    let other = poly::division::divides(p, second, divisor, ceiling - one.steps, work);
+    Trial {
+        number: other.number,
+        steps: one.steps + other.steps,
+    }
 }
 
 // The terms first in the output. Nothing else writes there.
@@ -56,7 +65,11 @@ fn refused(number: RefusalNumber, work: &mut [Residue]) -> Ruling
     ensures { λ r. ⌜ Refused number (now (work .entry)) (now (work .exit)) r ⌝ }
 {
     poly::rooms::clear(WORK_ROOM, work);
-    Ruling { number, terms: 0 }
+    Ruling {
+        number,
+        terms: 0,
+        steps: 0,
+    }
 }
 
 // The divisor of the only solution, which is accepted if it divides both lists, whoever proposed it.
@@ -66,27 +79,31 @@ fn divided(
     second: &[Term],
     skeleton: &[KeyBits],
     values: Cells,
+    ceiling: usize,
     output: &mut [Term],
     work: &mut [Residue],
 ) -> Ruling
     requires { ⌜ VerdictReady p (now first) (now second) (now skeleton) (only values) (now output) (now work) ⌝ }
-    ensures { λ r. ⌜ Settled p (now (first .entry)) (now (second .entry)) (now (skeleton .entry)) (only values) (now (output .entry))
-        (now (output .exit)) (now (work .entry)) (now (work .exit)) r ⌝ }
+    ensures { λ r. ⌜ Settled p (now (first .entry)) (now (second .entry)) (now (skeleton .entry)) (only values) ceiling
+        (now (output .entry)) (now (output .exit)) (now (work .entry)) (now (work .exit)) r ⌝ }
 {
     let divisor = crate::monic::made_monic(p, skeleton, values);
     let terms = divisor.terms;
     let count = divisor.count;
     let list = &terms[..count];
-    if !divides_both(p, first, second, list, work) {
+    let trial = divides_both(p, first, second, list, ceiling, work);
+    if trial.number != 0 {
         return Ruling {
-            number: Fault::DOES_NOT_DIVIDE,
+            number: trial.number,
             terms: 0,
+            steps: trial.steps,
         };
     }
     write(list, output);
     Ruling {
         number: 0,
         terms: count,
+        steps: trial.steps,
     }
 }
 
@@ -97,18 +114,19 @@ pub(crate) fn settle(
     second: &[Term],
     skeleton: &[KeyBits],
     solved: Solved,
+    ceiling: usize,
     output: &mut [Term],
     work: &mut [Residue],
 ) -> Ruling
     requires { ⌜ VerdictReady p (now first) (now second) (now skeleton) solved (now output) (now work) ⌝ }
-    ensures { λ r. ⌜ Settled p (now (first .entry)) (now (second .entry)) (now (skeleton .entry)) solved (now (output .entry)) (now (output .exit))
-        (now (work .entry)) (now (work .exit)) r ⌝ }
+    ensures { λ r. ⌜ Settled p (now (first .entry)) (now (second .entry)) (now (skeleton .entry)) solved ceiling (now (output .entry))
+        (now (output .exit)) (now (work .entry)) (now (work .exit)) r ⌝ }
 {
     let kind = solved.kind;
     let values = solved.values;
     match kind {
         Kind::None => refused(Fault::NO_SOLUTION, work),
         Kind::Several => refused(Fault::SEVERAL_SOLUTIONS, work),
-        Kind::One => divided(p, first, second, skeleton, values, output, work),
+        Kind::One => divided(p, first, second, skeleton, values, ceiling, output, work),
     }
 }

@@ -55,6 +55,9 @@ INVERSE_OF_ZERO = 16
 abbrev pub OPERAND : ℕ
 OPERAND = 17
 
+abbrev pub CEILING_REACHED : ℕ
+CEILING_REACHED = 18
+
 -- the reader's
 abbrev pub KIND_UNKNOWN : ℕ
 KIND_UNKNOWN = 20

@@ -48,6 +48,8 @@ impl Fault {
 
     pub const OPERAND: RefusalNumber = 17;
 
+    pub const CEILING_REACHED: RefusalNumber = 18;
+
     pub const KIND_UNKNOWN: RefusalNumber = 20;
 
     pub const BODY_CUT: RefusalNumber = 21;

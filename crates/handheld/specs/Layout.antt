@@ -40,7 +40,7 @@ abbrev pub of-candidate : Result → InRooms
 of-candidate r =
     let f = r .found in
     record {
-      numbers = after-fault (f .fault) (f .degree ∷ f .bad ∷ f .unlucky ∷ f .kept ∷ f .terms ∷ []);
+      numbers = after-fault (f .fault) (f .degree ∷ f .bad ∷ f .unlucky ∷ f .kept ∷ f .terms ∷ f .steps ∷ []);
       output = r .output;
       work = r .work;
     }
@@ -56,7 +56,7 @@ abbrev pub of-cancel : CancelResult → InThreeRooms
 of-cancel r =
     let f = r .found in
     record {
-      numbers = after-fault (f .fault) (f .degree ∷ f .bad ∷ f .unlucky ∷ f .kept ∷ f .numerator ∷ f .denominator ∷ []);
+      numbers = after-fault (f .fault) (f .degree ∷ f .bad ∷ f .unlucky ∷ f .kept ∷ f .numerator ∷ f .denominator ∷ f .steps ∷ []);
       numerator-output = r .numerator-output;
       denominator-output = r .denominator-output;
       work = r .work;

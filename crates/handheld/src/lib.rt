@@ -26,7 +26,7 @@ use field::Residue;
 use field::Term;
 use poly::Eight;
 
-// Numbers: number, list, place, d, bad, unlucky, kept, count of terms.
+// Numbers: number, list, place, d, bad, unlucky, kept, count of terms, steps of division.
 #[no_mangle]
 pub extern "C" fn balungkiro_candidate(
     modulus: Residue,
@@ -34,15 +34,16 @@ pub extern "C" fn balungkiro_candidate(
     second: &[Term],
     skeleton: &[KeyBits],
     points: &[Residue],
+    ceiling: usize,
     out: &mut [Term],
     work: &mut [Residue],
-    numbers: &mut [usize; 8],
+    numbers: &mut [usize; 9],
 )
     ensures { λ _. ⌜ Laid of-candidate (Candidate (candidate-call modulus (now (first .entry)) (now (second .entry)) (now (skeleton .entry))
-        (now (points .entry)) (now (out .entry)) (now (work .entry))))
+        (now (points .entry)) ceiling (now (out .entry)) (now (work .entry))))
         (record { numbers = now (numbers .exit); output = now (out .exit); work = now (work .exit) }) ⌝ }
 {
-    let found = divisor::candidate(modulus, first, second, skeleton, points, out, work);
+    let found = divisor::candidate(modulus, first, second, skeleton, points, ceiling, out, work);
     *numbers = [
         found.fault.number as usize,
         found.fault.list as usize,
@@ -52,10 +53,11 @@ pub extern "C" fn balungkiro_candidate(
         found.unlucky,
         found.kept,
         found.terms,
+        found.steps,
     ];
 }
 
-// Numbers: number, list, place, d, bad, unlucky, kept, counts of the terms of both results.
+// Numbers: number, list, place, d, bad, unlucky, kept, counts of the terms of both results, steps of division.
 #[no_mangle]
 pub extern "C" fn balungkiro_cancel(
     modulus: Residue,
@@ -63,13 +65,14 @@ pub extern "C" fn balungkiro_cancel(
     denominator: &[Term],
     skeleton: &[KeyBits],
     points: &[Residue],
+    ceiling: usize,
     numerator_out: &mut [Term],
     denominator_out: &mut [Term],
     work: &mut [Residue],
-    numbers: &mut [usize; 9],
+    numbers: &mut [usize; 10],
 )
     ensures { λ _. ⌜ Laid of-cancel (Cancel (cancel-call modulus (now (numerator .entry)) (now (denominator .entry)) (now (skeleton .entry))
-        (now (points .entry)) (now («numerator_out» .entry)) (now («denominator_out» .entry)) (now (work .entry))))
+        (now (points .entry)) ceiling (now («numerator_out» .entry)) (now («denominator_out» .entry)) (now (work .entry))))
         (record {
           numbers = now (numbers .exit);
           numerator-output = now («numerator_out» .exit);
@@ -83,6 +86,7 @@ pub extern "C" fn balungkiro_cancel(
         denominator,
         skeleton,
         points,
+        ceiling,
         numerator_out,
         denominator_out,
         work,
@@ -97,6 +101,7 @@ pub extern "C" fn balungkiro_cancel(
         told.kept,
         told.numerator,
         told.denominator,
+        told.steps,
     ];
 }
 

@@ -7,12 +7,15 @@ ghost use Rattle.poly.specs.TrialDivision.{CanDivide, TrialDivision};
 ghost use Rattle.poly.specs.division.SpreadModel.{spread as spread-over};
 ghost use Rattle.poly.specs.division.Model.{KeysBelow, most-key, at-most, fits-in, less-product};
 ghost use Rattle.poly.specs.division.WorkRoomModel.{CanSubtract, CanStep, Stepped, CanBegin, Divided};
+use crate::Trial;
 use crate::key::Key;
 use crate::rooms::CELLS;
 use crate::rooms::WORK_ROOM;
 use crate::rooms::clear;
 use field::Element;
+use field::Fault;
 use field::KeyBits;
+use field::RefusalNumber;
 use field::Residue;
 use field::Term;
 
@@ -92,16 +95,17 @@ fn subtract(q: Element, shift: usize, divisor: &[Term], cells: &mut [Residue])
 }
 
 // The steps of a division, where the cells from `top` on are 0. Each leading term that can be divided gives a term of the quotient, stored at
-// its key; the search for the next one is left at the first that cannot. Keys are counted in 16 bits: on a 32-bit core a 64-bit count takes two
-// registers.
+// its key; the search for the next one is left at the first that cannot, and where one is due and the ceiling is reached. Keys are counted in 16 bits:
+// on a 32-bit core a 64-bit count takes two registers.
 fn steps(
     divisor: &[Term],
     lead: KeyBits,
     inverse: Element,
     bound: Key,
     top: KeyBits,
+    ceiling: usize,
     work: &mut [Residue],
-) -> bool
+) -> Trial
     requires { ⌜ CanStep (record { modulus = inverse .modulus; terms = now divisor; lead = lead; inverse = inverse .value; bound = bound .bits })
         top (now work) ⌝ }
     ensures { λ r. ⌜ Stepped (record {
@@ -110,10 +114,11 @@ fn steps(
       lead = lead;
       inverse = inverse .value;
       bound = bound .bits;
-    }) (now (work .entry)) (now (work .exit)) r ⌝ }
+    }) ceiling (now (work .entry)) (now (work .exit)) r ⌝ }
 {
     let mut k = top;
-    let mut whole = true;
+    let mut taken: usize = 0;
+    let mut number: RefusalNumber = 0;
     'steps: loop {
         loop {
             if k == 0 {
@@ -122,29 +127,46 @@ fn steps(
             k -= 1;
             if work[k as usize] != 0 {
                 if !fits(k, lead, bound) {
-                    whole = false;
+                    number = Fault::DOES_NOT_DIVIDE;
                     break 'steps;
                 }
                 break;
             }
         }
+        if taken == ceiling {
+            number = Fault::CEILING_REACHED;
+            break 'steps;
+        }
+        taken += 1;
         let shift = (k - lead) as usize;
         let q = Element::of(inverse.modulus, work[k as usize]).product(inverse);
         work[CELLS + shift] = q.value;
         subtract(q, shift, divisor, work);
     }
-    whole
+    Trial {
+        number,
+        steps: taken,
+    }
 }
 
 // Whether the divisor divides the dividend, in a room whose cells of the remainder are 0; the quotient's coefficients are stored in its other cells.
-pub(crate) fn divide(p: Residue, dividend: &[Term], divisor: &[Term], work: &mut [Residue]) -> bool
+pub(crate) fn divide(
+    p: Residue,
+    dividend: &[Term],
+    divisor: &[Term],
+    ceiling: usize,
+    work: &mut [Residue],
+) -> Trial
     requires { ⌜ CanBegin p (now dividend) (now divisor) (now work) ⌝ }
-    ensures { λ r. ⌜ Divided p (now (dividend .entry)) (now (divisor .entry)) (now (work .entry)) (now (work .exit)) r ⌝ }
+    ensures { λ r. ⌜ Divided p (now (dividend .entry)) (now (divisor .entry)) ceiling (now (work .entry)) (now (work .exit)) r ⌝ }
 {
     let above = most(dividend);
     let below = most(divisor);
     if !at_most(below, above) {
-        return false;
+        return Trial {
+            number: Fault::DOES_NOT_DIVIDE,
+            steps: 0,
+        };
     }
     let bound = Key {
         bits: above.bits - below.bits,
@@ -156,16 +178,22 @@ pub(crate) fn divide(p: Residue, dividend: &[Term], divisor: &[Term], work: &mut
     let highest = Key::of(dividend[0]);
     let top = highest.bits + 1;
     spread(dividend, work);
-    steps(divisor, lead.bits, inverse, bound, top, work)
+    steps(divisor, lead.bits, inverse, bound, top, ceiling, work)
 }
 
-// Trial division: whether the divisor divides the dividend, as polynomials. The work room is left cleared.
-pub fn divides(p: Residue, dividend: &[Term], divisor: &[Term], work: &mut [Residue]) -> bool
+// Trial division under a ceiling on its steps: whether the divisor divides the dividend, as polynomials. The work room is left cleared.
+pub fn divides(
+    p: Residue,
+    dividend: &[Term],
+    divisor: &[Term],
+    ceiling: usize,
+    work: &mut [Residue],
+) -> Trial
     requires { ⌜ CanDivide p (now dividend) (now divisor) (now work) ⌝ }
-    ensures { λ r. ⌜ TrialDivision p (now (dividend .entry)) (now (divisor .entry)) (now (work .entry)) (now (work .exit)) r ⌝ }
+    ensures { λ r. ⌜ TrialDivision p (now (dividend .entry)) (now (divisor .entry)) ceiling (now (work .entry)) (now (work .exit)) r ⌝ }
 {
     clear(CELLS, work);
-    let whole = divide(p, dividend, divisor, work);
+    let trial = divide(p, dividend, divisor, ceiling, work);
     clear(WORK_ROOM, work);
-    whole
+    trial
 }

@@ -1,5 +1,6 @@
 // Layer 2, polynomials in x, y, z, w modulo a listed prime: keys and lists, the value and the image at a point, division.
 use field::Fault;
+use field::RefusalNumber;
 use field::Residue;
 
 pub mod division;
@@ -38,6 +39,12 @@ pub struct ImageRecord {
 pub struct Picked {
     pub list: usize,
     pub terms: usize,
+}
+
+// What a division under a ceiling on its steps answers: 0 where the divisor divides, 15 or 18; and the steps taken, one for each term of the quotient.
+pub struct Trial {
+    pub number: RefusalNumber,
+    pub steps: usize,
 }
 
 // What the quotient service answers: the count of terms, 0 on refusal.

@@ -57,8 +57,9 @@ fn exact(
         (quotient-result r (now (out .exit)) (now (work .exit))) ⌝ }
 {
     rooms::clear(WORK_ROOM, work);
-    let whole = crate::division::divide(p, first, second, work);
-    if !whole {
+    // One division has at most a step for each key, so this ceiling is never reached.
+    let trial = crate::division::divide(p, first, second, CELLS, work);
+    if trial.number != 0 {
         rooms::clear(WORK_ROOM, work);
         return QuotientRecord {
             fault: Fault::at(Fault::DOES_NOT_DIVIDE, 0),

@@ -8,9 +8,9 @@ use Rattle.proved_table.specs.Row.{Row, CancelRow}
 use Rattle.proved_table.specs.Table.{key-xy, term-xy, at, row, E, F, p2, p7, p8, p9}
 use Rattle.proved_table.specs.MoreRows.{divides-first, divides-second}
 
--- the key's record: the number, what is counted, and the terms of N' and of D'
-abbrev pub told : ℕ → Counts → ℕ → ℕ → CancelRecord
-told number counts numerator denominator = with-both (report number counts 0) numerator denominator
+-- the key's record: the number, what is counted, the terms of N' and of D', and the steps
+abbrev pub told : ℕ → Counts → ℕ → ℕ → ℕ → CancelRecord
+told number counts numerator denominator steps = with-both (report number counts 0 steps) numerator denominator
 
 -- the candidate's row, c, the record, N' and D'
 abbrev pub cancels-to : Row → ℕ → CancelRecord → List ℕ → List ℕ → CancelRow
@@ -24,24 +24,24 @@ H₅ = term-xy 5 4 1 ∷ term-xy 12 4 0 ∷ term-xy 5 3 2 ∷ term-xy 12 3 0 ∷
 abbrev pub f-over-h : CancelRow
 f-over-h =
     cancels-to
-    (row 17 F H₅ (key-xy 3 1 ∷ key-xy 3 0 ∷ key-xy 0 1 ∷ []) (at (1 ∷ 0 ∷ 5 ∷ 2 ∷ [])) (report 0 (record { d = 3; bad = 1; unlucky = 1; kept = 2 }) 3) E)
-    5 (told 0 (record { d = 3; bad = 1; unlucky = 1; kept = 2 }) 3 3)
+    (row 17 F H₅ (key-xy 3 1 ∷ key-xy 3 0 ∷ key-xy 0 1 ∷ []) (at (1 ∷ 0 ∷ 5 ∷ 2 ∷ [])) (report 0 (record { d = 3; bad = 1; unlucky = 1; kept = 2 }) 3 6) E)
+    5 (told 0 (record { d = 3; bad = 1; unlucky = 1; kept = 2 }) 3 3 6)
     (term-xy 7 1 0 ∷ term-xy 10 0 1 ∷ term-xy 7 0 0 ∷ []) (term-xy 1 1 0 ∷ term-xy 1 0 1 ∷ term-xy 1 0 0 ∷ [])
 
 -- E over 5 H, y = 5 and y = 2: 7 over x + y + 1. What is struck out has more terms than N'.
 abbrev pub e-over-h : CancelRow
 e-over-h =
-    cancels-to (row 17 E H₅ (key-xy 3 1 ∷ key-xy 3 0 ∷ key-xy 0 1 ∷ []) (at (5 ∷ 2 ∷ [])) (report 0 (record { d = 3; bad = 0; unlucky = 0; kept = 2 }) 3) E)
-    5 (told 0 (record { d = 3; bad = 0; unlucky = 0; kept = 2 }) 1 3)
+    cancels-to (row 17 E H₅ (key-xy 3 1 ∷ key-xy 3 0 ∷ key-xy 0 1 ∷ []) (at (5 ∷ 2 ∷ [])) (report 0 (record { d = 3; bad = 0; unlucky = 0; kept = 2 }) 3 4) E)
+    5 (told 0 (record { d = 3; bad = 0; unlucky = 0; kept = 2 }) 1 3 4)
     (term-xy 7 0 0 ∷ []) (term-xy 1 1 0 ∷ term-xy 1 0 1 ∷ term-xy 1 0 0 ∷ [])
 
 -- y x over 3 y (x + 2), y = 1. The two share a factor without x alone, d is 0, and the skeleton decides whether it is struck out.
 abbrev pub over-y : ℕ → List ℕ → List ℕ → List ℕ → CancelRow
 over-y k divisor numerator denominator =
     cancels-to
-    (row 17 (term-xy 1 1 1 ∷ []) (term-xy 3 1 1 ∷ term-xy 6 0 1 ∷ []) (k ∷ []) (at (1 ∷ [])) (report 0 (record { d = 0; bad = 0; unlucky = 0; kept = 1 }) 1)
+    (row 17 (term-xy 1 1 1 ∷ []) (term-xy 3 1 1 ∷ term-xy 6 0 1 ∷ []) (k ∷ []) (at (1 ∷ [])) (report 0 (record { d = 0; bad = 0; unlucky = 0; kept = 1 }) 1 3)
     divisor)
-    3 (told 0 (record { d = 0; bad = 0; unlucky = 0; kept = 1 }) 1 2) numerator denominator
+    3 (told 0 (record { d = 0; bad = 0; unlucky = 0; kept = 1 }) 1 2 3) numerator denominator
 
 -- with the skeleton 1 it is not: 1 is struck out, and 6 y x over y (x + 2) is left
 abbrev pub y-stays : CancelRow
@@ -56,26 +56,26 @@ y-plus-two = term-xy 1 0 1 ∷ term-xy 2 0 0 ∷ []
 
 -- K over K as P7 has it: x³ + 12 y is struck out, and y + 2 over y + 2 is left, not 1 over 1
 abbrev pub k-over-k : CancelRow
-k-over-k = cancels-to p7 1 (told 0 (record { d = 3; bad = 0; unlucky = 0; kept = 3 }) 2 2) y-plus-two y-plus-two
+k-over-k = cancels-to p7 1 (told 0 (record { d = 3; bad = 0; unlucky = 0; kept = 3 }) 2 2 4) y-plus-two y-plus-two
 
 -- the candidate's 12 to 15 with both counts 0: P2, P8, P9, and x and x + y, of which x divides the one and not the other
-abbrev pub refuses : Row → ℕ → Counts → CancelRow
-refuses r number counts = cancels-to r 0 (told number counts 0 0) [] []
+abbrev pub refuses : Row → ℕ → Counts → ℕ → CancelRow
+refuses r number counts steps = cancels-to r 0 (told number counts 0 0 steps) [] []
 
 abbrev pub none-good : CancelRow
-none-good = refuses p2 12 (record { d = 0; bad = 1; unlucky = 0; kept = 0 })
+none-good = refuses p2 12 (record { d = 0; bad = 1; unlucky = 0; kept = 0 }) 0
 
 abbrev pub none-solves : CancelRow
-none-solves = refuses p8 13 (record { d = 3; bad = 0; unlucky = 0; kept = 2 })
+none-solves = refuses p8 13 (record { d = 3; bad = 0; unlucky = 0; kept = 2 }) 0
 
 abbrev pub several-solve : CancelRow
-several-solve = refuses p9 14 (record { d = 3; bad = 0; unlucky = 0; kept = 1 })
+several-solve = refuses p9 14 (record { d = 3; bad = 0; unlucky = 0; kept = 1 }) 0
 
 abbrev pub numerator-divided : CancelRow
-numerator-divided = refuses divides-first 15 (record { d = 1; bad = 0; unlucky = 0; kept = 1 })
+numerator-divided = refuses divides-first 15 (record { d = 1; bad = 0; unlucky = 0; kept = 1 }) 2
 
 abbrev pub denominator-divided : CancelRow
-denominator-divided = refuses divides-second 15 (record { d = 1; bad = 0; unlucky = 0; kept = 1 })
+denominator-divided = refuses divides-second 15 (record { d = 1; bad = 0; unlucky = 0; kept = 1 }) 1
 
 abbrev pub cancels : List CancelRow
 cancels =

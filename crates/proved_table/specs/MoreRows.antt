@@ -21,19 +21,19 @@ use Rattle.proved_table.specs.Table.{key-xy, term-xy, at, row, E, F, K, 
 abbrev pub divides-first : Row
 divides-first =
     row 17 (term-xy 1 1 0 ∷ []) (term-xy 1 1 0 ∷ term-xy 1 0 1 ∷ []) (key-xy 1 0 ∷ []) (at (0 ∷ []))
-    (report 15 (record { d = 1; bad = 0; unlucky = 0; kept = 1 }) 0) []
+    (report 15 (record { d = 1; bad = 0; unlucky = 0; kept = 1 }) 0 2) []
 
 -- the two exchanged: x divides the second and not the first
 abbrev pub divides-second : Row
 divides-second =
     row 17 (term-xy 1 1 0 ∷ term-xy 1 0 1 ∷ []) (term-xy 1 1 0 ∷ []) (key-xy 1 0 ∷ []) (at (0 ∷ []))
-    (report 15 (record { d = 1; bad = 0; unlucky = 0; kept = 1 }) 0) []
+    (report 15 (record { d = 1; bad = 0; unlucky = 0; kept = 1 }) 0 1) []
 
 -- x² twice, y = 0, skeleton x², x, 1: x², the zero coefficients dropped
 abbrev pub zeros-dropped : Row
 zeros-dropped =
     row 17 (term-xy 1 2 0 ∷ []) (term-xy 1 2 0 ∷ []) (key-xy 2 0 ∷ key-xy 1 0 ∷ key-xy 0 0 ∷ []) (at (0 ∷ []))
-    (report 0 (record { d = 2; bad = 0; unlucky = 0; kept = 1 }) 1) (term-xy 1 2 0 ∷ [])
+    (report 0 (record { d = 2; bad = 0; unlucky = 0; kept = 1 }) 1 2) (term-xy 1 2 0 ∷ [])
 
 -- (x + 1) (x y + 1), whose x-leading coefficient y is 0 at y = 0; y (x + 1), which is 0 there; and (x + 1) (x + 2)
 abbrev pub lead-lost : List ℕ
@@ -45,25 +45,25 @@ value-lost = term-xy 1 1 1 ∷ term-xy 1 0 1 ∷ []
 abbrev pub lead-kept : List ℕ
 lead-kept = term-xy 1 2 0 ∷ term-xy 3 1 0 ∷ term-xy 2 0 0 ∷ []
 
--- x + 1 at the points, with skeleton x, 1: d = 1, none bad, one kept
-abbrev pub x-plus-one : List ℕ → List ℕ → List ℕ → ℕ → Row
-x-plus-one A B points unlucky =
+-- x + 1 at the points, with skeleton x, 1: d = 1, none bad, one kept, and so many steps
+abbrev pub x-plus-one : List ℕ → List ℕ → List ℕ → ℕ → ℕ → Row
+x-plus-one A B points unlucky steps =
     row 17 A B (key-xy 1 0 ∷ key-xy 0 0 ∷ []) (at points)
-    (report 0 (record { d = 1; bad = 0; unlucky = unlucky; kept = 1 }) 2) (term-xy 1 1 0 ∷ term-xy 1 0 0 ∷ [])
+    (report 0 (record { d = 1; bad = 0; unlucky = unlucky; kept = 1 }) 2 steps) (term-xy 1 1 0 ∷ term-xy 1 0 0 ∷ [])
 
 -- the teacher's case and its swap, y = 0: one x-leading coefficient alone is 0 there, that of the first and that of the second, so the point is good
 abbrev pub first-lead-lost : Row
-first-lead-lost = x-plus-one lead-lost lead-kept (0 ∷ []) 0
+first-lead-lost = x-plus-one lead-lost lead-kept (0 ∷ []) 0 4
 
 abbrev pub second-lead-lost : Row
-second-lead-lost = x-plus-one lead-kept lead-lost (0 ∷ []) 0
+second-lead-lost = x-plus-one lead-kept lead-lost (0 ∷ []) 0 4
 
 -- y = 0 and y = 1, where the one value is 0 at y = 0 and the image the other's: the point is unlucky
 abbrev pub first-value-lost : Row
-first-value-lost = x-plus-one value-lost lead-kept (0 ∷ 1 ∷ []) 1
+first-value-lost = x-plus-one value-lost lead-kept (0 ∷ 1 ∷ []) 1 3
 
 abbrev pub second-value-lost : Row
-second-value-lost = x-plus-one lead-kept value-lost (0 ∷ 1 ∷ []) 1
+second-value-lost = x-plus-one lead-kept value-lost (0 ∷ 1 ∷ []) 1 3
 
 abbrev pub more-rows : List Row
 more-rows =

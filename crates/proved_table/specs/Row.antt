@@ -37,6 +37,7 @@ pub record Row : Type 0 where
   pub second-list : List ℕ
   pub skeleton : List ℕ
   pub points : List ℕ
+  pub ceiling : ℕ
   pub found : CandidateRecord
   pub terms : List ℕ
 
@@ -49,6 +50,7 @@ call r output work =
       second-list = r .second-list;
       skeleton = r .skeleton;
       points = r .points;
+      ceiling = r .ceiling;
       output = output;
       work = work;
     }
@@ -97,7 +99,7 @@ pub record CancelRow : Type 0 where
 -- the key's call with the inputs of a candidate's row, two outputs and a work room
 abbrev pub cancel-call-of : Row → List ℕ → List ℕ → List ℕ → CancelCall
 cancel-call-of r numerator denominator work =
-    cancel-call (r .modulus) (r .first-list) (r .second-list) (r .skeleton) (r .points) numerator denominator work
+    cancel-call (r .modulus) (r .first-list) (r .second-list) (r .skeleton) (r .points) (r .ceiling) numerator denominator work
 
 abbrev pub cancel-result-of : CancelRow → List ℕ → List ℕ → List ℕ → CancelResult
 cancel-result-of r numerator denominator work =

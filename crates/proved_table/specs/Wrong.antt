@@ -48,6 +48,7 @@ named list r =
       unlucky = r .unlucky;
       kept = r .kept;
       terms = r .terms;
+      steps = r .steps;
     }
 
 abbrev pub Begins : List ℕ → List ℕ → Type 0

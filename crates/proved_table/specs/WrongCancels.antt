@@ -89,24 +89,24 @@ not-made-monic = wrong-terms f-over-h (f-over-e .terms) h₅-over-e
 
 -- N is divided and D is not; D is and N is not
 abbrev pub denominator-not-divided : WrongCancel
-denominator-not-divided = wrong-cancel f-over-h (told 0 (record { d = 3; bad = 1; unlucky = 1; kept = 2 }) 3 7) (f-over-h .numerator) H
+denominator-not-divided = wrong-cancel f-over-h (told 0 (record { d = 3; bad = 1; unlucky = 1; kept = 2 }) 3 7 6) (f-over-h .numerator) H
 
 abbrev pub numerator-not-divided : WrongCancel
-numerator-not-divided = wrong-cancel f-over-h (told 0 (record { d = 3; bad = 1; unlucky = 1; kept = 2 }) 8 3) F₇ (f-over-h .denominator)
+numerator-not-divided = wrong-cancel f-over-h (told 0 (record { d = 3; bad = 1; unlucky = 1; kept = 2 }) 8 3 6) F₇ (f-over-h .denominator)
 
 -- 1 is struck out whatever the candidate finds, with d = 0; and with the right d
 abbrev pub one-struck-out : WrongCancel
-one-struck-out = wrong-cancel f-over-h (told 0 (record { d = 0; bad = 1; unlucky = 1; kept = 2 }) 8 7) F₇ H
+one-struck-out = wrong-cancel f-over-h (told 0 (record { d = 0; bad = 1; unlucky = 1; kept = 2 }) 8 7 15) F₇ H
 
 abbrev pub one-struck-out-again : WrongCancel
-one-struck-out-again = wrong-cancel f-over-h (told 0 (record { d = 3; bad = 1; unlucky = 1; kept = 2 }) 8 7) F₇ H
+one-struck-out-again = wrong-cancel f-over-h (told 0 (record { d = 3; bad = 1; unlucky = 1; kept = 2 }) 8 7 6) F₇ H
 
 -- what the candidate has not found is struck out too: y, and y + 2 of K
 abbrev pub y-struck-out-too : WrongCancel
 y-struck-out-too = wrong-terms y-stays (y-goes .numerator) (y-goes .denominator)
 
 abbrev pub all-struck-out : WrongCancel
-all-struck-out = wrong-cancel k-over-k (told 0 (record { d = 3; bad = 0; unlucky = 0; kept = 3 }) 1 1) (term-xy 1 0 0 ∷ []) (term-xy 1 0 0 ∷ [])
+all-struck-out = wrong-cancel k-over-k (told 0 (record { d = 3; bad = 0; unlucky = 0; kept = 3 }) 1 1 2) (term-xy 1 0 0 ∷ []) (term-xy 1 0 0 ∷ [])
 
 -- where d is 0 nothing is struck out
 abbrev pub y-left : WrongCancel
@@ -123,15 +123,15 @@ outputs-exchanged = wrong-terms f-over-h (f-over-h .denominator) (f-over-h .nume
 -- accepted where 15 is due: 1 is struck out where x does not divide both; and x is, and the remainder y dropped
 abbrev pub fifteen-accepted : WrongCancel
 fifteen-accepted =
-    wrong-cancel numerator-divided (told 0 (record { d = 1; bad = 0; unlucky = 0; kept = 1 }) 1 2) (term-xy 1 1 0 ∷ []) (term-xy 1 1 0 ∷ term-xy 1 0 1 ∷ [])
+    wrong-cancel numerator-divided (told 0 (record { d = 1; bad = 0; unlucky = 0; kept = 1 }) 1 2 2) (term-xy 1 1 0 ∷ []) (term-xy 1 1 0 ∷ term-xy 1 0 1 ∷ [])
 
 abbrev pub remainder-dropped : WrongCancel
 remainder-dropped =
-    wrong-cancel numerator-divided (told 0 (record { d = 1; bad = 0; unlucky = 0; kept = 1 }) 1 1) (term-xy 1 0 0 ∷ []) (term-xy 1 0 0 ∷ [])
+    wrong-cancel numerator-divided (told 0 (record { d = 1; bad = 0; unlucky = 0; kept = 1 }) 1 1 2) (term-xy 1 0 0 ∷ []) (term-xy 1 0 0 ∷ [])
 
 -- 15 where the candidate accepts
 abbrev pub accepted-refused : WrongCancel
-accepted-refused = wrong-cancel f-over-h (told 15 (record { d = 3; bad = 1; unlucky = 1; kept = 2 }) 0 0) [] []
+accepted-refused = wrong-cancel f-over-h (told 15 (record { d = 3; bad = 1; unlucky = 1; kept = 2 }) 0 0 6) [] []
 
 -- refuses everything by the first line of the table and touches nothing: 17 is listed
 abbrev pub refuses-the-modulus : WrongCancel
@@ -149,21 +149,21 @@ refuses-the-modulus =
 
 -- 12, 13 and 14 told as 15: there is no common divisor
 abbrev pub told-fifteen-for-12 : WrongCancel
-told-fifteen-for-12 = wrong-record none-good (told 15 (record { d = 0; bad = 1; unlucky = 0; kept = 0 }) 0 0)
+told-fifteen-for-12 = wrong-record none-good (told 15 (record { d = 0; bad = 1; unlucky = 0; kept = 0 }) 0 0 0)
 
 abbrev pub told-fifteen-for-13 : WrongCancel
-told-fifteen-for-13 = wrong-record none-solves (told 15 (record { d = 3; bad = 0; unlucky = 0; kept = 2 }) 0 0)
+told-fifteen-for-13 = wrong-record none-solves (told 15 (record { d = 3; bad = 0; unlucky = 0; kept = 2 }) 0 0 0)
 
 abbrev pub told-fifteen-for-14 : WrongCancel
-told-fifteen-for-14 = wrong-record several-solve (told 15 (record { d = 3; bad = 0; unlucky = 0; kept = 1 }) 0 0)
+told-fifteen-for-14 = wrong-record several-solve (told 15 (record { d = 3; bad = 0; unlucky = 0; kept = 1 }) 0 0 0)
 
 -- 15 told as 13
 abbrev pub told-thirteen-for-15 : WrongCancel
-told-thirteen-for-15 = wrong-record numerator-divided (told 13 (record { d = 1; bad = 0; unlucky = 0; kept = 1 }) 0 0)
+told-thirteen-for-15 = wrong-record numerator-divided (told 13 (record { d = 1; bad = 0; unlucky = 0; kept = 1 }) 0 0 2)
 
 -- 15 with zeros for d and the points, as where the table refuses
 abbrev pub zeros-told : WrongCancel
-zeros-told = wrong-record numerator-divided (told 15 (record { d = 0; bad = 0; unlucky = 0; kept = 0 }) 0 0)
+zeros-told = wrong-record numerator-divided (told 15 (record { d = 0; bad = 0; unlucky = 0; kept = 0 }) 0 0 2)
 
 -- 15, and the one quotient that there is written into an output that began with 0: N' = 1 where x divides N alone, D' = 1 where it divides D alone
 abbrev pub refusal-writes-numerator : WrongCancel
@@ -174,22 +174,22 @@ refusal-writes-denominator = wrong-outputs denominator-divided (0 ∷ []) [] (te
 
 -- or counted
 abbrev pub refusal-counts-numerator : WrongCancel
-refusal-counts-numerator = wrong-record numerator-divided (told 15 (record { d = 1; bad = 0; unlucky = 0; kept = 1 }) 1 0)
+refusal-counts-numerator = wrong-record numerator-divided (told 15 (record { d = 1; bad = 0; unlucky = 0; kept = 1 }) 1 0 2)
 
 abbrev pub refusal-counts-denominator : WrongCancel
-refusal-counts-denominator = wrong-record denominator-divided (told 15 (record { d = 1; bad = 0; unlucky = 0; kept = 1 }) 0 1)
+refusal-counts-denominator = wrong-record denominator-divided (told 15 (record { d = 1; bad = 0; unlucky = 0; kept = 1 }) 0 1 1)
 
 -- the two counts exchanged
 abbrev pub counts-exchanged : WrongCancel
-counts-exchanged = wrong-record e-over-h (told 0 (record { d = 3; bad = 0; unlucky = 0; kept = 2 }) 3 1)
+counts-exchanged = wrong-record e-over-h (told 0 (record { d = 3; bad = 0; unlucky = 0; kept = 2 }) 3 1 4)
 
 -- the divisor's terms counted in place of those of N'
 abbrev pub divisor-counted : WrongCancel
-divisor-counted = wrong-record e-over-h (told 0 (record { d = 3; bad = 0; unlucky = 0; kept = 2 }) 3 3)
+divisor-counted = wrong-record e-over-h (told 0 (record { d = 3; bad = 0; unlucky = 0; kept = 2 }) 3 3 4)
 
 -- d is what is left in x, 1, and not what is struck out
 abbrev pub degree-left : WrongCancel
-degree-left = wrong-record f-over-h (told 0 (record { d = 1; bad = 1; unlucky = 1; kept = 2 }) 3 3)
+degree-left = wrong-record f-over-h (told 0 (record { d = 1; bad = 1; unlucky = 1; kept = 2 }) 3 3 6)
 
 -- only N' is written, and only D', where the outputs began with 0
 abbrev pub denominator-not-written : WrongCancel

@@ -22,7 +22,7 @@ wrong-candidate r found terms = record { row = r; output-begins = []; work-begin
 
 -- refuses everything, as if all points were bad: P1 has a good point
 abbrev pub refuses-all : WrongCandidate
-refuses-all = wrong-candidate p1 (report 12 (record { d = 0; bad = 1; unlucky = 0; kept = 0 }) 0) []
+refuses-all = wrong-candidate p1 (report 12 (record { d = 0; bad = 1; unlucky = 0; kept = 0 }) 0 0) []
 
 -- refuses everything by the first line of the table and touches nothing: 17 is listed
 abbrev pub refuses-the-modulus : WrongCandidate
@@ -30,7 +30,7 @@ refuses-the-modulus = record { row = p1; output-begins = []; work-begins = []; f
 
 -- always gives 1, with d and the counts of the points right: P1 has x + 1
 abbrev pub always-one : WrongCandidate
-always-one = wrong-candidate p1 (report 0 (record { d = 1; bad = 0; unlucky = 0; kept = 1 }) 1) (term-xy 1 0 0 ∷ [])
+always-one = wrong-candidate p1 (report 0 (record { d = 1; bad = 0; unlucky = 0; kept = 1 }) 1 4) (term-xy 1 0 0 ∷ [])
 
 -- writes nothing: P1's record, and an output that begins with 0 as lent
 abbrev pub writes-nothing : WrongCandidate
@@ -47,59 +47,60 @@ writes-past-the-count =
 
 -- uses only the first kept point: of P10 that is y = 5, which leaves several solutions, as in P9
 abbrev pub first-kept-point : WrongCandidate
-first-kept-point = wrong-candidate p10 (report 14 (record { d = 3; bad = 1; unlucky = 1; kept = 2 }) 0) []
+first-kept-point = wrong-candidate p10 (report 14 (record { d = 3; bad = 1; unlucky = 1; kept = 2 }) 0 0) []
 
--- divides only A: x divides x, and is taken
+-- divides only A, in place of B too: x divides x, and is taken
 abbrev pub divides-only-first : WrongCandidate
-divides-only-first = wrong-candidate divides-first (report 0 (record { d = 1; bad = 0; unlucky = 0; kept = 1 }) 1) (term-xy 1 1 0 ∷ [])
+divides-only-first = wrong-candidate divides-first (report 0 (record { d = 1; bad = 0; unlucky = 0; kept = 1 }) 1 2) (term-xy 1 1 0 ∷ [])
 
 -- divides only B: the same with the two exchanged
 abbrev pub divides-only-second : WrongCandidate
-divides-only-second = wrong-candidate divides-second (report 0 (record { d = 1; bad = 0; unlucky = 0; kept = 1 }) 1) (term-xy 1 1 0 ∷ [])
+divides-only-second = wrong-candidate divides-second (report 0 (record { d = 1; bad = 0; unlucky = 0; kept = 1 }) 1 2) (term-xy 1 1 0 ∷ [])
 
 -- invented point counts: P10's divisor, with all four points said to be kept
 abbrev pub all-points-kept : WrongCandidate
-all-points-kept = wrong-candidate p10 (report 0 (record { d = 3; bad = 0; unlucky = 0; kept = 4 }) 3) (p10 .terms)
+all-points-kept = wrong-candidate p10 (report 0 (record { d = 3; bad = 0; unlucky = 0; kept = 4 }) 3 6) (p10 .terms)
 
 -- invented point counts: P10's divisor, with bad and unlucky points counted as one
 abbrev pub unlucky-counted-bad : WrongCandidate
-unlucky-counted-bad = wrong-candidate p10 (report 0 (record { d = 3; bad = 2; unlucky = 0; kept = 2 }) 3) (p10 .terms)
+unlucky-counted-bad = wrong-candidate p10 (report 0 (record { d = 3; bad = 2; unlucky = 0; kept = 2 }) 3 6) (p10 .terms)
 
 -- invented point counts: P10's divisor, with one unlucky point more than there are points
 abbrev pub one-point-more : WrongCandidate
-one-point-more = wrong-candidate p10 (report 0 (record { d = 3; bad = 1; unlucky = 2; kept = 2 }) 3) (p10 .terms)
+one-point-more = wrong-candidate p10 (report 0 (record { d = 3; bad = 1; unlucky = 2; kept = 2 }) 3 6) (p10 .terms)
 
 -- every multiplier fixed at 1: P10 then has no solution
 abbrev pub multipliers-one : WrongCandidate
-multipliers-one = wrong-candidate p10 (report 13 (record { d = 3; bad = 1; unlucky = 1; kept = 2 }) 0) []
+multipliers-one = wrong-candidate p10 (report 13 (record { d = 3; bad = 1; unlucky = 1; kept = 2 }) 0 0) []
 
 -- a determined system taken for a proof: P4's is determined by the image x
 abbrev pub determined-accepted : WrongCandidate
-determined-accepted = wrong-candidate p4 (report 0 (record { d = 1; bad = 0; unlucky = 0; kept = 1 }) 1) (term-xy 1 1 0 ∷ [])
+determined-accepted = wrong-candidate p4 (report 0 (record { d = 1; bad = 0; unlucky = 0; kept = 1 }) 1 0) (term-xy 1 1 0 ∷ [])
 
 -- the first degree met is kept: P10 meets degree 4 at y = 0 and keeps that point alone; the skeleton has no x⁴, so there is no solution
 abbrev pub first-degree-met : WrongCandidate
-first-degree-met = wrong-candidate p10 (report 13 (record { d = 4; bad = 1; unlucky = 2; kept = 1 }) 0) []
+first-degree-met = wrong-candidate p10 (report 13 (record { d = 4; bad = 1; unlucky = 2; kept = 1 }) 0 0) []
 
 -- equations counted: P6 has no fewer than unknowns. With the last multiplier 0 the solution is (y - 3) (x³ + 12 y), which does not divide K.
 abbrev pub equations-counted : WrongCandidate
-equations-counted = wrong-candidate p6 (report 15 (record { d = 3; bad = 0; unlucky = 0; kept = 3 }) 0) []
+equations-counted = wrong-candidate p6 (report 15 (record { d = 3; bad = 0; unlucky = 0; kept = 3 }) 0 1) []
 
 -- the same with the first coefficient 0: the solution is x³ + 12 y, which divides K
 abbrev pub equations-counted-again : WrongCandidate
-equations-counted-again = wrong-candidate p6 (report 0 (record { d = 3; bad = 0; unlucky = 0; kept = 3 }) 2) p7-terms
+equations-counted-again = wrong-candidate p6 (report 0 (record { d = 3; bad = 0; unlucky = 0; kept = 3 }) 2 4) p7-terms
 
 -- division tested as values: modulo 7 x + y⁷ has the values of x + y everywhere, and P11 takes it
 abbrev pub division-as-values : WrongCandidate
-division-as-values = wrong-candidate p11 (report 0 (record { d = 1; bad = 0; unlucky = 0; kept = 1 }) 2) (term-xy 1 1 0 ∷ term-xy 1 0 7 ∷ [])
+division-as-values = wrong-candidate p11 (report 0 (record { d = 1; bad = 0; unlucky = 0; kept = 1 }) 2 0) (term-xy 1 1 0 ∷ term-xy 1 0 7 ∷ [])
 
 -- not divided by its leading coefficient: at y = 2 the equation of P12 gives 9 y
 abbrev pub not-monic : WrongCandidate
-not-monic = wrong-candidate p12 (report 0 (record { d = 0; bad = 0; unlucky = 0; kept = 1 }) 1) (term-xy 9 0 1 ∷ [])
+not-monic = wrong-candidate p12 (report 0 (record { d = 0; bad = 0; unlucky = 0; kept = 1 }) 1 2) (term-xy 9 0 1 ∷ [])
 
 -- zero coefficients kept as terms
 abbrev pub zeros-kept : WrongCandidate
-zeros-kept = wrong-candidate zeros-dropped (report 0 (record { d = 2; bad = 0; unlucky = 0; kept = 1 }) 3) (term-xy 1 2 0 ∷ term-xy 0 1 0 ∷ term-xy 0 0 0 ∷ [])
+zeros-kept =
+    wrong-candidate zeros-dropped (report 0 (record { d = 2; bad = 0; unlucky = 0; kept = 1 }) 3 2) (term-xy 1 2 0 ∷ term-xy 0 1 0 ∷ term-xy 0 0 0 ∷ [])
 
 -- the work room left as lent on refusal, where it begins with 1: P4's record
 abbrev pub work-room-left : WrongCandidate
@@ -112,23 +113,23 @@ refusal-writes =
 
 -- 12 with no bad point counted: P2's point is bad
 abbrev pub bad-not-counted : WrongCandidate
-bad-not-counted = wrong-candidate p2 (report 12 (record { d = 0; bad = 0; unlucky = 0; kept = 0 }) 0) []
+bad-not-counted = wrong-candidate p2 (report 12 (record { d = 0; bad = 0; unlucky = 0; kept = 0 }) 0 0) []
 
 -- a point is bad where the x-leading coefficient of the first list is 0, whatever the second has there
 abbrev pub bad-by-the-first : WrongCandidate
-bad-by-the-first = wrong-candidate first-lead-lost (report 12 (record { d = 0; bad = 1; unlucky = 0; kept = 0 }) 0) []
+bad-by-the-first = wrong-candidate first-lead-lost (report 12 (record { d = 0; bad = 1; unlucky = 0; kept = 0 }) 0 0) []
 
 -- where that of the second is 0
 abbrev pub bad-by-the-second : WrongCandidate
-bad-by-the-second = wrong-candidate second-lead-lost (report 12 (record { d = 0; bad = 1; unlucky = 0; kept = 0 }) 0) []
+bad-by-the-second = wrong-candidate second-lead-lost (report 12 (record { d = 0; bad = 1; unlucky = 0; kept = 0 }) 0 0) []
 
 -- a point where the first value is 0 is called bad; the divisor is right
 abbrev pub zero-called-bad : WrongCandidate
-zero-called-bad = wrong-candidate first-value-lost (report 0 (record { d = 1; bad = 1; unlucky = 0; kept = 1 }) 2) (first-value-lost .terms)
+zero-called-bad = wrong-candidate first-value-lost (report 0 (record { d = 1; bad = 1; unlucky = 0; kept = 1 }) 2 3) (first-value-lost .terms)
 
 -- there the image is said to be 1: d = 0 at y = 0, where the equations of x and 1 give 1
 abbrev pub zero-gives-one : WrongCandidate
-zero-gives-one = wrong-candidate first-value-lost (report 0 (record { d = 0; bad = 0; unlucky = 1; kept = 1 }) 1) (term-xy 1 0 0 ∷ [])
+zero-gives-one = wrong-candidate first-value-lost (report 0 (record { d = 0; bad = 0; unlucky = 1; kept = 1 }) 1 5) (term-xy 1 0 0 ∷ [])
 
 -- the row's result, said to be of another list
 abbrev pub wrong-list : Row → ℕ → WrongCandidate

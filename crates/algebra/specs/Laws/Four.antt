@@ -56,6 +56,25 @@ not-both-below e f (by-w p q r l) (by-y s m) = omega arith
 not-both-below e f (by-w p q r l) (by-z s u m) = omega arith
 not-both-below e f (by-w p q r l) (by-w s u v m) = omega arith
 
+-- the order goes on
+pub below-trans : (e f g : Exponents) → e ≺ f → f ≺ g → e ≺ g
+below-trans e f g (by-x l) (by-x m) = by-x (omega arith)
+below-trans e f g (by-x l) (by-y s m) = by-x (omega arith)
+below-trans e f g (by-x l) (by-z s u m) = by-x (omega arith)
+below-trans e f g (by-x l) (by-w s u v m) = by-x (omega arith)
+below-trans e f g (by-y p l) (by-x m) = by-x (omega arith)
+below-trans e f g (by-y p l) (by-y s m) = by-y (omega arith) (omega arith)
+below-trans e f g (by-y p l) (by-z s u m) = by-y (omega arith) (omega arith)
+below-trans e f g (by-y p l) (by-w s u v m) = by-y (omega arith) (omega arith)
+below-trans e f g (by-z p q l) (by-x m) = by-x (omega arith)
+below-trans e f g (by-z p q l) (by-y s m) = by-y (omega arith) (omega arith)
+below-trans e f g (by-z p q l) (by-z s u m) = by-z (omega arith) (omega arith) (omega arith)
+below-trans e f g (by-z p q l) (by-w s u v m) = by-z (omega arith) (omega arith) (omega arith)
+below-trans e f g (by-w p q r l) (by-x m) = by-x (omega arith)
+below-trans e f g (by-w p q r l) (by-y s m) = by-y (omega arith) (omega arith)
+below-trans e f g (by-w p q r l) (by-z s u m) = by-z (omega arith) (omega arith) (omega arith)
+below-trans e f g (by-w p q r l) (by-w s u v m) = by-w (omega arith) (omega arith) (omega arith) (omega arith)
+
 pub below-irreflexive : (e : Exponents) → ¬ (e ≺ e)
 below-irreflexive e l = not-both-below e e l l
 

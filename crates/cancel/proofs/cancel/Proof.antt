@@ -16,7 +16,7 @@ use Rattle.cancel.proofs.cancel.Tie as tie
 abbrev lent : tie.Start → CancelCall
 lent z =
     let a = z .args in
-    cancel-call (a .p) (a .numerator .now) (a .denominator .now) (a .skeleton .now) (a .points .now) (a .numerator-out .now)
+    cancel-call (a .p) (a .numerator .now) (a .denominator .now) (a .skeleton .now) (a .points .now) (a .ceiling) (a .numerator-out .now)
     (a .denominator-out .now) (a .work .now)
 
 -- with the room chosen: where the routine began; with the candidate asked: where the room was chosen; and at the test: where the candidate was asked

@@ -27,7 +27,7 @@ module _ (c : CancelCall) where
       → Finds c listed f G → Finds c listed g H → (f ≡ g) × (G ≡ H)
   answers-agree listed f g G H x y =
       let d = divisor-call c [] in
-      answer-determined (Numbers c listed) (A d listed) (B d listed) (monomials d listed) (lent-points d listed) f g G H x y
+      answer-determined (Numbers c listed) (A d listed) (B d listed) (monomials d listed) (lent-points d listed) (c .ceiling) f g G H x y
 
   -- the evidence that the modulus is listed does not matter
   module _ (listed listed′ : Listed (c .modulus)) (f g : CandidateRecord) (G : Polynomial (Numbers c listed)) (H : Polynomial (Numbers c listed′))

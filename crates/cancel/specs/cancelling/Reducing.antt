@@ -36,7 +36,7 @@ use Rattle.divisor.specs.Candidate.{table}
 use Rattle.divisor.specs.Demands.{LeadsWith, constant}
 use Rattle.divisor.specs.checks.Passed.{keys-most}
 use Rattle.divisor.specs.verdict.Output.{length-numbers}
-use Rattle.divisor.specs.answer.Accepted.{AcceptedList, accepted-list}
+use Rattle.divisor.specs.answer.Accepted.{AcceptedList, some-terms, accepted-list}
 use Rattle.cancel.specs.CancelCall.{CancelCall, cancel-table, divisor-call, Numbers, Finds, Times, Reduced, cancel-result, with-both}
 use Rattle.cancel.specs.CancelCall.{Cancel, cancelled}
 use Rattle.cancel.specs.scaling.Model.{times}
@@ -87,15 +87,11 @@ module _ (p : ℕ) (P : Prime p) (small : p < coefficient-limit) (G : Polynomial
   scaled-means : poly p P (times p lead L) ≡ S4 R .mul g (constant K (el p lead))
   scaled-means = poly-times p P small lead L ∙ ap (λ (f : S4 R .Car). S4 R .mul f (constant K (el p lead))) L-means
 
-  some-terms : (f : Polynomial K) → LeadsWith K (el p 1) f → 0 < length (numbers-of p P f)
-  some-terms [] e = absurd e
-  some-terms (t ∷ ts) e = omega arith
-
   pub scaled-right : length (numbers-of p P G) ≤ most-terms → RightList p (times p (first-coefficient D) (numbers-of p P G))
   scaled-right few =
       let e = length-times p lead L in
       record {
-        some = let l = some-terms G (list .leads) in omega arith;
+        some = let l = some-terms p P most G list in omega arith;
         most = omega arith;
         falls = times-falls p P small lead lead-below lead-not-zero keys L (list .falls);
       }

@@ -47,7 +47,7 @@ module _ (c : CancelCall) where
     accepted-divisor =
         let d = divisor-call c [] in
         let right = right-lists c pass in
-        accepted-greatest (Numbers c listed) (A d listed) (B d listed) (monomials d listed) (lent-points d listed)
+        accepted-greatest (Numbers c listed) (A d listed) (B d listed) (monomials d listed) (lent-points d listed) (c .ceiling)
         (falling-bounded (c .modulus) (listed-prime listed) (c .numerator) (right .first .falls))
         (falling-bounded (c .modulus) (listed-prime listed) (c .denominator) (right .second .falls)) found G answer accepted
 

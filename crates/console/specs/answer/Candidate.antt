@@ -8,7 +8,7 @@ use Rattle.case_file.specs.declared.Counts.{Counts as CaseCounts}
 use Rattle.case_file.specs.Reading.{read}
 use Rattle.case_file.specs.Handed.{fault, Gives}
 use Rattle.case_file.specs.reader.AnotherList.{read-names-none}
-use Rattle.divisor.specs.Candidate.{candidate-call, Result, Candidate}
+use Rattle.divisor.specs.Candidate.{candidate-call, most-steps, Result, Candidate}
 use Rattle.divisor.specs.answer.CandidateDetermined.{candidate-determined}
 use Rattle.console.specs.OfFile.{refused, asked}
 use Rattle.console.specs.CandidateOfFile.{unread, call, CandidateOfFile, CandidateAnswered}
@@ -21,7 +21,7 @@ module _ (bytes output work : List ℕ) where
       of-file-determined _ _ bytes (λ o. candidate-determined (call output work o)) r q (x .is) (y .is)
 
   pub candidate-meets : {counts : CaseCounts} {first second skeleton points : List ℕ} → Gives (read bytes) counts first second skeleton points
-      → Meets (unread output work) (λ p a b k n. Candidate (candidate-call p a b k n output work)) (λ r. r .found .terms) (λ r. r .output) bytes
+      → Meets (unread output work) (λ p a b k n. Candidate (candidate-call p a b k n most-steps output work)) (λ r. r .found .terms) (λ r. r .output) bytes
       counts first second skeleton points
   candidate-meets = meets _ _ _ _ bytes (λ f. none-first output) (λ p a b k n. candidate-first _)
 

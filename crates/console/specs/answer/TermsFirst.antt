@@ -28,5 +28,5 @@ quotient-first c r (quotient h listed qs q) = written-first qs (c .output)
 pub candidate-first : (c : Call) (r : Result) → Candidate c r → Counts (r .found .terms) (r .output)
 candidate-first c r (refused f h) = none-first (c .output)
 candidate-first c r (answered h listed found G (all-bad b)) = none-first (c .output)
-candidate-first c r (answered h listed found G (some-good d b u k kept s number G′ v)) =
+candidate-first c r (answered h listed found G (some-good d b u k kept s number G′ steps v)) =
     rw (← length-map G (number-of (c .modulus) (prime c listed))) (written-first (numbers-of (c .modulus) (prime c listed) G) (c .output))

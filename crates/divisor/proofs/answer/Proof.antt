@@ -20,7 +20,7 @@ use Rattle.divisor.proofs.answer.Tie as tie
 abbrev question : tie.Start → Call
 question s =
     let a = s .args in
-    candidate-call (a .p) (a .first .now) (a .second .now) (a .skeleton .now) (a .points .now) (a .out .now) (a .work .now)
+    candidate-call (a .p) (a .first .now) (a .second .now) (a .skeleton .now) (a .points .now) (a .ceiling) (a .out .now) (a .work .now)
 
 -- before the look at the points, and after it: where the routine began
 abbrev opened : tie.After-look-arg → tie.Start
@@ -131,11 +131,11 @@ settle-requires c κs =
     let at = placed s in
     ready-verdict (good (at .before)) (at .places-of .result) (at .places-of .ensures) (s .solved .result) (s .solved .ensures)
 
-sub-t32 : tie.Need-sub-t32
-sub-t32 c = omega (arith, fit (counted (settled c)))
-
 sub-t33 : tie.Need-sub-t33
 sub-t33 c = omega (arith, fit (counted (settled c)))
+
+sub-t34 : tie.Need-sub-t34
+sub-t34 c = omega (arith, fit (counted (settled c)))
 
 same-length-3 : tie.Need-same-length-3
 same-length-3 c =
@@ -156,4 +156,4 @@ pub answer-spec : {M : Type 1} → statement M
 answer-spec =
     tie.close (tie.spec look-requires least-size-requires no-good-point-requires (λ c. search needs) returns alike-requires alike-requires-2
     places-of-requires mul-equations cast-equations add-columns cast-columns solved-requires settle-requires (λ c κs. search needs) (λ c. search needs)
-    (λ c. search needs) sub-t32 sub-t33 (λ c. search needs) same-length-3 returns-2)
+    (λ c. search needs) sub-t33 sub-t34 (λ c. search needs) same-length-3 returns-2)

@@ -9,7 +9,7 @@ use Rattle.divisor.proofs.candidate.Tie as tie
 abbrev question : tie.Start → Call
 question s =
     let a = s .args in
-    candidate-call (a .p) (a .first .now) (a .second .now) (a .skeleton .now) (a .points .now) (a .out .now) (a .work .now)
+    candidate-call (a .p) (a .first .now) (a .second .now) (a .skeleton .now) (a .points .now) (a .ceiling) (a .out .now) (a .work .now)
 
 -- with the inputs tested: where the routine began
 abbrev start : tie.After-candidate-fault → tie.Start

@@ -12,7 +12,7 @@ returns c =
     let cleared = c .before .before .before in
     let s = cleared .before .before .before in
     record {
-      is = ap (λ (f : Fault). record { fault = f; degree = 0; bad = s .args .n; unlucky = 0; kept = 0; terms = 0 }) (c .at .ensures);
+      is = ap (λ (f : Fault). record { fault = f; degree = 0; bad = s .args .n; unlucky = 0; kept = 0; terms = 0; steps = 0 }) (c .at .ensures);
       clears = zeroed-all work-room _ (s .pre) (cleared .clear .ensures);
     }
 

@@ -21,8 +21,9 @@ use Rattle.poly.specs.Lists.{Falling}
 use Rattle.poly.specs.list.Laws.{FallFrom}
 use Rattle.poly.specs.image.Laws.{image-small}
 use Rattle.divisor.specs.declared.CandidateRecord.{CandidateRecord}
-use Rattle.divisor.specs.Rule.{Kept, Unknowns, Solution, without-zeros, made-monic, divisor, unsolvable, several, rejected, accepted, all-bad, some-good}
-use Rattle.divisor.specs.Candidate.{Call, table, prime, Numbers, A, B, lent-points, AnswerTo}
+use Rattle.divisor.specs.Rule.{Kept, Sorted, Unknowns, Solution, without-zeros, made-monic, divisor, cut-off, rejected, accepted}
+use Rattle.divisor.specs.Rule.{unsolvable, several, divided, all-bad, some-good}
+use Rattle.divisor.specs.Candidate.{Call, table, prime, Numbers, A, B, monomials, lent-points, AnswerTo}
 use Rattle.divisor.specs.Demands.{LeadsWith}
 use Rattle.divisor.specs.checks.Passed.{first-bounded, second-bounded, skeleton-falls}
 use Rattle.divisor.specs.monic.Value.{NonZero, without-zeros-nonzero}
@@ -38,6 +39,11 @@ pub record AcceptedList (p : ℕ) (P : Prime p) (most : ℕ) (G : Polynomial (Mo
   pub few : length G ≤ most
   pub falls : Falling p keys (numbers-of p P G)
   pub reads : terms-of p P (numbers-of p P G) ≡ G
+
+-- it has a term
+pub some-terms : (p : ℕ) (P : Prime p) (most : ℕ) (G : Polynomial (Modulo p P)) → AcceptedList p P most G → 0 < length (numbers-of p P G)
+some-terms p P most [] list = absurd (list .leads)
+some-terms p P most (t ∷ ts) list = omega arith
 
 module _ (p : ℕ) (P : Prime p) (small : p < coefficient-limit) where
   abbrev K : Field
@@ -97,15 +103,24 @@ module _ (p : ℕ) (P : Prime p) (small : p < coefficient-limit) where
         }
 
 module _ (c : Call) (pass : Passes (table c)) (listed : Listed (c .modulus)) where
-  -- of every accepted answer to inputs that pass
+  -- of the divisor that the kept points of inputs that pass settle
+  pub solution-list : (d b u : ℕ) (k : Kept (Numbers c listed)) (kept : List (Kept (Numbers c listed)))
+      → Sorted (Numbers c listed) (A c listed) (B c listed) d (lent-points c listed) b u (k ∷ kept)
+      → (s : Unknowns (Numbers c listed)) → Solution (Numbers c listed) (monomials c listed) (k ∷ kept) s
+      → AcceptedList (c .modulus) (prime c listed) (length (c .skeleton)) (divisor (Numbers c listed) s)
+  solution-list d b u k kept sorted s solution =
+      let image = kept-images (Numbers c listed) (A c listed) (B c listed) d (lent-points c listed) b u (k ∷ kept) sorted .0 in
+      divisor-list (c .modulus) (prime c listed) (let l = listed-below listed in omega arith) (c .skeleton) (skeleton-falls c pass) k kept s solution d
+      (image-small (Numbers c listed) (A c listed) (B c listed) (k .point) d (k .image) (first-bounded c pass listed) (second-bounded c pass listed) image)
+      (image .monic .leads)
+
+  -- of every accepted answer
   pub accepted-list : (r : CandidateRecord) (G : Polynomial (Numbers c listed)) → AnswerTo c listed r G → r .fault .number ≡ 0
       → AcceptedList (c .modulus) (prime c listed) (length (c .skeleton)) G
   accepted-list r G (all-bad all) e = absurd (omega arith)
-  accepted-list r G (some-good d b u k kept sorted n H (unsolvable z)) e = absurd (omega arith)
-  accepted-list r G (some-good d b u k kept sorted n H (several z)) e = absurd (omega arith)
-  accepted-list r G (some-good d b u k kept sorted n H (rejected s only x)) e = absurd (omega arith)
-  accepted-list r G (some-good d b u k kept sorted n H (accepted s only x)) e =
-      let image = kept-images (Numbers c listed) (A c listed) (B c listed) d (lent-points c listed) b u (k ∷ kept) sorted .0 in
-      divisor-list (c .modulus) (prime c listed) (let l = listed-below listed in omega arith) (c .skeleton) (skeleton-falls c pass) k kept s (only .0) d
-      (image-small (Numbers c listed) (A c listed) (B c listed) (k .point) d (k .image) (first-bounded c pass listed) (second-bounded c pass listed) image)
-      (image .monic .leads)
+  accepted-list r G (some-good d b u k kept sorted n H m (unsolvable z)) e = absurd (omega arith)
+  accepted-list r G (some-good d b u k kept sorted n H m (several z)) e = absurd (omega arith)
+  accepted-list r G (some-good d b u k kept sorted n H m (divided s only (cut-off a t l))) e = absurd (omega arith)
+  accepted-list r G (some-good d b u k kept sorted n H m (divided s only (rejected a t l x))) e = absurd (omega arith)
+  accepted-list r G (some-good d b u k kept sorted n H m (divided s only (accepted a t l x))) e =
+      solution-list d b u k kept sorted s (only .0)

@@ -15,17 +15,17 @@ use Rattle.field.specs.modulus.Laws.{listed-below}
 use Rattle.field.specs.Prime.{Prime}
 use Rattle.field.specs.Fp.{Fp, el}
 use Rattle.field.specs.Modulo.{Modulo}
-use Rattle.field.specs.Numbers.{NO_GOOD_POINT, NO_SOLUTION, SEVERAL_SOLUTIONS, DOES_NOT_DIVIDE}
+use Rattle.field.specs.Numbers.{NO_GOOD_POINT, NO_SOLUTION, SEVERAL_SOLUTIONS, DOES_NOT_DIVIDE, CEILING_REACHED}
 use Rattle.field.specs.Refusal.{Passes}
 use Rattle.poly.specs.Keys.{exponents}
-use Rattle.poly.specs.Terms.{Polynomial, numbers-of, poly, coefficient-limit}
+use Rattle.poly.specs.Terms.{Polynomial, terms-of, numbers-of, poly, coefficient-limit}
 use Rattle.poly.specs.Divides.{Divides}
 use Rattle.poly.specs.PointImage.{Image}
 use Rattle.field.specs.Lent.{written}
 use Rattle.poly.specs.Room.{cleared}
 use Rattle.poly.specs.image.Laws.{image-small}
 use Rattle.divisor.specs.Rule.{Counts, none-good, report, Kept, Sorted, Unknowns, Solution, OnlySolution, without-zeros, made-monic, divisor}
-use Rattle.divisor.specs.Rule.{Verdict, unsolvable, several, rejected, accepted, all-bad, some-good}
+use Rattle.divisor.specs.Rule.{Steps, cut-off, rejected, accepted, Verdict, unsolvable, several, divided, all-bad, some-good}
 use Rattle.divisor.specs.Candidate.{Call, table, prime, Numbers, A, B, monomials, lent-points, Result, Candidate, answered}
 use Rattle.divisor.specs.table.Meaning.{entries}
 use Rattle.divisor.specs.equations.Rows.{all-rows, with-coefficients, unknowns-of}
@@ -65,9 +65,9 @@ module _ (c : Call) (pass : Passes (table c)) (listed : Listed (c .modulus)) whe
 
   -- all points are bad
   pub answer-all-bad : AllZero (sizes-of (looks-of c))
-      → Candidate c (record { found = report NO_GOOD_POINT (none-good (point-count c)) 0; output = c .output; work = cleared (c .work) })
+      → Candidate c (record { found = report NO_GOOD_POINT (none-good (point-count c)) 0 0; output = c .output; work = cleared (c .work) })
   answer-all-bad h =
-      subst (λ (n : ℕ). Candidate c (record { found = report NO_GOOD_POINT (none-good n) 0; output = c .output; work = cleared (c .work) }))
+      subst (λ (n : ℕ). Candidate c (record { found = report NO_GOOD_POINT (none-good n) 0 0; output = c .output; work = cleared (c .work) }))
       (points-length p P (c .points))
       (answered pass listed _ [] (all-bad (sorting.all-bad P (A c listed) (B c listed) (lent-points c listed) (looks-of c) (looked c pass listed) h)))
 
@@ -99,23 +99,23 @@ module _ (c : Call) (pass : Passes (table c)) (listed : Listed (c .modulus)) whe
     counted u n = record { d = d; bad = bad-points; unlucky = u; kept = n }
 
     -- the record and the rooms of a verdict
-    abbrev pub result : ℕ → List ℕ → Result
-    result number terms = record {
-      found = report number (counted (point-count c - bad-points - kept-points) kept-points) (length terms);
+    abbrev pub result : ℕ → List ℕ → ℕ → Result
+    result number terms steps = record {
+      found = report number (counted (point-count c - bad-points - kept-points) kept-points) (length terms) steps;
       output = written terms (c .output);
       work = cleared (c .work);
     }
 
-    answer-verdict : (number : ℕ) (G : Polynomial (Numbers c listed))
-        → Verdict (Numbers c listed) (A c listed) (B c listed) (monomials c listed) (k ∷ ks) number G
-        → Candidate c (result number (numbers-of p P G))
-    answer-verdict number G v = subst (Candidate c)
+    answer-verdict : (number : ℕ) (G : Polynomial (Numbers c listed)) (steps : ℕ)
+        → Verdict (Numbers c listed) (A c listed) (B c listed) (monomials c listed) (k ∷ ks) (c .ceiling) number G steps
+        → Candidate c (result number (numbers-of p P G) steps)
+    answer-verdict number G steps v = subst (Candidate c)
         (λ i. record {
-          found = report number (counted (count-unlucky i) (count-kept i)) (sym (length-numbers p P G) i);
+          found = report number (counted (count-unlucky i) (count-kept i)) (sym (length-numbers p P G) i) steps;
           output = written (numbers-of p P G) (c .output);
           work = cleared (c .work);
         })
-        (answered pass listed _ G (some-good d bad-points (some .0) k ks (some .1) number G v))
+        (answered pass listed _ G (some-good d bad-points (some .0) k ks (some .1) number G steps v))
 
     -- the image at the first kept point has 1 beside x^d
     image : Image (Numbers c listed) (A c listed) (B c listed) (k .point) d (k .image)
@@ -135,14 +135,14 @@ module _ (c : Call) (pass : Passes (table c)) (listed : Listed (c .modulus)) whe
     length-monomials : length (monomials c listed) ≡ length (c .skeleton)
     length-monomials = length-map (c .skeleton) exponents
 
-    pub answer-none : linear.NoSolution (Numbers c listed) unknowns equations → Candidate c (result NO_SOLUTION [])
-    answer-none h = answer-verdict NO_SOLUTION [] (unsolvable (no-solution (Numbers c listed) (monomials c listed) k ks
+    pub answer-none : linear.NoSolution (Numbers c listed) unknowns equations → Candidate c (result NO_SOLUTION [] 0)
+    answer-none h = answer-verdict NO_SOLUTION [] 0 (unsolvable (no-solution (Numbers c listed) (monomials c listed) k ks
         (subst (λ (n : ℕ). linear.NoSolution (Numbers c listed) (n + length ks) equations) (sym length-monomials) h)))
 
     pub answer-several : (v w : List (Fp (c .modulus))) → linear.DifferentSolutions (Numbers c listed) unknowns equations v w
-        → Candidate c (result SEVERAL_SOLUTIONS [])
+        → Candidate c (result SEVERAL_SOLUTIONS [] 0)
     answer-several v w h =
-        answer-verdict SEVERAL_SOLUTIONS [] (several (several-solutions (Numbers c listed) (monomials c listed) k ks v w
+        answer-verdict SEVERAL_SOLUTIONS [] 0 (several (several-solutions (Numbers c listed) (monomials c listed) k ks v w
         (subst (λ (n : ℕ). linear.DifferentSolutions (Numbers c listed) (n + length ks) equations v w) (sym length-monomials) h)))
 
     -- the values of the only solution, of which the first are the coefficients of the skeleton
@@ -191,11 +191,24 @@ module _ (c : Call) (pass : Passes (table c)) (listed : Listed (c .modulus)) whe
       abbrev DividesBothLists : S4 (Numbers c listed .ring) .Car → Type 0
       DividesBothLists g = Divides (Numbers c listed) g (poly p P (c .first-list)) × Divides (Numbers c listed) g (poly p P (c .second-list))
 
-      pub answer-rejected : ¬ Both p P (c .first-list) (c .second-list) (monic-terms p (c .skeleton) cs) → Candidate c (result DOES_NOT_DIVIDE [])
-      answer-rejected n =
-          answer-verdict DOES_NOT_DIVIDE [] (rejected found only (λ both. n (subst DividesBothLists of-list both)))
+      -- the divisions by the list take as many steps as those by the divisor
+      module _ (n : ℕ) (takes : Steps (Numbers c listed) (A c listed) (B c listed) (terms-of (c .modulus) (prime c listed) (monic-terms (c .modulus)
+          (c .skeleton) cs)) n) where
+        divisor-takes : Steps (Numbers c listed) (A c listed) (B c listed) (divisor (Numbers c listed) found) n
+        divisor-takes =
+            subst (λ (G : Polynomial (Numbers c listed)). Steps (Numbers c listed) (A c listed) (B c listed) G n) (sym (divisor-is ∙ sym (list .reads))) takes
 
-      pub answer-accepted : Both p P (c .first-list) (c .second-list) (monic-terms p (c .skeleton) cs) → Candidate c (result 0 (monic-terms p (c .skeleton) cs))
-      answer-accepted both =
-          subst (λ (ts : List ℕ). Candidate c (result 0 ts)) of-numbers
-          (answer-verdict 0 (divisor (Numbers c listed) found) (accepted found only (subst DividesBothLists (sym of-list) both)))
+        pub answer-cut : c .ceiling < n → Candidate c (result CEILING_REACHED [] (c .ceiling))
+        answer-cut l = answer-verdict CEILING_REACHED [] (c .ceiling) (divided found only (cut-off n divisor-takes l))
+
+        pub answer-rejected : n ≤ c .ceiling → ¬ Both p P (c .first-list) (c .second-list) (monic-terms p (c .skeleton) cs)
+            → Candidate c (result DOES_NOT_DIVIDE [] n)
+        answer-rejected l not-both = answer-verdict DOES_NOT_DIVIDE [] n
+            (divided found only (rejected n divisor-takes l (λ both. not-both (subst DividesBothLists of-list both))))
+
+        pub answer-accepted : n ≤ c .ceiling → Both p P (c .first-list) (c .second-list) (monic-terms p (c .skeleton) cs)
+            → Candidate c (result 0 (monic-terms p (c .skeleton) cs) n)
+        answer-accepted l both =
+            subst (λ (ts : List ℕ). Candidate c (result 0 ts n)) of-numbers
+            (answer-verdict 0 (divisor (Numbers c listed) found) n
+            (divided found only (accepted n divisor-takes l (subst DividesBothLists (sym of-list) both))))

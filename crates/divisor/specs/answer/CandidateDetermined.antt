@@ -43,7 +43,7 @@ answered-determined c listed listed′ f g G H x y =
     (subst (λ (l : Listed (c .modulus)). (H : Polynomial (Numbers c l)) → AnswerTo c l g H → result-of c listed f G ≡ result-of c l g H)
     (listed-unique _ listed listed′)
     (λ H y.
-    let e = answer-determined (Numbers c listed) (A c listed) (B c listed) (monomials c listed) (lent-points c listed) f g G H x y in
+    let e = answer-determined (Numbers c listed) (A c listed) (B c listed) (monomials c listed) (lent-points c listed) (c .ceiling) f g G H x y in
     λ i. result-of c listed (e .0 i) (e .1 i)))
     H y
 
@@ -60,7 +60,7 @@ candidate-determined c r q (answered pass listed f G x) (answered pass′ listed
 pub answer-names : (c : Call) (listed : Listed (c .modulus)) (f : CandidateRecord) (G : Polynomial (Numbers c listed)) → AnswerTo c listed f G
     → f .fault .list ≡ list-at-fault (f .fault .number)
 answer-names c listed f G (all-bad b) = refl
-answer-names c listed f G (some-good d b u k kept s number H v) = refl
+answer-names c listed f G (some-good d b u k kept s number H m v) = refl
 
 pub candidate-another-list : (c : Call) → RefutesAnotherList (λ r. r .found .fault) (Candidate c)
 candidate-another-list c r other (refused f h) = other (refuses-names (table c) f h)

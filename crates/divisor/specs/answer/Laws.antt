@@ -26,7 +26,8 @@ use Rattle.divisor.specs.equations.Adding.{rows-ready, table-solvable}
 use Rattle.divisor.specs.equations.System.{system-rows}
 use Rattle.divisor.specs.sorting.Model.{sizes-of, least, alike, places-before, HasPlaces}
 use Rattle.divisor.specs.points.Model.{Looks}
-use Rattle.divisor.specs.verdict.Model.{NoGoodPoint, VerdictReady, Settles, Settled, MakesDivisor, unsolvable, several, rejected, accepted}
+use Rattle.divisor.specs.verdict.Model.{NoGoodPoint, VerdictReady, Settles, Settled, MakesDivisor, unsolvable, several, cut-off}
+use Rattle.divisor.specs.verdict.Model.{rejected, accepted}
 use Rattle.divisor.specs.checks.Passed.{point-count, looks-of, right-lists, keys-most, output-fits}
 use Rattle.divisor.specs.sorting.Laws.{least-is}
 use Rattle.divisor.specs.monic.Terms.{AllBelow, all-below}
@@ -132,22 +133,32 @@ module _ {c : Call} {after sizes : List ℕ} {m count : ℕ} (good : SomeGood c 
       }
 
       -- what is settled is the rule's verdict
-      settles : (number : ℕ) (terms : List ℕ) → Settles p (c .first-list) (c .second-list) (c .skeleton) s number terms
-          → Candidate c (assembled.result c pass listed d (kept .at-least) k ks (kept .kept-is) number terms)
-      settles number terms (unsolvable e) =
+      settles : (number : ℕ) (terms : List ℕ) (steps : ℕ) → Settles p (c .first-list) (c .second-list) (c .skeleton) s (c .ceiling) number terms steps
+          → Candidate c (assembled.result c pass listed d (kept .at-least) k ks (kept .kept-is) number terms steps)
+      settles number terms steps (unsolvable e) =
           assembled.answer-none c pass listed d (kept .at-least) k ks (kept .kept-is) (says-as None e)
-      settles number terms (several e) =
+      settles number terms steps (several e) =
           let q = says-as Several e in assembled.answer-several c pass listed d (kept .at-least) k ks (kept .kept-is) (q .0) (q .1) (q .2)
-      settles number terms (rejected e h) =
-          assembled.answer-rejected c pass listed d (kept .at-least) k ks (kept .kept-is) (s .values) (says-as One e) long first-below (h P)
-      settles number terms (accepted e h) =
-          assembled.answer-accepted c pass listed d (kept .at-least) k ks (kept .kept-is) (s .values) (says-as One e) long first-below (h P)
+      settles number terms steps (cut-off e n t l) =
+          assembled.answer-cut c pass listed d (kept .at-least) k ks (kept .kept-is) (s .values) (says-as One e) long first-below n (t P) l
+      settles number terms steps (rejected e n t l h) =
+          assembled.answer-rejected c pass listed d (kept .at-least) k ks (kept .kept-is) (s .values) (says-as One e) long first-below n (t P) l (h P)
+      settles number terms steps (accepted e n t l h) =
+          assembled.answer-accepted c pass listed d (kept .at-least) k ks (kept .kept-is) (s .values) (says-as One e) long first-below n (t P) l (h P)
 
       pub answered-so : (bad : ℕ) → bad ≡ alike 0 (take (point-count c) sizes) → {output work : List ℕ} (v : Ruling)
-          → Settled (c .modulus) (c .first-list) (c .second-list) (c .skeleton) s (c .output) output after work v
+          → Settled (c .modulus) (c .first-list) (c .second-list) (c .skeleton) s (c .ceiling) (c .output) output after work v
           → (f : Fault) → f ≡ fault (v .number) 0
           → Candidate c (record {
-            found = record { fault = f; degree = m - 1; bad = bad; unlucky = point-count c - bad - count; kept = count; terms = v .terms };
+            found = record {
+              fault = f;
+              degree = m - 1;
+              bad = bad;
+              unlucky = point-count c - bad - count;
+              kept = count;
+              terms = v .terms;
+              steps = v .steps;
+            };
             output = output;
             work = work;
           })
@@ -156,8 +167,16 @@ module _ {c : Call} {after sizes : List ℕ} {m count : ℕ} (good : SomeGood c 
           let kepts = sym (kept .counted) in
           subst (Candidate c)
           (λ i. record {
-            found = record { fault = sym e i; degree = d; bad = bads i; unlucky = point-count c - bads i - kepts i; kept = kepts i; terms = sym (h .count) i };
+            found = record {
+              fault = sym e i;
+              degree = d;
+              bad = bads i;
+              unlucky = point-count c - bads i - kepts i;
+              kept = kepts i;
+              terms = sym (h .count) i;
+              steps = v .steps;
+            };
             output = sym (h .writes) i;
             work = sym (h .clears ∙ same-room c pass after sizes (good .look)) i;
           })
-          (settles (v .number) (h .terms) (h .settles))
+          (settles (v .number) (h .terms) (v .steps) (h .settles))

@@ -3,7 +3,7 @@
 use mathlib.Core.Path.{_≡_, sym, _∙_, ap, subst}
 use mathlib.Core.List.{List, [], _∷_, map}
 use lib.ListN.{length}
-use Prim.Native.Nat.{ℕ}
+use Prim.Native.Nat.{ℕ, _≤_}
 use Rattle.algebra.specs.Ring.{CommRing}
 use Rattle.algebra.specs.Field.{Field}
 use Rattle.algebra.specs.Series.{Seq}
@@ -22,7 +22,7 @@ use Rattle.poly.specs.PointImage.{Image}
 use Rattle.poly.specs.image.Laws.{image-top}
 use Rattle.poly.specs.value.Laws.{polynomial-finite, value-finite, value-of-polynomial, Bounded}
 use Rattle.divisor.specs.Rule.{report, DividesBoth, Kept, Sorted, Unknowns, Equations, Solution, OnlySolution, without-zeros, divided-by}
-use Rattle.divisor.specs.Rule.{made-monic, divisor, Verdict, accepted, RuleAnswer, some-good}
+use Rattle.divisor.specs.Rule.{made-monic, divisor, Steps, accepted, divided, RuleAnswer, some-good}
 use Rattle.divisor.specs.Demands.{DegreeX}
 use Rattle.divisor.specs.monic.Value.{value-divided}
 use Rattle.divisor.specs.monic.Laws.{monic-of-multiple, monic-divides, divided-monomials}
@@ -77,17 +77,21 @@ module _ (K : Field) (A B : Polynomial K) (first : Bounded K A) (second : Bounde
       holds = equations-hold (value R C (k .point) d) (k ∷ ks) h;
     }
 
-    -- DEMAND 3, second half
-    pub common-divisor-found : (monomials : List Exponents) → map (λ (t : Term R). t .exponents) C ≡ monomials
-        → (points : List (Point R)) (b u : ℕ) (k : Kept K) (kept : List (Kept K)) → Sorted K A B d points b u (k ∷ kept)
-        → (s : Unknowns K) → OnlySolution K monomials (k ∷ kept) s
-        → RuleAnswer K A B monomials points
-        (report 0 (record { d = d; bad = b; unlucky = u; kept = length (k ∷ kept) }) (length (made-monic K (without-zeros K C))))
-        (made-monic K (without-zeros K C))
-    common-divisor-found monomials e points b u k kept sorted s only =
-        let images = kept-images K A B d points b u (k ∷ kept) sorted in
-        let same : divisor K s ≡ made-monic K (without-zeros K C) =
-        ap (divisor K) (sym (only .1 (solution-of k kept) (solution-holds monomials e k kept images)))
-        ∙ monic-of-multiple K (value R C (k .point) d) (value-top (k .point) (k .image) (images .0) .nonzero) C in
-        some-good d b u k kept sorted 0 _ (subst (Verdict K A B monomials (k ∷ kept) 0) same
-        (accepted s only (subst (DividesBoth K A B) (sym same) (monic-divides K C _ (both .0), monic-divides K C _ (both .1)))))
+    -- the points sorted, and the only solution of their equations
+    module _ (monomials : List Exponents) (e : map (λ (t : Term R). t .exponents) C ≡ monomials) (points : List (Point R)) (b u : ℕ) (k : Kept K)
+        (kept : List (Kept K)) (sorted : Sorted K A B d points b u (k ∷ kept)) (s : Unknowns K) (only : OnlySolution K monomials (k ∷ kept) s) where
+      -- makes the divisor that C is, made monic
+      pub divisor-is-monic : divisor K s ≡ made-monic K (without-zeros K C)
+      divisor-is-monic =
+          let images = kept-images K A B d points b u (k ∷ kept) sorted in
+          ap (divisor K) (sym (only .1 (solution-of k kept) (solution-holds monomials e k kept images)))
+          ∙ monic-of-multiple K (value R C (k .point) d) (value-top (k .point) (k .image) (images .0) .nonzero) C
+
+      pub divisor-divides : DividesBoth K A B (divisor K s)
+      divisor-divides = subst (DividesBoth K A B) (sym divisor-is-monic) (monic-divides K C _ (both .0), monic-divides K C _ (both .1))
+
+      -- DEMAND 3, second half
+      pub common-divisor-found : (ceiling n : ℕ) → Steps K A B (divisor K s) n → n ≤ ceiling
+          → RuleAnswer K A B monomials points ceiling
+          (report 0 (record { d = d; bad = b; unlucky = u; kept = length (k ∷ kept) }) (length (divisor K s)) n) (divisor K s)
+      common-divisor-found ceiling n steps l = some-good d b u k kept sorted 0 _ n (divided s only (accepted n steps l divisor-divides))

@@ -26,7 +26,7 @@ use Rattle.poly.specs.image.Laws.{good-keeps, image-small}
 use Rattle.poly.specs.value.Laws.{polynomial-finite, valued, value-of-polynomial, Bounded, polynomial-ends}
 use Rattle.divisor.specs.declared.CandidateRecord.{CandidateRecord}
 use Rattle.divisor.specs.Rule.{DividesBoth, Kept, Sorted, done, bad, unlucky, keep, First, Equations, Unknowns, Solution, without-zeros}
-use Rattle.divisor.specs.Rule.{divisor, unsolvable, several, rejected, accepted, RuleAnswer, all-bad, some-good}
+use Rattle.divisor.specs.Rule.{divisor, cut-off, rejected, accepted, unsolvable, several, divided, RuleAnswer, all-bad, some-good}
 use Rattle.divisor.specs.Demands.{DegreeX, IsPolynomial, GreatestInX}
 use Rattle.divisor.specs.monic.Value.{value-without-zeros, without-zeros-nonzero, made-monic-nonzero}
 
@@ -131,14 +131,16 @@ module _ (K : Field) where
       }
 
   -- DEMAND 3, first half
-  pub accepted-greatest : (A B : Polynomial K) (monomials : List Exponents) (points : List (Point R)) → Bounded K A → Bounded K B
-      → (r : CandidateRecord) (G : Polynomial K) → RuleAnswer K A B monomials points r G → r .fault .number ≡ 0 → GreatestInX K A B G (r .degree)
-  accepted-greatest A B monomials points first second r G (all-bad all) e = absurd (omega arith)
-  accepted-greatest A B monomials points first second r G (some-good d b u k kept sorted n H (unsolvable z)) e =
+  pub accepted-greatest : (A B : Polynomial K) (monomials : List Exponents) (points : List (Point R)) (ceiling : ℕ) → Bounded K A → Bounded K B
+      → (r : CandidateRecord) (G : Polynomial K) → RuleAnswer K A B monomials points ceiling r G → r .fault .number ≡ 0 → GreatestInX K A B G (r .degree)
+  accepted-greatest A B monomials points ceiling first second r G (all-bad all) e = absurd (omega arith)
+  accepted-greatest A B monomials points ceiling first second r G (some-good d b u k kept sorted n H m (unsolvable z)) e =
       absurd (omega arith)
-  accepted-greatest A B monomials points first second r G (some-good d b u k kept sorted n H (several s)) e =
+  accepted-greatest A B monomials points ceiling first second r G (some-good d b u k kept sorted n H m (several s)) e =
       absurd (omega arith)
-  accepted-greatest A B monomials points first second r G (some-good d b u k kept sorted n H (rejected s only x)) e =
+  accepted-greatest A B monomials points ceiling first second r G (some-good d b u k kept sorted n H m (divided s only (cut-off a t l))) e =
       absurd (omega arith)
-  accepted-greatest A B monomials points first second r G (some-good d b u k kept sorted n H (accepted s only both)) e =
+  accepted-greatest A B monomials points ceiling first second r G (some-good d b u k kept sorted n H m (divided s only (rejected a t l x))) e =
+      absurd (omega arith)
+  accepted-greatest A B monomials points ceiling first second r G (some-good d b u k kept sorted n H m (divided s only (accepted a t l both))) e =
       accepted-degree A B monomials points first second d b u k kept sorted s (only .0) both

@@ -47,4 +47,4 @@ good-point-sorts c pass listed good = go (least sizes) (least-is 0 sizes)
 pub good-point-suffices : (c : Call) (r : Result) → Candidate c r → GoodPointSuffices c r
 good-point-suffices c r meets pass listed good =
     let found = good-point-sorts c pass listed good in
-    (found, common-divisor-comes-out c r meets pass listed (found .d) (found .bad) (found .unlucky) (found .first) (found .others) (found .sorted))
+    (found, common-divisor-comes-out c r meets pass listed found)

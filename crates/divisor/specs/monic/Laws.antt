@@ -42,7 +42,7 @@ module _ (K : Field) where
   monomial-times e u i = monomial-mul R e _ u i
       ∙ ap (λ (f : Exponents). monomial R f (u * i)) (exponents-path (add-zero (e .x)) (add-zero (e .y)) (add-zero (e .z)) (add-zero (e .w)))
 
-  polynomial-divided : (c : Car) (f : Polynomial K) → polynomial R (divided-by K c f) ≡ S4 R .mul (polynomial R f) (constant K (K .inv c))
+  pub polynomial-divided : (c : Car) (f : Polynomial K) → polynomial R (divided-by K c f) ≡ S4 R .mul (polynomial R f) (constant K (K .inv c))
   unfolding polynomial divided-by
   polynomial-divided c [] = sym (zero-mul (S4 R) _)
   polynomial-divided c (t ∷ ts) =

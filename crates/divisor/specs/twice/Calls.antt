@@ -125,7 +125,7 @@ module _ (c : Call) (i j : ℕ) (k : i < j) (h : 3 * j ≤ length (c .points)) w
   alike r r′ (answered own listed f G x) meets pass =
       let q = repeated-point (Numbers c listed) (A c listed) (B c listed) (first-bounded c own listed) (second-bounded c own listed)
       (monomials c listed)
-      (points-again (c .modulus) (prime c listed) i j k (c .points) h) f G x in
+      (points-again (c .modulus) (prime c listed) i j k (c .points) h) (c .ceiling) f G x in
       subst (λ (t : Result). AlikeButOne c i r t)
       (candidate-determined (again c i j) _ r′ (answered pass listed (q .found) G (q .answer)) meets)
       (record { listed = listed; found = q .one-more; same-output = refl; same-work = refl })

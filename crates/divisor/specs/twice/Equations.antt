@@ -10,8 +10,7 @@ use Rattle.algebra.specs.Field.{Field}
 use Rattle.algebra.specs.Four.{Exponents}
 use Rattle.poly.specs.Terms.{Polynomial}
 use Rattle.poly.specs.PointValue.{value}
-use Rattle.divisor.specs.Rule.{DividesBoth, Kept, Unknowns, First, Equations, Solution, OnlySolution, divisor, Verdict, unsolvable, several}
-use Rattle.divisor.specs.Rule.{rejected, accepted}
+use Rattle.divisor.specs.Rule.{Kept, Unknowns, First, Equations, Solution, OnlySolution, divisor, Tried, Verdict, unsolvable, several, divided}
 
 -- ys is xs with x once more, at some place
 pub data Inserted {X : Type 0} (x : X) : List X → List X → Type 0 where
@@ -132,18 +131,17 @@ module _ (K : Field) where
     only-to : (s : Unknowns K) → OnlySolution K es ks s → OnlySolution K es ls (to s)
     only-to s only = (solves-to s (only .0), λ t h. sym (to-from t h) ∙ ap to (only .1 (from t) (solves-from t h)))
 
-    same-verdict : (n : ℕ) (G : Polynomial K) → Verdict K A B es ks n G → Verdict K A B es ls n G
-    same-verdict n G (unsolvable z) = unsolvable (λ t h. z (from t) (solves-from t h))
-    same-verdict n G (several q) = several (
+    same-verdict : (ceiling n : ℕ) (G : Polynomial K) (steps : ℕ) → Verdict K A B es ks ceiling n G steps → Verdict K A B es ls ceiling n G steps
+    same-verdict ceiling n G steps (unsolvable z) = unsolvable (λ t h. z (from t) (solves-from t h))
+    same-verdict ceiling n G steps (several q) = several (
       to (q .0),
       to (q .1),
       solves-to (q .0) (q .2),
       solves-to (q .1) (q .3),
       λ e. q .4 (sym (from-to (q .0) (q .2)) ∙ ap from e ∙ from-to (q .1) (q .3)),
     )
-    same-verdict n G (rejected s only x) = rejected (to s) (only-to s only) (λ y. x (subst (DividesBoth K A B) (same s) y))
-    same-verdict n G (accepted s only x) =
-        subst (Verdict K A B es ls 0) (same s) (accepted (to s) (only-to s only) (subst (DividesBoth K A B) (sym (same s)) x))
+    same-verdict ceiling n G steps (divided s only x) =
+        divided (to s) (only-to s only) (subst (λ (H : Polynomial K). Tried K A B H ceiling n G steps) (sym (same s)) x)
 
   -- the verdict on the kept points is the same with a point that is kept once more
   module _ (A B : Polynomial K) (es : List Exponents) {k : Kept K} {ks ls : List (Kept K)} (b : Again k ks ls) (d : ℕ) (small : d < 8)
@@ -176,8 +174,8 @@ module _ (K : Field) where
     back-more s h =
         λ i. record { skeleton = s .skeleton; multipliers = repeated-adds-nothing (s .skeleton) d small one b (s .multipliers) (h .holds) .1 i }
 
-    pub repeated-verdict : (n : ℕ) (G : Polynomial K) → Verdict K A B es ks n G ↔ Verdict K A B es ls n G
-    repeated-verdict n G = (
-      same-verdict A B es ks ls with-more with-less solves-more solves-less back-less back-more (λ s. refl) n G,
-      same-verdict A B es ls ks with-less with-more solves-less solves-more back-more back-less (λ s. refl) n G,
+    pub repeated-verdict : (ceiling n : ℕ) (G : Polynomial K) (steps : ℕ) → Verdict K A B es ks ceiling n G steps ↔ Verdict K A B es ls ceiling n G steps
+    repeated-verdict ceiling n G steps = (
+      same-verdict A B es ks ls with-more with-less solves-more solves-less back-less back-more (λ s. refl) ceiling n G steps,
+      same-verdict A B es ls ks with-less with-more solves-less solves-more back-more back-less (λ s. refl) ceiling n G steps,
     )

@@ -92,40 +92,40 @@ module _ (K : Field) (A B : Polynomial K) where
     sorted-again (later q) (keep U i s) = let r = sorted-again q s in (_, _, _, keep U i (r .3), counted-kept (r .4))
 
   -- an answer that differs in one count of points alone
-  pub record AnsweredAlike (es : List Exponents) (at : Point R) (points : List (Point R)) (r : CandidateRecord) (G : Polynomial K) : Type 0 where
+  pub record AnsweredAlike (es : List Exponents) (at : Point R) (points : List (Point R)) (ceiling : ℕ) (r : CandidateRecord) (G : Polynomial K) : Type 0 where
     pub found : CandidateRecord
-    pub answer : RuleAnswer K A B es points found G
+    pub answer : RuleAnswer K A B es points ceiling found G
     pub one-more : OneMore K A B at r found
 
   pub repeated-point : Bounded K A → Bounded K B → (es : List Exponents) {at : Point R} {ps qs : List (Point R)} → Again at ps qs
-      → (r : CandidateRecord) (G : Polynomial K) → RuleAnswer K A B es ps r G → AnsweredAlike es at qs r G
-  repeated-point first second es {at} {ps} {qs} a r G (all-bad h) = record {
-    found = report NO_GOOD_POINT (none-good (length qs)) 0;
+      → (ceiling : ℕ) (r : CandidateRecord) (G : Polynomial K) → RuleAnswer K A B es ps ceiling r G → AnsweredAlike es at qs ceiling r G
+  repeated-point first second es {at} {ps} {qs} a ceiling r G (all-bad h) = record {
+    found = report NO_GOOD_POINT (none-good (length qs)) 0 0;
     answer = all-bad (bad-again a h);
-    one-more = subst (λ (n : ℕ). OneMore K A B at (report NO_GOOD_POINT (none-good (length ps)) 0) (report NO_GOOD_POINT (none-good n) 0))
+    one-more = subst (λ (n : ℕ). OneMore K A B at (report NO_GOOD_POINT (none-good (length ps)) 0 0) (report NO_GOOD_POINT (none-good n) 0 0))
         (sym (again-length a)) (one-bad (bad-there a h));
   }
-  repeated-point first second es {at} {ps} {qs} a r G (some-good d b u k kept s n H v) =
+  repeated-point first second es {at} {ps} {qs} a ceiling r G (some-good d b u k kept s n H m v) =
       let t = sorted-again d a s in go (t .0) (t .1) (t .2) (t .3) (t .4)
     where
       told : ℕ → CandidateRecord
-      told m = report n (record { d = d; bad = b; unlucky = u; kept = m }) (length H)
+      told c = report n (record { d = d; bad = b; unlucky = u; kept = c }) (length H) m
 
       before : CandidateRecord
       before = told (length (k ∷ kept))
 
       kept-once-more : (ls : List (Kept K)) (U : Seq R) → Image K A B at d U → Again (record { point = at; image = U }) (k ∷ kept) ls
-          → Sorted K A B d qs b u ls → AnsweredAlike es at qs before H
+          → Sorted K A B d qs b u ls → AnsweredAlike es at qs ceiling before H
       kept-once-more [] U i q t = absurd (let e = again-length q in omega arith)
       kept-once-more (l ∷ ls) U i q t = record {
         found = told (length (l ∷ ls));
-        answer = some-good d b u l ls t n H
-            (repeated-verdict K A B es q d (image-small K A B at d U first second i) (i .monic .leads) n H .0 v);
-        one-more = subst (λ (m : ℕ). OneMore K A B at before (told m)) (sym (again-length q)) (one-kept U i);
+        answer = some-good d b u l ls t n H m
+            (repeated-verdict K A B es q d (image-small K A B at d U first second i) (i .monic .leads) ceiling n H m .0 v);
+        one-more = subst (λ (c : ℕ). OneMore K A B at before (told c)) (sym (again-length q)) (one-kept U i);
       }
 
-      go : (c w : ℕ) (ls : List (Kept K)) → Sorted K A B d qs c w ls → Counted d at b u (k ∷ kept) c w ls → AnsweredAlike es at qs before H
-      go c w ls t (bad-more x) = record { found = _; answer = some-good d c w k kept t n H v; one-more = one-bad x }
+      go : (c w : ℕ) (ls : List (Kept K)) → Sorted K A B d qs c w ls → Counted d at b u (k ∷ kept) c w ls → AnsweredAlike es at qs ceiling before H
+      go c w ls t (bad-more x) = record { found = _; answer = some-good d c w k kept t n H m v; one-more = one-bad x }
       go c w ls t (unlucky-more e U i l) =
-          record { found = _; answer = some-good d c w k kept t n H v; one-more = one-unlucky e U i l }
+          record { found = _; answer = some-good d c w k kept t n H m v; one-more = one-unlucky e U i l }
       go c w ls t (kept-more U i q) = kept-once-more ls U i q t

@@ -20,8 +20,8 @@ use Rattle.field.specs.Lent.{written}
 use Rattle.poly.specs.key.Laws.{Digits, digits-of, exponents-of-key}
 use Rattle.poly.specs.key.Terms.{key-of-term, coefficient-of-term}
 use Rattle.divisor.specs.declared.CandidateRecord.{CandidateRecord}
-use Rattle.divisor.specs.Rule.{Kept, Unknowns, Solution, without-zeros, divided-by, made-monic, divisor, unsolvable, several, rejected}
-use Rattle.divisor.specs.Rule.{accepted, all-bad, some-good}
+use Rattle.divisor.specs.Rule.{Kept, Unknowns, Solution, without-zeros, divided-by, made-monic, divisor, cut-off, rejected}
+use Rattle.divisor.specs.Rule.{accepted, unsolvable, several, divided, all-bad, some-good}
 use Rattle.divisor.specs.Candidate.{Call, prime, Numbers, A, AnswerTo, handed-out}
 use Rattle.divisor.specs.answer.CandidateDetermined.{result-of}
 use Rattle.divisor.specs.monic.Value.{zero-dropped, nonzero-kept}
@@ -108,10 +108,11 @@ module _ (p : ℕ) (P : Prime p) (small : p < coefficient-limit) where
 pub answer-counts : (c : Call) (listed : Listed (c .modulus)) (r : CandidateRecord) (G : Polynomial (Numbers c listed))
     → AnswerTo c listed r G → Keyed (Numbers c listed) G × (r .terms ≡ length G)
 answer-counts c listed r G (all-bad all) = (tt, refl)
-answer-counts c listed r G (some-good d b u k kept sorted n H (unsolvable x)) = (tt, refl)
-answer-counts c listed r G (some-good d b u k kept sorted n H (several x)) = (tt, refl)
-answer-counts c listed r G (some-good d b u k kept sorted n H (rejected s x y)) = (tt, refl)
-answer-counts c listed r G (some-good d b u k kept sorted n H (accepted s only x)) =
+answer-counts c listed r G (some-good d b u k kept sorted n H m (unsolvable x)) = (tt, refl)
+answer-counts c listed r G (some-good d b u k kept sorted n H m (several x)) = (tt, refl)
+answer-counts c listed r G (some-good d b u k kept sorted n H m (divided s only (cut-off a t l))) = (tt, refl)
+answer-counts c listed r G (some-good d b u k kept sorted n H m (divided s only (rejected a t l x))) = (tt, refl)
+answer-counts c listed r G (some-good d b u k kept sorted n H m (divided s only (accepted a t l x))) =
     (divisor-within (Numbers c listed) (c .skeleton) (k ∷ kept) s (only .0) .keyed, refl)
 
 -- in an answered call the output holds G

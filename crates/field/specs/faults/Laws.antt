@@ -4,7 +4,7 @@ use mathlib.Core.Path.{_≡_, refl, sym, _∙_, ap, subst}
 use mathlib.Core.Logic.{inl, inr}
 use mathlib.Core.Bool.{Bool, true, _&&_}
 use mathlib.Core.List.{List, [], _∷_, _++_}
-use Prim.Native.Nat.{ℕ}
+use Prim.Native.Nat.{ℕ, _<_}
 use native.Mathlib.Decide.{decLt}
 use native.Mathlib.Omega.{arith}
 use lib.Dec.{T, ltb, ltb→lt}
@@ -124,18 +124,30 @@ pub passes-back : (front back : List Line) → Passes (front ++ back) → Passes
 passes-back [] back h = h
 passes-back (l ∷ front) back h = passes-back front back (h .1)
 
--- Where each number is above 0, the fault's number tells whether the table passed. A table of literals has it by `tt`.
+-- What holds of each number of a table holds of the fault's. A table of literals has it by `tt`.
+abbrev pub each-number : (ℕ → Bool) → List Line → Bool
+each-number test [] = true
+each-number test (l ∷ lines) = test (l .number) && each-number test lines
+
+refuses-tested : (test : ℕ → Bool) (lines : List Line) → T (each-number test lines) → (f : Fault) → Refuses lines f → T (test (f .number))
+refuses-tested test [] t f h = absurd h
+refuses-tested test (l ∷ lines) t f (inl h) =
+    subst (λ (n : ℕ). T (test n)) (sym (ap (λ (f : Fault). f .number) (h .1))) (and-yes (test (l .number)) (each-number test lines) t .0)
+refuses-tested test (l ∷ lines) t f (inr h) = refuses-tested test lines (and-yes (test (l .number)) (each-number test lines) t .1) f (h .1)
+
+-- each number is above 0, so the fault's number tells whether the table passed
 abbrev pub numbered : List Line → Bool
-numbered [] = true
-numbered (l ∷ lines) = ltb 0 (l .number) && numbered lines
+numbered = each-number (ltb 0)
 
 pub refuses-numbered : (lines : List Line) → T (numbered lines) → (f : Fault) → Refuses lines f → ¬ (f .number ≡ 0)
-refuses-numbered [] t f h e = h
-refuses-numbered (l ∷ lines) t f (inl h) e =
-    let n : f .number ≡ l .number = ap (λ (f : Fault). f .number) (h .1) in
-    omega (arith, ltb→lt 0 (l .number) (and-yes (ltb 0 (l .number)) (numbered lines) t .0))
-refuses-numbered (l ∷ lines) t f (inr h) e =
-    refuses-numbered lines (and-yes (ltb 0 (l .number)) (numbered lines) t .1) f (h .1) e
+refuses-numbered lines t f h e = omega (arith, ltb→lt 0 (f .number) (refuses-tested (ltb 0) lines t f h))
+
+-- each number is below n
+abbrev pub numbered-below : ℕ → List Line → Bool
+numbered-below n = each-number (λ m. ltb m n)
+
+pub refuses-below : (n : ℕ) (lines : List Line) → T (numbered-below n lines) → (f : Fault) → Refuses lines f → f .number < n
+refuses-below n lines t f h = ltb→lt (f .number) n (refuses-tested (λ m. ltb m n) lines t f h)
 
 pub tested-passes : (lines : List Line) → T (numbered lines) → (f : Fault) → Tested lines f → f .number ≡ 0 → Passes lines × (f ≡ none)
 tested-passes lines t f (refused h) z = absurd (refuses-numbered lines t f h z)

@@ -5,11 +5,10 @@ use mathlib.Core.List.{List, [], _∷_}
 use Prim.Native.Nat.{ℕ, _-_, _≤_, _<_}
 use native.Mathlib.Omega.{arith}
 use borrow.Author.Needs.{needs}
-use lib.ListN.{length, getD, replicate, length-map, length-replicate}
+use lib.ListN.{length, getD, replicate, length-replicate}
 use native.Mathlib.Decide.{decLt}
 use Rattle.algebra.specs.SeriesRing.{S4}
 use Rattle.algebra.specs.Four.{Exponents, _⊞_, _≼_}
-use Rattle.algebra.specs.Monomial.{Term}
 use Rattle.algebra.specs.Division.{stop, Division}
 use Rattle.algebra.specs.Laws.Ring.{zero-add}
 use Rattle.field.specs.Fp.{Fp, el, inv, mul}
@@ -20,7 +19,7 @@ use Rattle.field.specs.modulus.Prime.{prime-positive}
 use Rattle.field.specs.modulus.Laws.{listed-below}
 use Rattle.field.specs.Modulo.{Modulo}
 use Rattle.poly.specs.Keys.{exponents, keys}
-use Rattle.poly.specs.Terms.{key-of, coefficient-of, term-of, terms-of, poly, coefficient-limit}
+use Rattle.poly.specs.Terms.{key-of, coefficient-of, terms-of, poly, coefficient-limit}
 use Rattle.poly.specs.TrialDivision.{CanDivide}
 use Rattle.field.specs.loops.Places.{replicate-all}
 use Rattle.poly.specs.key.Difference.{at-most-says, at-most-of, exponents-difference}
@@ -134,19 +133,19 @@ module _ (p : ℕ) (P : Prime p) where
   divided-division (t ∷ ts) (u ∷ us) h l c empty =
       lists-division p P t ts u us (h .dividend-falls) (h .divisor-falls) (h .word) l c empty
 
-  -- a division that ends, with its terms and its answer
-  pub record Ended (f g : List ℕ) : Type 0 where
-    pub terms : List (Term (Modulo p P .ring))
-    pub whole : Bool
-    pub division : Division (Modulo p P .ring) (poly p P f) (poly p P g) terms whole
-    pub few : length terms ≤ keys
+-- a division that ends, with its terms and its answer
+pub record Ended (p : ℕ) (f g : List ℕ) : Type 0 where
+  pub terms : List ℕ
+  pub whole : Bool
+  pub division : (P : Prime p) → Division (Modulo p P .ring) (poly p P f) (poly p P g) (terms-of p P terms) whole
+  pub few : length terms ≤ keys
 
-  -- the rule ends within as many steps as there are keys
-  pub division-ends : (f g : List ℕ) → Dividing p f g → Ended f g
-  division-ends f g h =
-      record {
-        terms = terms-of p P (found p f g no-cells);
-        whole = divided p f g no-cells [] .whole;
-        division = divided-division f g h no-cells [] no-cells-empty;
-        few = omega (arith, length-map (found p f g no-cells) (term-of p P), found-terms-few p f g no-cells);
-      }
+-- the rule ends within as many steps as there are keys
+pub division-ends : (p : ℕ) (f g : List ℕ) → Dividing p f g → Ended p f g
+division-ends p f g h =
+    record {
+      terms = found p f g no-cells;
+      whole = divided p f g no-cells [] .whole;
+      division = λ P. divided-division p P f g h no-cells [] no-cells-empty;
+      few = found-terms-few p f g no-cells;
+    }

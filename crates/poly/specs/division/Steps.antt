@@ -34,6 +34,26 @@ module _ (d : Setting) (l c : List ℕ) where
     unfolding divide-from
     division-stopped n f = rw (e, ne-eqb _ _ n, divide-from) (rw (f, divide-from))
 
+-- and the terms found
+module _ (d : Setting) (l : List ℕ) where
+  pub found-done : {k : ℕ} → k ≡ 0 → found-from d k l ≡ []
+  unfolding found-from
+  found-done e = ap (λ (n : ℕ). found-from d n l) e
+
+  module _ {j k : ℕ} (e : k ≡ suc j) where
+    pub found-passed : getD l j 0 ≡ 0 → found-from d k l ≡ found-from d j l
+    unfolding found-from
+    found-passed z = rw (e, eq-eqb _ _ z, found-from)
+
+    pub found-taken : ¬ (getD l j 0 ≡ 0) → fits d j ≡ true → {q : ℕ} → q ≡ factor d j l
+        → found-from d k l ≡ keyed (j - d .lead) q ∷ found-from d j (less-product (d .modulus) (j - d .lead) q (d .terms) l)
+    unfolding found-from
+    found-taken n f eq = rw (eq, e, ne-eqb _ _ n, found-from) (rw (f, found-from))
+
+    pub found-stopped : ¬ (getD l j 0 ≡ 0) → fits d j ≡ false → found-from d k l ≡ []
+    unfolding found-from
+    found-stopped n f = rw (e, ne-eqb _ _ n, found-from) (rw (f, found-from))
+
 -- What holds where a division ends, and of one cell more where it holds of what is left, holds of every division: of its cells l and c,
 -- the terms found and the outcome.
 module _ (d : Setting) (Holds : ℕ → List ℕ → List ℕ → List ℕ → Outcome → Type 0)

@@ -1,7 +1,6 @@
 -- Division in the lent work room: the remainder's cells, the quotient's cells, and what is beyond;
 -- what the functions of the division and the quotient ask for and promise.
 use mathlib.Core.Path.{_≡_}
-use mathlib.Core.Bool.{Bool}
 use mathlib.Core.List.{List}
 use Prim.Native.Nat.{ℕ, _≤_, _<_}
 use lib.ListN.{length, getD, take, drop}
@@ -10,9 +9,10 @@ use Rattle.poly.specs.Keys.{keys}
 use Rattle.poly.specs.Terms.{key-of}
 use Rattle.field.specs.Lent.{written}
 use Rattle.poly.specs.Room.{work-room}
-use Rattle.poly.specs.TrialDivision.{CanDivide}
+use Rattle.poly.specs.declared.Trial.{Trial}
+use Rattle.poly.specs.TrialDivision.{CanDivide, Told}
 use Rattle.poly.specs.division.SpreadModel.{gathered}
-use Rattle.poly.specs.division.Model.{KeysBelow, Setting, divide-from, divided}
+use Rattle.poly.specs.division.Model.{KeysBelow, Setting, Outcome, divide-from, found-from, divided, found}
 
 abbrev pub remainder-cells : List ℕ → List ℕ
 remainder-cells work = take keys work
@@ -37,20 +37,28 @@ pub record CanStep (d : Setting) (top : ℕ) (work : List ℕ) : Type 0 where
   pub above : (i : ℕ) → top ≤ i → i < keys → getD work i 0 ≡ 0
   pub leads : (i : ℕ) → i < length (d .terms) → key-of (getD (d .terms) i 0) ≤ d .lead
 
--- the model's outcome, and what is beyond the cells left
-pub record Stepped (d : Setting) (before after : List ℕ) (whole : Bool) : Type 0 where
-  pub outcome : record { whole = whole; quotient = quotient-cells after } ≡ divide-from d keys (remainder-cells before) (quotient-cells before)
+-- A division of which the model finds the terms qs and has the outcome o, under a ceiling: what is told, the quotient's cells where it is not cut off, and
+-- what is beyond the cells left.
+pub record Ran (ceiling : ℕ) (qs : List ℕ) (o : Outcome) (before after : List ℕ) (r : Trial) : Type 0 where
+  pub told : Told ceiling (length qs) (o .whole) r
+  pub quotient : length qs ≤ ceiling → quotient-cells after ≡ o .quotient
   pub rest : beyond after ≡ beyond before
+
+-- the steps
+abbrev pub Stepped : Setting → ℕ → List ℕ → List ℕ → Trial → Type 0
+Stepped d ceiling before after =
+    Ran ceiling (found-from d keys (remainder-cells before)) (divide-from d keys (remainder-cells before) (quotient-cells before)) before after
 
 -- for a division of two lists: the remainder's cells are 0
 pub record CanBegin (p : ℕ) (dividend divisor work : List ℕ) : Type 0 where
   pub lists : CanDivide p dividend divisor work
   pub empty : (i : ℕ) → i < keys → getD work i 0 ≡ 0
 
--- the same of the whole division
-pub record Divided (p : ℕ) (dividend divisor before after : List ℕ) (whole : Bool) : Type 0 where
-  pub outcome : record { whole = whole; quotient = quotient-cells after } ≡ divided p dividend divisor (remainder-cells before) (quotient-cells before)
-  pub rest : beyond after ≡ beyond before
+-- the whole division
+abbrev pub Divided : ℕ → List ℕ → List ℕ → ℕ → List ℕ → List ℕ → Trial → Type 0
+Divided p dividend divisor ceiling before after =
+    Ran ceiling (found p dividend divisor (remainder-cells before)) (divided p dividend divisor (remainder-cells before) (quotient-cells before))
+    before after
 
 -- for the gathering of the quotient's terms
 pub record CanGather (cells out : List ℕ) : Type 0 where

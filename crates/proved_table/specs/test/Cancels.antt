@@ -17,7 +17,7 @@ use Rattle.proved_table.specs.test.Rows.{listed-and, same-numbers, test,
 
 -- the numbers of the key's record
 abbrev pub cancel-numbers : CancelRecord → List ℕ
-cancel-numbers r = after-fault (r .fault) (r .degree ∷ r .bad ∷ r .unlucky ∷ r .kept ∷ r .numerator ∷ r .denominator ∷ [])
+cancel-numbers r = after-fault (r .fault) (r .degree ∷ r .bad ∷ r .unlucky ∷ r .kept ∷ r .numerator ∷ r .denominator ∷ r .steps ∷ [])
 
 -- the first coefficient is 1
 unfoldable pub begins-with-one : List ℕ → Bool

@@ -46,11 +46,11 @@ use Rattle.proved_table.specs.test.Cancels.{cancel-numbers, begins-with-
 -- the record of a row that passes counts its terms
 terms-counted : (r : Row) → test r ≡ true → r .found .terms ≡ length (r .terms)
 terms-counted r h = test-settles r (λ found terms. found .terms ≡ length terms)
-    (λ listed. counted (computed (r .modulus) (listed-prime listed) (r .first-list) (r .second-list) (r .skeleton) (r .points))) h
+    (λ listed. counted (computed (r .modulus) (listed-prime listed) (r .first-list) (r .second-list) (r .skeleton) (r .points) (r .ceiling))) h
   where
     counted : (x : Computed) → Told (λ found terms. found .terms ≡ length terms) x
     counted unanswered = tt
-    counted (computed-answer number counts ts) = refl
+    counted (computed-answer number counts ts steps) = refl
 
 -- what the candidate answers to a row that passes: the row's record, and the polynomial of the row's terms
 row-answered : (r : Row) → test r ≡ true → (listed : Listed (r .modulus)) (output work : List ℕ) → length (r .skeleton) ≤ length output
@@ -79,9 +79,15 @@ unfolding begins-with-one
 leads-with-one p P [] k = false≢true k
 leads-with-one p P (t ∷ ts) k = ap (el p) (eqb-true (coefficient-of t) 1 k)
 
+-- a record with other steps
+abbrev with-steps : CandidateRecord → ℕ → CandidateRecord
+with-steps r steps =
+    record { fault = r .fault; degree = r .degree; bad = r .bad; unlucky = r .unlucky; kept = r .kept; terms = r .terms; steps = steps }
+
 -- a record is known by its numbers
 record-known : (r q : CancelRecord) → cancel-numbers r ≡ cancel-numbers q → r ≡ q
-record-known r q e = after-fault-known (λ f l. r ≡ with-both (record-of f l) (getD l 4 0) (getD l 5 0)) (r .fault) (q .fault) _ _ e refl
+record-known r q e =
+    after-fault-known (λ f l. r ≡ with-both (with-steps (record-of f l) (getD l 6 0)) (getD l 4 0) (getD l 5 0)) (r .fault) (q .fault) _ _ e refl
 
 module _ (r : CancelRow) where
   abbrev p : ℕ

@@ -21,7 +21,7 @@ use Rattle.poly.specs.image.Model.{image-of}
 use Rattle.divisor.specs.declared.CandidateRecord.{CandidateRecord}
 use Rattle.divisor.specs.Rule.{report}
 use Rattle.proved_table.specs.Row.{Row, QuotientRow, ImageRow, Product}
-use Rattle.proved_table.specs.test.TermDivision.{less-all, Outcome, divides, does-not, open-still}
+use Rattle.proved_table.specs.test.TermDivision.{less-all, Outcome, ended, open-still}
 use Rattle.proved_table.specs.test.Decisions.{list-checks, lines, checks, image-checks}
 use Rattle.proved_table.specs.test.Computed.{Computed, unanswered, answered, divided-by, computed}
 
@@ -37,11 +37,11 @@ same-numbers (m ∷ ms) (n ∷ ns) = eqb m n && same-numbers ms ns
 
 -- the numbers of a record, and terms behind them
 abbrev pub numbers : CandidateRecord → List ℕ → List ℕ
-numbers r terms = after-fault (r .fault) (r .degree ∷ r .bad ∷ r .unlucky ∷ r .kept ∷ r .terms ∷ terms)
+numbers r terms = after-fault (r .fault) (r .degree ∷ r .bad ∷ r .unlucky ∷ r .kept ∷ r .terms ∷ r .steps ∷ terms)
 
 unfoldable pub agrees : Computed → CandidateRecord → List ℕ → Bool
 agrees unanswered found terms = false
-agrees (answered number counts ts) found terms = same-numbers (numbers (report number counts (length ts)) ts) (numbers found terms)
+agrees (answered number counts ts steps) found terms = same-numbers (numbers (report number counts (length ts) steps) ts) (numbers found terms)
 
 module _ (r : Row) where
   -- the lines of its inputs, and their checks
@@ -55,7 +55,8 @@ module _ (r : Row) where
   passes = eqb (decided input-lines input-checks .number) 0
 
   unfoldable pub answers : Listed (r .modulus) → Bool
-  answers h = agrees (computed (r .modulus) (listed-prime h) (r .first-list) (r .second-list) (r .skeleton) (r .points)) (r .found) (r .terms)
+  answers h =
+      agrees (computed (r .modulus) (listed-prime h) (r .first-list) (r .second-list) (r .skeleton) (r .points) (r .ceiling)) (r .found) (r .terms)
 
   unfoldable pub test : Bool
   test = passes && listed-and (r .modulus) answers
@@ -79,10 +80,10 @@ module _ (r : QuotientRow) where
 
   -- by what the division finds: the row's terms are the quotient, or the row has 15 and no terms
   unfoldable pub quotient-agrees : Prime (r .modulus) → Outcome → Bool
-  quotient-agrees P divides =
+  quotient-agrees P (ended n true) =
       right-lists (r .modulus) (r .first-list) (r .terms) && multiplies (r .modulus) P product-of
       && same-numbers (quotient-numbers (r .found) (r .terms)) (after-fault none (length (r .terms) ∷ r .terms))
-  quotient-agrees P does-not = same-numbers (quotient-numbers (r .found) (r .terms)) (after-fault (fault DOES_NOT_DIVIDE 0) (0 ∷ []))
+  quotient-agrees P (ended n false) = same-numbers (quotient-numbers (r .found) (r .terms)) (after-fault (fault DOES_NOT_DIVIDE 0) (0 ∷ []))
   quotient-agrees P open-still = false
 
   unfoldable pub quotient-test : Bool

@@ -27,6 +27,7 @@ use Rattle.field.specs.Lent.{written}
 use Rattle.poly.specs.Room.{room-lines, of-rooms, work-room, cleared}
 use Rattle.poly.specs.image.Model.{image-of}
 use Rattle.poly.specs.image.Call.{image-fine, image-passes as image-in-order, image-answered, model-answers}
+use Rattle.poly.specs.division.Trial.{rule-says}
 use Rattle.poly.specs.list.Right.{lists-are-right}
 use Rattle.poly.specs.list.Falling.{falling-right}
 use Rattle.divisor.specs.declared.CandidateRecord.{CandidateRecord}
@@ -35,7 +36,7 @@ use Rattle.divisor.specs.Candidate.{candidate-result, Candidate}
 use Rattle.divisor.specs.answer.CandidateDetermined.{candidate-determined}
 use Rattle.proved_table.specs.Row.{Row, call, result, Holds, Determined, QuotientRow, quotient-call-of, quotient-result-of, QuotientHolds}
 use Rattle.proved_table.specs.Row.{ImageRow, Shows, Product, Multiplies, Each}
-use Rattle.proved_table.specs.test.TermDivision.{Outcome, divides, does-not, open-still}
+use Rattle.proved_table.specs.test.TermDivision.{Outcome, ended, open-still}
 use Rattle.proved_table.specs.test.TermDivisionLaws.{Means, nothing-left-means}
 use Rattle.proved_table.specs.test.Decisions.{list-checks, image-checks}
 use Rattle.proved_table.specs.test.Computed.{Computed, unanswered, answered, computed}
@@ -56,11 +57,11 @@ same-is (m ∷ ms) (n ∷ ns) h =
 -- the record of a fault and the numbers behind it
 abbrev pub record-of : Fault → List ℕ → CandidateRecord
 record-of f l =
-    record { fault = f; degree = getD l 0 0; bad = getD l 1 0; unlucky = getD l 2 0; kept = getD l 3 0; terms = getD l 4 0 }
+    record { fault = f; degree = getD l 0 0; bad = getD l 1 0; unlucky = getD l 2 0; kept = getD l 3 0; terms = getD l 4 0; steps = getD l 5 0 }
 
 -- a record and terms are known by their numbers
 numbers-settle : (X : CandidateRecord → List ℕ → Type 0) (r q : CandidateRecord) (terms ts : List ℕ) → numbers r terms ≡ numbers q ts → X r terms → X q ts
-numbers-settle X r q terms ts e x = after-fault-known (λ f l. X (record-of f l) (drop 5 l)) (r .fault) (q .fault) _ _ e x
+numbers-settle X r q terms ts e x = after-fault-known (λ f l. X (record-of f l) (drop 6 l)) (r .fault) (q .fault) _ _ e x
 
 -- of a listed modulus the test was passed
 pub listed-and-means : (p : ℕ) (f : Listed p → Bool) → listed-and p f ≡ true → (h : Listed p) × (f h ≡ true)
@@ -81,7 +82,8 @@ inputs-pass r h = decided-passes (input-lines r) tt (input-checks r) (eqb-true _
 
 -- what is so of the computed answer is so of a row that passes
 pub test-settles : (r : Row) (X : CandidateRecord → List ℕ → Type 0)
-    → ((listed : Listed (r .modulus)) → Told X (computed (r .modulus) (listed-prime listed) (r .first-list) (r .second-list) (r .skeleton) (r .points)))
+    → ((listed : Listed (r .modulus))
+    → Told X (computed (r .modulus) (listed-prime listed) (r .first-list) (r .second-list) (r .skeleton) (r .points) (r .ceiling)))
     → test r ≡ true → X (r .found) (r .terms)
 unfolding test answers
 test-settles r X law h =
@@ -90,7 +92,8 @@ test-settles r X law h =
   where
     go : (x : Computed) → Told X x → agrees x (r .found) (r .terms) ≡ true → X (r .found) (r .terms)
     go unanswered s h = (unfold agrees in absurd (false≢true h))
-    go (answered number counts ts) s h = (unfold agrees in numbers-settle X (report number counts (length ts)) (r .found) ts (r .terms) (same-is _ _ h) s)
+    go (answered number counts ts steps) s h =
+        (unfold agrees in numbers-settle X (report number counts (length ts) steps) (r .found) ts (r .terms) (same-is _ _ h) s)
 
 -- the test turned into the contract
 pub tested : (r : Row) → test r ≡ true → Holds r
@@ -135,7 +138,7 @@ module _ (r : QuotientRow) (output work : List ℕ) (long : keys ≤ length outp
       (poly (r .modulus) (listed-prime listed) (r .second-list)) o
       → quotient-agrees r (listed-prime listed) o ≡ true → Quotient asked (quotient-result-of r output work)
   unfolding quotient-agrees
-  quotient-settled pass listed divides m h =
+  quotient-settled pass listed (ended n true) m h =
       let first = and-eq-true-iff _ (same-numbers _ _) .0 h in
       let second = and-eq-true-iff (right-lists (r .modulus) (r .first-list) (r .terms)) _ .0 (first .0) in
       let right = lists-are-right (r .modulus) (r .first-list) (r .terms) (lists-pass (r .modulus) (r .first-list) (r .terms) (second .0)) in
@@ -144,8 +147,9 @@ module _ (r : QuotientRow) (output work : List ℕ) (long : keys ≤ length outp
         right = falling-right (r .modulus) (r .terms) (right .second .falls);
         product = sym (multiplied (r .modulus) (listed-prime listed) (product-of r) (second .1));
       }))
-  quotient-settled pass listed does-not m h =
-      quotient-known (record { fault = fault DOES_NOT_DIVIDE 0; terms = 0 }) [] h (no-quotient pass listed m)
+  quotient-settled pass listed (ended n false) m h =
+      quotient-known (record { fault = fault DOES_NOT_DIVIDE 0; terms = 0 }) [] h
+      (no-quotient pass listed (λ d. false≢true (rule-says (listed-prime listed) (r .first-list) (r .second-list) (m .0) false (m .1) .1 d)))
   quotient-settled pass listed open-still m h = absurd (false≢true h)
 
   quotient-tested-here : quotient-test r ≡ true → Quotient asked (quotient-result-of r output work)
@@ -155,7 +159,8 @@ module _ (r : QuotientRow) (output work : List ℕ) (long : keys ≤ length outp
       let right = lists-are-right (r .modulus) (r .first-list) (r .second-list) (lists-pass (r .modulus) (r .first-list) (r .second-list) (both .0)) in
       let a = listed-and-means (r .modulus) _ (both .1) in
       quotient-settled (quotient-lines-pass (both .0)) (a .0) _
-      (divided-by-means (r .modulus) (listed-prime (a .0)) (r .second-list) (r .first-list) (right .second .some) (right .second .falls)) (a .1)
+      (divided-by-means (r .modulus) (listed-prime (a .0)) (r .second-list) (r .first-list) (right .second .some) (right .second .falls)
+      (right .first .some) (right .first .falls)) (a .1)
 
 pub quotient-tested : (r : QuotientRow) → quotient-test r ≡ true → QuotientHolds r
 quotient-tested r h output work long room = quotient-tested-here r output work long room h

@@ -1,4 +1,5 @@
--- Division of short lists of terms, over any field, computed: it says of a list that the divisor divides, or that it does not, or leaves it open.
+-- Division of short lists of terms by the rule, over any field, computed: it says how many steps there are and whether the divisor divides, or leaves it
+-- open.
 use mathlib.Core.Bool.{Bool, true, false}
 use mathlib.Core.List.{[], _∷_}
 use mathlib.Core.Logic.{Dec·and}
@@ -11,10 +12,14 @@ use Rattle.algebra.specs.Monomial.{Term}
 use Rattle.algebra.specs.Laws.Four.{lower, equal, higher, compare}
 use Rattle.poly.specs.Terms.{Polynomial}
 
+-- ended after so many steps, with the answer whether the divisor divides
 pub data Outcome : Type 0 where
-  divides : Outcome
-  does-not : Outcome
+  ended : ℕ → Bool → Outcome
   open-still : Outcome
+
+unfoldable pub one-more : Outcome → Outcome
+one-more (ended n whole) = ended (suc n) whole
+one-more open-still = open-still
 
 -- each exponent at most the other's
 unfoldable pub each-at-most : (e f : Exponents) → Dec (e ≼ f)
@@ -79,18 +84,25 @@ module _ (K : Field) where
   unfoldable pub leads : Term R → Polynomial K → Bool
   leads t f = elim (K .decide (t .coefficient)) [ yes e ↦ false | no n ↦ before-all (t .exponents) f ]
 
-  -- the remainder t ∷ f by g, which begins with the term l; the number of steps is bounded
-  unfoldable pub divided : Term R → Polynomial K → ℕ → Polynomial K → Outcome
-  divided l g zero [] = divides
-  divided l g zero (t ∷ f) = open-still
-  divided l g (suc k) [] = divides
-  divided l g (suc k) (t ∷ f) =
-      elim (each-at-most (l .exponents) (t .exponents)) [
-        | yes h ↦ divided l g k (less (t ∷ f) (term-over t l) g)
-        | no n ↦ elim (leads t f) [ true ↦ does-not | false ↦ open-still ]
+  -- m over the monomial l: no exponent of the quotient negative, and with most-g none above most-f
+  unfoldable pub can-divide : (l most-f most-g m : Exponents) → Dec ((l ≼ m) × (over m l ⊞ most-g ≼ most-f))
+  can-divide l most-f most-g m = Dec·and (each-at-most l m) (each-at-most (over m l ⊞ most-g) most-f)
+
+  -- the remainder t ∷ f by g, which begins with the term l; most-f and most-g are the greatest exponents; the number of steps is bounded
+  unfoldable pub divided : Exponents → Exponents → Term R → Polynomial K → ℕ → Polynomial K → Outcome
+  divided most-f most-g l g zero [] = ended 0 true
+  divided most-f most-g l g zero (t ∷ f) = open-still
+  divided most-f most-g l g (suc k) [] = ended 0 true
+  divided most-f most-g l g (suc k) (t ∷ f) =
+      elim (leads t f) [
+        | true ↦ elim (can-divide (l .exponents) most-f most-g (t .exponents)) [
+          | yes h ↦ one-more (divided most-f most-g l g k (less (t ∷ f) (term-over t l) g))
+          | no n ↦ ended 0 false
+        ]
+        | false ↦ open-still
       ]
 
   -- f by g, in at most n steps
-  unfoldable pub division : ℕ → Polynomial K → Polynomial K → Outcome
-  division n f [] = open-still
-  division n f (l ∷ g) = divided l (l ∷ g) n f
+  unfoldable pub division : Exponents → Exponents → ℕ → Polynomial K → Polynomial K → Outcome
+  division most-f most-g n f [] = open-still
+  division most-f most-g n f (l ∷ g) = divided most-f most-g l (l ∷ g) n f

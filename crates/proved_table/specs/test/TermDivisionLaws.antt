@@ -1,32 +1,30 @@
--- What the division of short lists says is so: where it says that the divisor divides, or that it does not.
+-- What the division of short lists says is so: it goes by the rule.
 use mathlib.Core.Path.{_≡_, refl, sym, _∙_, ap, ap₂, subst}
 use mathlib.Core.Logic.{_⊎_, inl, inr}
 use mathlib.Core.Bool.{Bool, true, false, false≢true}
-use mathlib.Core.List.{[], _∷_}
+use mathlib.Core.List.{List, [], _∷_}
 use Prim.Native.Nat.{ℕ, zero, suc, _+_ as _+ₙ_}
 use native.Mathlib.Omega.{arith}
+use lib.ListN.{length}
 use Rattle.algebra.specs.Ring.{CommRing}
 use Rattle.algebra.specs.Field.{Field}
 use Rattle.algebra.specs.SeriesRing.{S4}
-use Rattle.algebra.specs.Polynomials.{D4, domain}
 use Rattle.algebra.specs.Four.{Exponents, _⊞_, _≼_, _≺_, coef}
 use Rattle.algebra.specs.Monomial.{Term, term, polynomial, monomial}
 use Rattle.algebra.specs.Lead.{Lead}
-use Rattle.algebra.specs.Laws.Ring.{mul-zero, zero-add}
+use Rattle.algebra.specs.Division.{Sizes, Goes, done, stop, step, Division}
+use Rattle.algebra.specs.Laws.Ring.{zero-add}
 use Rattle.algebra.specs.Laws.Solver.{_⊕_, _⊗_, ⊝, _⊖_, _≗_, k0, ring2, ring3, ring4}
-use Rattle.algebra.specs.Laws.Divides.{div-refl, div-add, div-mul, div-neg, div-zero, div-to}
-use Rattle.algebra.specs.Laws.Four.{Order, lower, equal, higher, compare, not-both-below, below-irreflexive}
+use Rattle.algebra.specs.Laws.Four.{exponents-path, Order, lower, equal, higher, compare, not-both-below, below-irreflexive}
 use Rattle.algebra.specs.Laws.Monomial.{monomial-at, monomial-off}
-use Rattle.algebra.specs.Laws.Monomial.{monomial-above, monomial-mul, monomial-add, monomial-zero, monomial-neg, monomial-fin, polynomial-fin}
-use Rattle.algebra.specs.Laws.Lead.{lead-unique, lead-of-product, lead-exists, lead-nonzero}
+use Rattle.algebra.specs.Laws.Monomial.{monomial-above, monomial-mul, monomial-add, monomial-zero, monomial-neg}
 use Rattle.poly.specs.Terms.{Polynomial}
-use Rattle.poly.specs.Divides.{Divides}
-use Rattle.proved_table.specs.test.TermDivision.{Outcome, divides, does-not, open-still, each-at-most, together, term-over, plus}
+use Rattle.proved_table.specs.test.TermDivision.{Outcome, ended, open-still, one-more, over, can-divide, together, term-over, plus}
 use Rattle.proved_table.specs.test.TermDivision.{less-product, less, less-all, before-all, leads, divided, division}
 
 module _ (K : Field) where
   open Field K using (ring as R)
-  open CommRing R using (Car, 𝟘, add as _+_, mul as _*_, neg)
+  open CommRing R using (𝟘, add as _+_, mul as _*_, neg)
 
   infixl 60 _+_
   infixl 70 _*_
@@ -111,81 +109,135 @@ module _ (K : Field) where
       go (equal q) h again = absurd (false≢true h)
       go (lower l) h again = absurd (false≢true h)
 
+  -- a term that leads stands beside its monomial, and it is the leading one
+  first-is : (t : Term R) (f : Polynomial K) → leads K t f ≡ true → coef R (polynomial R (t ∷ f)) (t .exponents) ≡ t .coefficient
+  unfolding polynomial leads
+  first-is t f h = go (K .decide (t .coefficient)) h
+    where
+      go : (d : Dec (t .coefficient ≡ 𝟘)) → elim d as (λ _. Bool) [ yes e ↦ false | no n ↦ before-all K (t .exponents) f ] ≡ true
+          → coef R (S4 R .add (term R t) (polynomial R f)) (t .exponents) ≡ t .coefficient
+      go (yes e) h = absurd (false≢true h)
+      go (no n) h =
+          ap₂ _+_ (monomial-at R (t .exponents) (t .coefficient)) (none-from (t .exponents) (t .exponents) f h (inl refl)) ∙ R .add-zero _
+
   leads-means : (t : Term R) (f : Polynomial K) → leads K t f ≡ true → Lead R (t .exponents) (polynomial R (t ∷ f))
   unfolding polynomial leads
   leads-means t f h = go (K .decide (t .coefficient)) h
     where
       go : (d : Dec (t .coefficient ≡ 𝟘)) → elim d as (λ _. Bool) [ yes e ↦ false | no n ↦ before-all K (t .exponents) f ] ≡ true
           → Lead R (t .exponents) (S4 R .add (term R t) (polynomial R f))
-      go (yes e) h = absurd (false≢true h)
-      go (no n) h = record {
-        stands = λ z. n (sym (R .add-zero _) ∙ sym (ap₂ _+_ (monomial-at R (t .exponents) (t .coefficient))
-            (none-from (t .exponents) (t .exponents) f h (inl refl))) ∙ z);
-        above = λ e l. ap₂ _+_ (monomial-above R (t .exponents) e (t .coefficient) l) (none-from (t .exponents) e f h (inr l)) ∙ R .add-zero 𝟘;
+      go (yes e) k = absurd (false≢true k)
+      go (no n) k = record {
+        stands = λ z. n (sym (first-is t f h) ∙ z);
+        above = λ e l. ap₂ _+_ (monomial-above R (t .exponents) e (t .coefficient) l) (none-from (t .exponents) e f k (inr l)) ∙ R .add-zero 𝟘;
       }
 
-  -- what is divided has a leading monomial that the divisor's divides
-  lead-divides : (m n : Exponents) (f g : Poly) → D4 R (domain K) .P g → Lead R m g → Lead R n f → Divides K g f → m ≼ n
-  lead-divides m n f g pg lg lf d =
-      let q = lead-exists R (domain K) (d .quo) (d .fin) (λ z. lead-nonzero R n f lf (sym (d .eq) ∙ ap (S4 R .mul g) z ∙ mul-zero (S4 R) g)) in
-      part m (q .0) n (lead-unique R (m ⊞ q .0) n f (subst (Lead R (m ⊞ q .0)) (d .eq)
-      (lead-of-product R (domain K) m (q .0) g (d .quo) pg (d .fin) lg (q .1))) lf)
-    where
-      part : (a b c : Exponents) → a ⊞ b ≡ c → a ≼ c
-      part a b c e =
-          let x : a .x +ₙ b .x ≡ c .x = ap (λ (u : Exponents). u .x) e in
-          let y : a .y +ₙ b .y ≡ c .y = ap (λ (u : Exponents). u .y) e in
-          let z : a .z +ₙ b .z ≡ c .z = ap (λ (u : Exponents). u .z) e in
-          let w : a .w +ₙ b .w ≡ c .w = ap (λ (u : Exponents). u .w) e in
-          record { x = omega arith; y = omega arith; z = omega arith; w = omega arith }
-
-  -- what an outcome says of f and g
+  -- what an outcome says of f and g: the rule ends after so many terms, with that answer
   abbrev pub Means : Poly → Poly → Outcome → Type 0
-  Means f g divides = Divides K g f
-  Means f g does-not = ¬ Divides K g f
+  Means f g (ended n whole) = (ts : List (Term R)) × Division R f g ts whole × (length ts ≡ n)
   Means f g open-still = Unit {0}
 
-  multiple : (g u : Poly) → D4 R (domain K) .P u → Divides K g (S4 R .mul u g)
-  multiple g u pu = div-mul (S4 R) (D4 R (domain K)) g g u pu (div-refl (S4 R) (D4 R (domain K)) g)
+  -- the divisor g, as a list that begins with the term l
+  module _ (f : Poly) (g : Polynomial K) (s : Sizes R f (polynomial R g)) (l : Term R) (lead-is : s .lead ≡ l .exponents)
+      (stands : coef R (polynomial R g) (s .lead) ≡ l .coefficient) where
+    -- the same of what is left of the division
+    abbrev Left : Poly → Outcome → Type 0
+    Left r (ended n whole) = (ts : List (Term R)) × Goes R f (polynomial R g) s r ts whole × (length ts ≡ n)
+    Left r open-still = Unit {0}
 
-  -- f and f less a multiple of g have the same outcome
-  means-less : (f g u : Poly) → D4 R (domain K) .P u → (o : Outcome) → Means (S4 R .add f (S4 R .neg (S4 R .mul u g))) g o → Means f g o
-  means-less f g u pu divides d = div-to (S4 R) (D4 R (domain K)) g _ f (ring3 (S4 R) (λ f g u. (f ⊖ u ⊗ g) ⊕ u ⊗ g ≗ f) tt f g u)
-      (div-add (S4 R) (D4 R (domain K)) g _ _ d (multiple g u pu))
-  means-less f g u pu does-not n = λ d. n (div-add (S4 R) (D4 R (domain K)) g f _ d (div-neg (S4 R) (D4 R (domain K)) g _ (multiple g u pu)))
-  means-less f g u pu open-still h = tt
+    -- t over l
+    module _ (t : Term R) (r : Polynomial K) (leading : leads K t r ≡ true) where
+      abbrev q : Term R
+      q = term-over K t l
 
-  module _ (l : Term R) (g : Polynomial K) (lead : Lead R (l .exponents) (polynomial R g)) where
-    nothing-left : Divides K (polynomial R g) (polynomial R [])
-    unfolding polynomial
-    nothing-left = div-zero (S4 R) (D4 R (domain K)) (polynomial R g)
+      -- the parts of a sum of exponents
+      parts : (e : Exponents) → t .exponents ≡ e ⊞ s .lead → (l .exponents ≼ t .exponents) × (e ≡ over (t .exponents) (l .exponents))
+      parts e p =
+          let m = p ∙ ap (e ⊞_) lead-is in
+          let x : t .exponents .x ≡ e .x +ₙ l .exponents .x = ap (λ (u : Exponents). u .x) m in
+          let y : t .exponents .y ≡ e .y +ₙ l .exponents .y = ap (λ (u : Exponents). u .y) m in
+          let z : t .exponents .z ≡ e .z +ₙ l .exponents .z = ap (λ (u : Exponents). u .z) m in
+          let w : t .exponents .w ≡ e .w +ₙ l .exponents .w = ap (λ (u : Exponents). u .w) m in (
+            record { x = omega arith; y = omega arith; z = omega arith; w = omega arith },
+            exponents-path (omega arith) (omega arith) (omega arith) (omega arith),
+          )
 
-    divided-means : (n : ℕ) (f : Polynomial K) → Means (polynomial R f) (polynomial R g) (divided K l g n f)
-    unfolding divided
-    divided-means zero [] = nothing-left
-    divided-means zero (t ∷ f) = tt
-    divided-means (suc n) [] = nothing-left
-    divided-means (suc n) (t ∷ f) = go (each-at-most (l .exponents) (t .exponents)) (divided-means n (less K (t ∷ f) q g))
+      exact : l .exponents ≼ t .exponents → t .exponents ≡ over (t .exponents) (l .exponents) ⊞ s .lead
+      exact h =
+          let a = h .x in
+          let b = h .y in
+          let c = h .z in
+          let d = h .w in
+          exponents-path (omega arith) (omega arith) (omega arith) (omega arith) ∙ ap (over (t .exponents) (l .exponents) ⊞_) (sym lead-is)
+
+      nonzero : ¬ (l .coefficient ≡ 𝟘)
+      nonzero z = s .leads .stands (stands ∙ z)
+
+      factor-is : R .mul (q .coefficient) (coef R (polynomial R g) (s .lead)) ≡ coef R (polynomial R (t ∷ r)) (t .exponents)
+      factor-is =
+          ap (q .coefficient *_) stands
+          ∙ ring3 R (λ t i l. t ⊗ i ⊗ l ≗ t ⊗ (l ⊗ i)) tt (t .coefficient) (K .inv (l .coefficient)) (l .coefficient)
+          ∙ ap (t .coefficient *_) (K .mul-inv (l .coefficient) nonzero) ∙ R .mul-one _ ∙ sym (first-is t r leading)
+
+      -- a step is taken
+      taken : l .exponents ≼ t .exponents → over (t .exponents) (l .exponents) ⊞ s .most-g ≼ s .most-f → (o : Outcome)
+          → Left (polynomial R (less K (t ∷ r) q g)) o → Left (polynomial R (t ∷ r)) (one-more o)
+      unfolding one-more
+      taken h b (ended n whole) m = (
+        q ∷ m .0,
+        step (t .exponents) q (leads-means t r leading) (record { exact = exact h; bounded = b }) factor-is
+            (subst (λ (u : Poly). Goes R f (polynomial R g) s u (m .0) whole) (less-means (t ∷ r) q g) (m .1)),
+        ap suc (m .2),
+      )
+      taken h b open-still m = tt
+
+      -- or the division stops
+      stopped : ¬ ((l .exponents ≼ t .exponents) × (over (t .exponents) (l .exponents) ⊞ s .most-g ≼ s .most-f)) → Left (polynomial R (t ∷ r)) (ended 0 false)
+      stopped n = (
+        [],
+        stop (t .exponents) (leads-means t r leading) (λ e o.
+            let p = parts e (o .exact) in
+            n (p .0, subst (λ (i : Exponents). i ⊞ s .most-g ≼ s .most-f) (p .1) (o .bounded))),
+        refl,
+      )
+
+    left-means : (n : ℕ) (r : Polynomial K) → Left (polynomial R r) (divided K (s .most-f) (s .most-g) l g n r)
+    unfolding divided polynomial
+    left-means zero [] = ([], done refl, refl)
+    left-means zero (t ∷ r) = tt
+    left-means (suc n) [] = ([], done refl, refl)
+    left-means (suc n) (t ∷ r) = go (leads K t r) refl (left-means n (less K (t ∷ r) (term-over K t l) g))
       where
-        q : Term R
-        q = term-over K t l
+        rest : Outcome
+        rest = divided K (s .most-f) (s .most-g) l g n (less K (t ∷ r) (term-over K t l) g)
 
-        stuck : ¬ (l .exponents ≼ t .exponents) → (b : Bool) → leads K t f ≡ b
-            → Means (polynomial R (t ∷ f)) (polynomial R g) (elim b [ true ↦ does-not | false ↦ open-still ])
-        stuck n true e = λ d. n (lead-divides (l .exponents) (t .exponents) (polynomial R (t ∷ f)) (polynomial R g)
-            (polynomial-fin R (domain K) (λ c. tt) g) lead (leads-means t f e) d)
-        stuck n false e = tt
+        over-or-not : leads K t r ≡ true → (d : Dec ((l .exponents ≼ t .exponents) × (over (t .exponents) (l .exponents) ⊞ s .most-g ≼ s .most-f)))
+            → Left (polynomial R (less K (t ∷ r) (term-over K t l) g)) rest
+            → Left (polynomial R (t ∷ r)) (elim d as (λ _. Outcome) [ yes h ↦ one-more rest | no m ↦ ended 0 false ])
+        over-or-not e (yes h) again = taken t r e (h .0) (h .1) rest again
+        over-or-not e (no m) again = stopped t r e m
 
-        go : (d : Dec (l .exponents ≼ t .exponents)) → Means (polynomial R (less K (t ∷ f) q g)) (polynomial R g) (divided K l g n (less K (t ∷ f) q g))
-            → Means (polynomial R (t ∷ f)) (polynomial R g)
-            (elim d [ yes h ↦ divided K l g n (less K (t ∷ f) q g) | no n ↦ elim (leads K t f) [ true ↦ does-not | false ↦ open-still ] ])
-        go (yes h) again = means-less (polynomial R (t ∷ f)) (polynomial R g) (term R q)
-            (monomial-fin R (domain K) (q .exponents) (q .coefficient) tt) (divided K l g n (less K (t ∷ f) q g))
-            (subst (λ (r : Poly). Means r (polynomial R g) (divided K l g n (less K (t ∷ f) q g))) (less-means (t ∷ f) q g) again)
-        go (no n) again = stuck n (leads K t f) refl
+        go : (b : Bool) → leads K t r ≡ b → Left (polynomial R (less K (t ∷ r) (term-over K t l) g)) rest
+            → Left (polynomial R (t ∷ r)) (elim b as (λ _. Outcome) [
+              | true ↦ elim (can-divide K (l .exponents) (s .most-f) (s .most-g) (t .exponents)) as (λ _. Outcome) [
+                | yes h ↦ one-more rest
+                | no m ↦ ended 0 false
+              ]
+              | false ↦ open-still
+            ])
+        go true e again = over-or-not e (can-divide K (l .exponents) (s .most-f) (s .most-g) (t .exponents)) again
+        go false e again = tt
+
+    -- what is left of the whole division is the division
+    whole-means : (o : Outcome) → Left f o → Means f (polynomial R g) o
+    whole-means (ended n whole) m = (m .0, record { sizes = s; goes = m .1 }, m .2)
+    whole-means open-still m = tt
 
   -- what a division says is so, where the divisor's first term leads
-  pub division-means : (n : ℕ) (f : Polynomial K) (l : Term R) (g : Polynomial K) → Lead R (l .exponents) (polynomial R (l ∷ g))
-      → Means (polynomial R f) (polynomial R (l ∷ g)) (division K n f (l ∷ g))
+  pub division-means : (n : ℕ) (f : Polynomial K) (l : Term R) (g : Polynomial K) (s : Sizes R (polynomial R f) (polynomial R (l ∷ g))) → s .lead ≡ l .exponents
+      → coef R (polynomial R (l ∷ g)) (s .lead) ≡ l .coefficient
+      → Means (polynomial R f) (polynomial R (l ∷ g)) (division K (s .most-f) (s .most-g) n f (l ∷ g))
   unfolding division
-  division-means n f l g lead = divided-means l (l ∷ g) lead n f
+  division-means n f l g s e c =
+      whole-means (polynomial R f) (l ∷ g) s l e c (divided K (s .most-f) (s .most-g) l (l ∷ g) n f)
+      (left-means (polynomial R f) (l ∷ g) s l e c n f)

@@ -38,8 +38,8 @@ use Rattle.console.specs.OfFile.{asked}
 use Rattle.console.specs.CandidateOfFile.{CandidateOfFile}
 use Rattle.proved_table.specs.Row.{result, Holds, Determined, QuotientHolds, CancelRow, Cancels, CancelDetermined, ShortRefused, Reads, Writes, Picks}
 use Rattle.proved_table.specs.Row.{Shows, Multiplies, Each}
-use Rattle.proved_table.specs.test.TermDivision.{each-at-most, plus, less, less-all, before-all, leads, divided, division}
-use Rattle.proved_table.specs.test.Computed.{tried, divided-by, by-answer, with-counts, by-kept, by-least, by-looks, computed}
+use Rattle.proved_table.specs.test.TermDivision.{one-more, each-at-most, plus, less, less-all, before-all, leads, can-divide, divided, division}
+use Rattle.proved_table.specs.test.Computed.{within, under, tried, divided-by, by-answer, with-counts, by-kept, by-least, by-looks, computed}
 use Rattle.proved_table.specs.test.Decisions.{count-decided, not-below-decided, key-decided, plain-term-decided, term-decided, number-decided}
 use Rattle.proved_table.specs.test.Decisions.{checks-append, list-checks, terms-checks, two-lists-checks, skeleton-checks, points-checks}
 use Rattle.proved_table.specs.test.Decisions.{point-checks, checks, image-checks}
@@ -54,16 +54,17 @@ use Rattle.proved_table.specs.test.PicksLaws.{pick-tested}
 use Rattle.proved_table.specs.test.RowsLaws.{tested, holds-determined, quotient-tested, image-tested, multiplied, each-tested, each-follows}
 use Rattle.proved_table.specs.MoreRows.{more-rows, quotients, more-images, files, writes, picks}
 use Rattle.proved_table.specs.CancelRows.{cancels}
+use Rattle.proved_table.specs.CeilingRows.{ceiling-rows, ceiling-cancels}
 use Rattle.proved_table.specs.Table.{images, products, p1, table}
 
-pub table-passes : (every test table ≡ true) × (every test more-rows ≡ true)
+pub table-passes : (every test table ≡ true) × (every test more-rows ≡ true) × (every test ceiling-rows ≡ true)
 unfolding list-at-fault ℕ-discrete decLe decLt mono pow listed listed-decided el add mul neg chase inv Fp-discrete Dec·not Dec·and placed-check look first-check
     decided cells plus-term with-term fold value-of size-to scaled monic between subtract downwards euclid gcd image-of-values
     image-of points-of lesser alike kept-of leading scaled-terms compare-by compare each-at-most plus less before-all leads
-    divided division tried divided-by by-answer with-counts by-kept by-least by-looks computed count-decided not-below-decided key-decided
-    plain-term-decided term-decided number-decided checks-append list-checks skeleton-checks points-checks checks
+    one-more can-divide divided division within under tried divided-by by-answer with-counts by-kept by-least by-looks computed
+    count-decided not-below-decided key-decided plain-term-decided term-decided number-decided checks-append list-checks skeleton-checks points-checks checks
     listed-and same-numbers agrees passes answers test
-table-passes = (refl, refl)
+table-passes = (refl, refl, refl)
 
 pub table-holds : Each Holds table
 table-holds = each-tested test Holds tested table (table-passes .0)
@@ -71,6 +72,10 @@ table-holds = each-tested test Holds tested table (table-passes .0)
 -- the rows beside P1 to P12 hold
 pub more-rows-hold : Each Holds more-rows
 more-rows-hold = each-tested test Holds tested more-rows (table-passes .1)
+
+-- so do those at and below the exact ceiling
+pub ceiling-rows-hold : Each Holds ceiling-rows
+ceiling-rows-hold = each-tested test Holds tested ceiling-rows (table-passes .2)
 
 -- no other result meets the contract of a row's call
 pub table-determined : Each Determined table
@@ -93,23 +98,27 @@ more-images-hold = each-tested image-test Shows image-tested more-images (images
 -- the quotients are those
 pub quotients-hold : Each QuotientHolds quotients
 unfolding list-at-fault ℕ-discrete decLe decLt listed listed-decided el add mul neg chase inv Fp-discrete Dec·not Dec·and placed-check look first-check decided
-    compare-by compare each-at-most plus less less-all before-all leads divided division divided-by count-decided not-below-decided key-decided
-    plain-term-decided term-decided list-checks listed-and same-numbers right-lists multiplies quotient-agrees quotient-test
+    compare-by compare each-at-most plus less less-all before-all leads one-more can-divide divided division divided-by
+    count-decided not-below-decided key-decided plain-term-decided term-decided list-checks listed-and same-numbers
+    right-lists multiplies quotient-agrees quotient-test
 quotients-hold = each-tested quotient-test QuotientHolds quotient-tested quotients refl
 
 -- the Cancel key hands out those
-cancels-pass : every cancel-test cancels ≡ true
+cancels-pass : (every cancel-test cancels ≡ true) × (every cancel-test ceiling-cancels ≡ true)
 unfolding list-at-fault ℕ-discrete decLe decLt mono pow listed listed-decided el add mul neg chase inv Fp-discrete Dec·not Dec·and placed-check look first-check
     decided cells plus-term with-term fold value-of size-to scaled monic between subtract downwards euclid gcd image-of-values
     image-of points-of lesser alike kept-of leading scaled-terms compare-by compare each-at-most plus less less-all before-all leads
-    divided division tried divided-by by-answer with-counts by-kept by-least by-looks computed count-decided not-below-decided key-decided
-    plain-term-decided term-decided number-decided checks-append list-checks skeleton-checks points-checks checks
+    one-more can-divide divided division within under tried divided-by by-answer with-counts by-kept by-least by-looks computed
+    count-decided not-below-decided key-decided plain-term-decided term-decided number-decided checks-append list-checks skeleton-checks points-checks checks
     listed-and same-numbers agrees passes answers test
     right-lists multiplies begins-with-one hands-out cancel-test
-cancels-pass = refl
+cancels-pass = (refl, refl)
 
 pub cancels-hold : Each Cancels cancels
-cancels-hold = each-tested cancel-test Cancels cancel-tested cancels cancels-pass
+cancels-hold = each-tested cancel-test Cancels cancel-tested cancels (cancels-pass .0)
+
+pub ceiling-cancels-hold : Each Cancels ceiling-cancels
+ceiling-cancels-hold = each-tested cancel-test Cancels cancel-tested ceiling-cancels (cancels-pass .1)
 
 -- no other result meets the contract of its row's call
 pub cancels-determined : Each CancelDetermined cancels
@@ -117,11 +126,11 @@ cancels-determined = each-follows Cancels CancelDetermined cancel-holds-determin
 
 -- the rows of the candidate that they name hold
 pub divisors-hold : Each (λ (r : CancelRow). Holds (r .divisor)) cancels
-divisors-hold = each-tested cancel-test (λ (r : CancelRow). Holds (r .divisor)) divisor-tested cancels cancels-pass
+divisors-hold = each-tested cancel-test (λ (r : CancelRow). Holds (r .divisor)) divisor-tested cancels (cancels-pass .0)
 
 -- with either output too short each of them is refused with 10, and nothing else is let pass
 pub shorts-refused : Each ShortRefused cancels
-shorts-refused = each-tested cancel-test ShortRefused short-tested cancels cancels-pass
+shorts-refused = each-tested cancel-test ShortRefused short-tested cancels (cancels-pass .0)
 
 -- the files are read so
 pub files-hold : Each Reads files

@@ -1,5 +1,6 @@
 -- The contracts refute the wrong results: each passes its test, by computing.
-use mathlib.Core.Path.{refl}
+use mathlib.Core.Path.{_≡_, refl}
+use mathlib.Core.Bool.{true}
 use mathlib.Core.Logic.{Dec·not, Dec·and}
 use native.Mathlib.Decide.{ℕ-discrete, decLe, decLt}
 use Rattle.algebra.specs.Ring.{pow}
@@ -7,7 +8,7 @@ use Rattle.algebra.specs.Mono.{mono}
 use Rattle.algebra.specs.Laws.Four.{compare-by, compare}
 use Rattle.field.specs.Moduli.{listed}
 use Rattle.field.specs.Numbers.{list-at-fault}
-use Rattle.field.specs.modulus.Laws.{listed-decided}
+use Rattle.field.specs.modulus.Laws.{every, listed-decided}
 use Rattle.field.specs.Fp.{el, add, mul, neg, chase, inv}
 use Rattle.field.specs.elements.Fp.{Fp-discrete}
 use Rattle.field.specs.faults.Decision.{placed-check, look, first-check, decided}
@@ -19,8 +20,8 @@ use Rattle.poly.specs.image.Model.{image-of-values, image-of}
 use Rattle.divisor.specs.Candidate.{points-of}
 use Rattle.divisor.specs.sorting.Model.{lesser, alike, kept-of}
 use Rattle.divisor.specs.monic.Model.{leading, scaled-terms}
-use Rattle.proved_table.specs.test.TermDivision.{each-at-most, plus, less, less-all, before-all, leads, divided, division}
-use Rattle.proved_table.specs.test.Computed.{tried, divided-by, by-answer, with-counts, by-kept, by-least, by-looks, computed}
+use Rattle.proved_table.specs.test.TermDivision.{one-more, each-at-most, plus, less, less-all, before-all, leads, can-divide, divided, division}
+use Rattle.proved_table.specs.test.Computed.{within, under, tried, divided-by, by-answer, with-counts, by-kept, by-least, by-looks, computed}
 use Rattle.proved_table.specs.test.Decisions.{count-decided, not-below-decided, key-decided, plain-term-decided, term-decided, number-decided}
 use Rattle.proved_table.specs.test.Decisions.{checks-append, list-checks, terms-checks, two-lists-checks, skeleton-checks, points-checks}
 use Rattle.proved_table.specs.test.Decisions.{point-checks, checks, image-checks}
@@ -42,6 +43,7 @@ use Rattle.proved_table.specs.Wrong.{PickRefuted, PlaceRefuted, HeadRefu
 use Rattle.proved_table.specs.WrongResults.{wrong-results}
 use Rattle.proved_table.specs.WrongServices.{wrong-quotients, wrong-images, wrong-files}
 use Rattle.proved_table.specs.WrongCancels.{wrong-cancels}
+use Rattle.proved_table.specs.WrongCeilings.{wrong-ceilings, wrong-cancel-ceilings}
 use Rattle.proved_table.specs.WrongWrites.{wrong-writes}
 use Rattle.proved_table.specs.WrongPicks.{wrong-picks, wrong-places, wrong-heads}
 use Rattle.proved_table.specs.test.Wrong.{clash, left-full, differs, wrong-test, wrong-quotient-test, wrong-cancel-test, wrong-image-test}
@@ -50,35 +52,49 @@ use Rattle.proved_table.specs.test.WrongLaws.{refuted, quotient-refuted,
 use Rattle.proved_table.specs.test.Picks.{lower-from, by-lengths, right-pick, wrong-pick-test, wrong-place-test, wrong-head-test}
 use Rattle.proved_table.specs.test.PicksLaws.{pick-refuted, place-refuted, head-refuted}
 
--- the contract of the candidate refutes each of its wrong results
-pub wrong-results-refuted : Each Refuted wrong-results
+wrong-results-pass : (every wrong-test wrong-results ≡ true) × (every wrong-test wrong-ceilings ≡ true)
 unfolding list-at-fault ℕ-discrete decLe decLt mono pow listed listed-decided el add mul neg chase inv Fp-discrete Dec·not Dec·and placed-check look first-check
     decided cells plus-term with-term fold value-of size-to scaled monic between subtract downwards euclid gcd image-of-values
     image-of points-of lesser alike kept-of leading scaled-terms compare-by compare each-at-most plus less before-all leads
-    divided division tried divided-by by-answer with-counts by-kept by-least by-looks computed count-decided not-below-decided key-decided
-    plain-term-decided term-decided number-decided checks-append list-checks skeleton-checks points-checks checks
+    one-more can-divide divided division within under tried divided-by by-answer with-counts by-kept by-least by-looks computed
+    count-decided not-below-decided key-decided plain-term-decided term-decided number-decided checks-append list-checks skeleton-checks points-checks checks
     listed-and same-numbers agrees passes answers test
     clash left-full differs wrong-test
-wrong-results-refuted = each-tested wrong-test Refuted refuted wrong-results refl
+wrong-results-pass = (refl, refl)
+
+-- the contract of the candidate refutes each of its wrong results
+pub wrong-results-refuted : Each Refuted wrong-results
+wrong-results-refuted = each-tested wrong-test Refuted refuted wrong-results (wrong-results-pass .0)
+
+-- and those of a ceiling
+pub wrong-ceilings-refuted : Each Refuted wrong-ceilings
+wrong-ceilings-refuted = each-tested wrong-test Refuted refuted wrong-ceilings (wrong-results-pass .1)
 
 -- the contract of the quotient
 pub wrong-quotients-refuted : Each QuotientRefuted wrong-quotients
 unfolding list-at-fault ℕ-discrete decLe decLt listed listed-decided el add mul neg chase inv Fp-discrete Dec·not Dec·and placed-check look first-check decided
-    compare-by compare each-at-most plus less less-all before-all leads divided division divided-by count-decided not-below-decided key-decided
-    plain-term-decided term-decided list-checks listed-and same-numbers right-lists multiplies quotient-agrees quotient-test
+    compare-by compare each-at-most plus less less-all before-all leads one-more can-divide divided division divided-by
+    count-decided not-below-decided key-decided plain-term-decided term-decided list-checks listed-and same-numbers
+    right-lists multiplies quotient-agrees quotient-test
     clash left-full differs wrong-quotient-test
 wrong-quotients-refuted = each-tested wrong-quotient-test QuotientRefuted quotient-refuted wrong-quotients refl
 
--- of the Cancel key
-pub wrong-cancels-refuted : Each CancelRefuted wrong-cancels
+wrong-cancels-pass : (every wrong-cancel-test wrong-cancels ≡ true) × (every wrong-cancel-test wrong-cancel-ceilings ≡ true)
 unfolding list-at-fault ℕ-discrete decLe decLt mono pow listed listed-decided el add mul neg chase inv Fp-discrete Dec·not Dec·and placed-check look first-check
     decided cells plus-term with-term fold value-of size-to scaled monic between subtract downwards euclid gcd image-of-values
     image-of points-of lesser alike kept-of leading scaled-terms compare-by compare each-at-most plus less less-all before-all leads
-    divided division tried divided-by by-answer with-counts by-kept by-least by-looks computed count-decided not-below-decided key-decided
-    plain-term-decided term-decided number-decided checks-append list-checks skeleton-checks points-checks checks
+    one-more can-divide divided division within under tried divided-by by-answer with-counts by-kept by-least by-looks computed
+    count-decided not-below-decided key-decided plain-term-decided term-decided number-decided checks-append list-checks skeleton-checks points-checks checks
     listed-and same-numbers agrees passes answers test
     right-lists multiplies begins-with-one hands-out cancel-test clash left-full differs wrong-cancel-test
-wrong-cancels-refuted = each-tested wrong-cancel-test CancelRefuted cancel-refuted wrong-cancels refl
+wrong-cancels-pass = (refl, refl)
+
+-- of the Cancel key
+pub wrong-cancels-refuted : Each CancelRefuted wrong-cancels
+wrong-cancels-refuted = each-tested wrong-cancel-test CancelRefuted cancel-refuted wrong-cancels (wrong-cancels-pass .0)
+
+pub wrong-cancel-ceilings-refuted : Each CancelRefuted wrong-cancel-ceilings
+wrong-cancel-ceilings-refuted = each-tested wrong-cancel-test CancelRefuted cancel-refuted wrong-cancel-ceilings (wrong-cancels-pass .1)
 
 -- of the image
 pub wrong-images-refuted : Each ImageRefuted wrong-images

@@ -19,8 +19,8 @@ abbrev made : tie.After-divides-both-arg → tie.After-made-monic
 made c = c .before .before .before
 
 -- at the test: the divisions
-abbrev judged : tie.After-slice-known3 → tie.After-divides-both
-judged k = k .before .before
+abbrev judged : tie.After-struct-known → tie.After-divides-both
+judged k = k .before .before .before
 
 made-monic-requires : tie.Need-made-monic-requires
 made-monic-requires c κs =

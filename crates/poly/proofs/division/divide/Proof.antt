@@ -87,7 +87,7 @@ returns : tie.Need-returns
 returns c =
     let z = opened (c .before .before) in
     begun-wide (z .args .p) (z .args .dividend .now) (z .args .divisor .now) (z .args .work .now) (z .pre .lists)
-    (sym (tests (c .before)) ∙ not-true _ (c .if1 .taken))
+    (sym (tests (c .before)) ∙ not-true _ (c .if1 .taken)) (z .args .ceiling)
 
 sub-of : tie.Need-sub-of
 sub-of c = let e = c .before .before in at-most-key _ _ (sym (e .before .at-most .ensures) ∙ not-false _ (e .if1 .left))
@@ -130,7 +130,7 @@ returns-2 c =
     let o = topped w .before .before in
     let z = start o in
     begun-ends (z .args .p) (z .args .dividend .now) (z .args .divisor .now) (z .args .work .now) (z .pre .lists) (kept o) (kept-is o) _
-    (w .spread .ensures) (narrow o) _ _ (s .steps .ensures)
+    (w .spread .ensures) (narrow o) (z .args .ceiling) _ _ (s .steps .ensures)
 
 pub divide-spec : {M : Type 1} → statement M
 divide-spec =

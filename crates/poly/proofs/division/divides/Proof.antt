@@ -30,8 +30,8 @@ returns c =
     let d = e .before .before .before .before in
     let l = d .before .before .before .before in
     let z = start l in
-    cleared-trial (z .args .p) (z .args .dividend .now) (z .args .divisor .now) (z .args .work .now) (z .pre) keys (omega arith) (omega arith) _ _ _
-    (begun l) (d .divide .ensures) (zeroed-all work-room _ (omega (arith, z .pre .room)) (e .clear2 .ensures))
+    cleared-trial (z .args .p) (z .args .dividend .now) (z .args .divisor .now) (z .args .work .now) (z .pre) keys (omega arith) (omega arith) _ _
+    (z .args .ceiling) _ (begun l) (d .divide .ensures) (zeroed-all work-room _ (omega (arith, z .pre .room)) (e .clear2 .ensures))
 
 pub divides-spec : {M : Type 1} → statement M
 divides-spec =

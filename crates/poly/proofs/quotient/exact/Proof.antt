@@ -3,7 +3,6 @@
 use mathlib.Core.Path.{_≡_}
 use Prim.Native.Nat.{_≤_}
 use native.Mathlib.Omega.{arith}
-use borrow.Author.Tests.{not-true, not-false}
 use lib.ListN.{length}
 use Rattle.poly.specs.Room.{work-room, zeroed}
 use Rattle.poly.specs.rooms.Laws.{zeroed-all}
@@ -28,13 +27,13 @@ abbrev cleared : tie.After-divide → tie.After-clear
 cleared d = d .before .before .before .before
 
 abbrev divided : tie.Else1 → tie.After-divide
-divided n = n .before .before .before
+divided n = n .before .before .before .before
 
 abbrev start : tie.After-divide → tie.Start
 start d = opened (cleared d)
 
 -- the room is as long after the division as before
-room-long : (d : tie.After-divide) → work-room ≤ length (d .divide .last .1 .1 .1 .0)
+room-long : (d : tie.After-divide) → work-room ≤ length (d .divide .last .1 .1 .1 .1 .0)
 room-long d = omega (arith, passed-lists (lent (start d)) (start d .pre) .room)
 
 -- the room is cleared before the division
@@ -51,11 +50,11 @@ returns : tie.Need-returns
 returns c =
     let e = c .before .before .before in
     let t = e .before .before in
-    let d = t .before .before .before in
+    let d = t .before .before .before .before in
     let l = cleared d in
     let z = start d in
     exact-none (lent z) (z .pre) _ _ _ (d .divide .result) (begun l) (d .divide .ensures) (zeroed-all work-room _ (room-long d) (e .clear2 .ensures))
-    (not-true _ (t .if1 .taken)) (c .at .ensures)
+    (t .if1 .taken) (c .at .ensures)
 
 part-gather-end : tie.Need-part-gather-end
 part-gather-end c = room-long (divided (c .before))
@@ -63,7 +62,7 @@ part-gather-end c = room-long (divided (c .before))
 gather-requires : tie.Need-gather-requires
 gather-requires c κs =
     let d = divided (c .before .before .before) in
-    let long = quotient-long (d .divide .last .1 .1 .1 .0) (room-long d) in
+    let long = quotient-long (d .divide .last .1 .1 .1 .1 .0) (room-long d) in
     record { few = omega (arith, long); room = omega (arith, long, passed-output (lent (start d)) (start d .pre)) }
 
 returns-2 : tie.Need-returns-2
@@ -75,7 +74,7 @@ returns-2 c =
     let l = cleared d in
     let z = start d in
     exact-found (lent z) (z .pre) _ _ _ (d .divide .result) (begun l) (d .divide .ensures) (zeroed-all work-room _ (room-long d) (e .clear3 .ensures))
-    (not-false _ (n .if1 .left)) (quotient-long (d .divide .last .1 .1 .1 .0) (room-long d)) _ _ (g .gather .ensures)
+    (n .if1 .left) (quotient-long (d .divide .last .1 .1 .1 .1 .0) (room-long d)) _ _ (g .gather .ensures)
     (c .none .ensures)
 
 pub exact-spec : {M : Type 1} → statement M

@@ -1,0 +1,3 @@
+-- The ceiling on the steps of division.
+pub mod Steps
+pub mod Calls
