@@ -1,4 +1,6 @@
 // Reads a stream of case files from standard input, each behind its length, and prints for each what the program `candidate` prints.
+#![tactic(auto)]
+
 ghost use Rattle.std.specs.Prelude.{◌≡◌, ◌+◌, ◌*◌, ◌<◌};
 ghost use Rattle.io.specs.Counts.{IsPrefixLen};
 

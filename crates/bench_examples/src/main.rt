@@ -1,4 +1,6 @@
 // The bench examples, asked of the services: for each a label, the record, and the terms. What is printed is compared with the stored output.
+#![tactic(auto)]
+
 mod ask;
 mod lists;
 mod run_only;

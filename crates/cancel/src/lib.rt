@@ -1,4 +1,6 @@
 // The Cancel key: a numerator and a denominator without the common divisor that the candidate finds.
+#![tactic(auto)]
+
 ghost use Rattle.std.specs.Prelude.{◌≡◌};
 ghost use Rattle.cancel.specs.CancelCall.{cancel_call, cancel_result, with_both, Cancel};
 ghost use Rattle.cancel.specs.Cancelling.Model.{RoomFor, CanReduce, TwoQuotients};
@@ -10,7 +12,7 @@ use poly::rooms::CELLS;
 mod scaling;
 
 // The candidate's record, with the counts of the terms of both results in place of one. The steps are those of the candidate's divisions.
-#[derive(Drop)]
+#[derive(Clone, Copy)]
 pub struct CancelRecord {
     pub fault: Fault,
     pub degree: usize,

@@ -1,4 +1,6 @@
 // Case files. The reader: from bytes to the modulus and the four lists, or a refusal. The writer: the way back.
+#![tactic(auto)]
+
 use field::{Fault, KeyBits, MOST_KEYS, MOST_POINT_NUMBERS, MOST_TERMS, Residue, Term};
 
 mod reader;
@@ -17,7 +19,7 @@ pub type Keys = [KeyBits; MOST_KEYS];
 pub type PointNumbers = [Residue; MOST_POINT_NUMBERS];
 
 // What is read beside the lists: how many numbers each of them has, and the offset after the end record (0 on refusal).
-#[derive(Drop)]
+#[derive(Clone, Copy)]
 pub struct Counts {
     pub fault: Fault,
     pub next: usize,
@@ -28,7 +30,7 @@ pub struct Counts {
     pub points: usize,
 }
 
-#[derive(Drop)]
+#[derive(Clone, Copy)]
 pub struct Contents {
     pub fault: Fault,
     pub modulus: Residue,
@@ -43,7 +45,7 @@ pub struct Contents {
 }
 
 // What the writer answers: how many bytes the file has (0 on refusal).
-#[derive(Drop)]
+#[derive(Clone, Copy)]
 pub struct WriteRecord {
     pub fault: Fault,
     pub length: usize,

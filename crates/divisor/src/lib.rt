@@ -1,4 +1,6 @@
 // Layer 3, the candidate: the common divisor that images and equations fix, or a refusal.
+#![tactic(auto)]
+
 ghost use Rattle.std.specs.Prelude.{◌≡◌, ◌≤◌, length};
 ghost use Rattle.divisor.specs.Candidate.{candidate_call, candidate_result, refused_record, table as table_of, Candidate};
 ghost use Rattle.divisor.specs.Verdict.Model.{NoGoodPoint};
@@ -23,7 +25,7 @@ mod verdict;
 pub const MOST_STEPS: usize = 2 * CELLS;
 
 // Number, list and place, the least degree of an image, the numbers of bad, unlucky and kept points, the count of terms, and the steps of division taken.
-#[derive(Drop)]
+#[derive(Clone, Copy)]
 pub struct CandidateRecord {
     pub fault: Fault,
     pub degree: usize,

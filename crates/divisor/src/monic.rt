@@ -11,7 +11,7 @@ use field::{Element, KeyBits, MOST_KEYS, Residue, Term};
 pub(crate) type Terms = [Term; MOST_KEYS];
 
 // The terms, of which the first `count` are the divisor's.
-#[derive(Drop)]
+#[derive(Clone, Copy)]
 pub(crate) struct Divisor {
     pub terms: Terms,
     pub count: usize,

@@ -40,7 +40,7 @@ struct Reduced {
 }
 
 // How many solutions the equations have.
-#[derive(Drop)]
+#[derive(Clone, Copy)]
 pub(crate) enum Kind {
     None,
     One,

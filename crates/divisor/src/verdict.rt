@@ -10,7 +10,7 @@ use poly::Trial;
 use poly::rooms::WORK_ROOM;
 
 // The number, the count of the terms that are written, and the steps of division taken.
-#[derive(Drop)]
+#[derive(Clone, Copy)]
 pub(crate) struct Ruling {
     pub number: RefusalNumber,
     pub terms: usize,

@@ -4,7 +4,7 @@ ghost use Rattle.field.specs.Contract.{element, Fit, Invertible, sum_of, differe
 
 use crate::{Residue, Wide};
 
-#[derive(Drop)]
+#[derive(Clone, Copy)]
 pub struct Element {
     pub modulus: Residue,
     pub value: Residue,

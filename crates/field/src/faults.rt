@@ -6,7 +6,7 @@ ghost use Rattle.field.specs.Refusal.{fault, none};
 use crate::{ListNumber, RefusalNumber};
 
 // Number 0, list 0 and place 0: nothing is refused.
-#[derive(Drop)]
+#[derive(Clone, Copy)]
 pub struct Fault {
     pub number: RefusalNumber,
     pub list: ListNumber,

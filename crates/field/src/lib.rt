@@ -1,4 +1,6 @@
 // Layer 1, arithmetic: the listed moduli, numbers modulo one of them, and the refusal numbers of every service.
+#![tactic(auto)]
+
 mod elements;
 mod faults;
 mod modulus;

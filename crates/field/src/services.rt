@@ -5,7 +5,7 @@ ghost use Rattle.field.specs.Arithmetic.{first_operand, two_operands, inverse_op
 use crate::{Element, Fault, is_modulus};
 
 // What an arithmetic service answers.
-#[derive(Drop)]
+#[derive(Clone, Copy)]
 pub struct Answer {
     pub fault: Fault,
     pub element: Element,

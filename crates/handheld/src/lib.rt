@@ -1,6 +1,8 @@
 // The static library for C and Rust programs: each service with C's calling convention, on numbers and slices. A slice is a pointer, then a length.
 // A record is handed back as numbers in a lent array: a reference to a struct would have to be proved by hand.
 // include/balungkiro.h says the same to C.
+#![tactic(auto)]
+
 ghost use Rattle.std.specs.Prelude.{◌≡◌, length};
 ghost use Rattle.field.specs.Refusal.{Tested};
 ghost use Rattle.field.specs.Contract.{element};

@@ -1,5 +1,7 @@
 // Reads a case file from standard input and prints a line for each of its points: number, place, degree and the eight coefficients of the image,
 // or number and place of the refusal. A case without points is answered by one line: what the service refuses an empty point with.
+#![tactic(auto)]
+
 use console::{input, print};
 use field::{COORDINATES, Residue, Term};
 

@@ -6,7 +6,7 @@ ghost use Rattle.poly.specs.Key.Model.{Packable};
 
 use field::{KeyBits, Residue, Term};
 
-#[derive(Drop)]
+#[derive(Clone, Copy)]
 pub struct Key {
     pub bits: KeyBits,
 }

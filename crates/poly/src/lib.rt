@@ -1,4 +1,6 @@
 // Layer 2, polynomials in x, y, z, w modulo a listed prime: keys and lists, the value and the image at a point, division.
+#![tactic(auto)]
+
 use field::{Fault, RefusalNumber, Residue};
 
 pub mod division;
@@ -21,14 +23,14 @@ pub type Eight = [Residue; POWERS];
 pub type Size = u16;
 
 // The image at a point, for the layer above; at a bad point all is 0.
-#[derive(Drop)]
+#[derive(Clone, Copy)]
 pub struct PointImage {
     pub size: Size,
     pub coefficients: Eight,
 }
 
 // What the image service answers: U's coefficients and its degree; on refusal all are 0.
-#[derive(Drop)]
+#[derive(Clone, Copy)]
 pub struct ImageRecord {
     pub fault: Fault,
     pub coefficients: Eight,
@@ -36,21 +38,21 @@ pub struct ImageRecord {
 }
 
 // The leading part that is picked from two lists: which list it is the head of, 1 or 2, and how many terms it has.
-#[derive(Drop)]
+#[derive(Clone, Copy)]
 pub struct Picked {
     pub list: usize,
     pub terms: usize,
 }
 
 // What a division under a ceiling on its steps answers: 0 where the divisor divides, 15 or 18; and the steps taken, one for each term of the quotient.
-#[derive(Drop)]
+#[derive(Clone, Copy)]
 pub struct Trial {
     pub number: RefusalNumber,
     pub steps: usize,
 }
 
 // What the quotient service answers: the count of terms, 0 on refusal.
-#[derive(Drop)]
+#[derive(Clone, Copy)]
 pub struct QuotientRecord {
     pub fault: Fault,
     pub terms: usize,

@@ -1,4 +1,6 @@
 // Reads a case file from standard input and prints A over B: `0 0` and a line for each term, or number and place.
+#![tactic(auto)]
+
 ghost use Rattle.poly.specs.QuotientCall.{quotient_result};
 ghost use Rattle.quotient.specs.QuotientOfFile.{QuotientAnswered};
 

@@ -1,5 +1,7 @@
 // Reads a case file from standard input and prints each of its records on a line: kind, then its numbers, a term as coefficient and key. A refusal of
 // the reader is number and place on one line, and nothing else is printed.
+#![tactic(auto)]
+
 use console::{input, print};
 use field::{COORDINATES, KeyBits, Residue, Term};
 use poly::key::Key;
