@@ -1,0 +1,13 @@
+-- `field::ask_sum` meets its contract: where no line applies, the operands are those that `sum` asks for.
+use Rattle.std.proofs.Common.{rules}
+use Rattle.field.specs.Services.Laws.{operands_fit, arithmetic_refused, arithmetic_answered}
+use Rattle.field.proofs.services.ask_sum.Goals as goal
+
+pub sum-element-requires : goal.sum-element-requires
+sum-element-requires c = search (rules, operands_fit)
+
+pub returns-then-fault-ne0 : goal.returns-then-fault-ne0
+returns-then-fault-ne0 c = search (rules, arithmetic_refused)
+
+pub returns-else-fault-ne0 : goal.returns-else-fault-ne0
+returns-else-fault-ne0 c = search (rules, arithmetic_answered)
