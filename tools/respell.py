@@ -154,7 +154,7 @@ def main():
         crate = path.relative_to(root).parts[1]
         new = turn_modules(turn(text, path), crate)
         if path.name == "Lib.antt" and path.parent.name == "specs":
-            new = re.sub(r"(?m)^((?:pub )?mod )(\w+)", lambda m: m[1] + (capital(m[2]) if m[2] in modules[crate] else m[2]), new)
+            new = re.sub(r"(?m)^((?:pub )?mod )(«?)(\w+)(»?)", lambda m: m[1] + (capital(m[3]) if m[3] in modules[crate] else m[2] + m[3] + m[4]), new)
         if new != text:
             path.write_text(new)
             changed += 1

@@ -6,6 +6,6 @@ pub mod Written
 pub mod Handed
 pub mod WriteCall
 pub mod RoundTrips
-pub mod «record»
+pub mod Record
 pub mod Reader
 pub mod Writer
