@@ -39,7 +39,7 @@ pub listed_prime : {p : ℕ} → Listed p → Prime p
 listed_prime {p} h = test_prime p (listed_every prime_test tt p h)
 
 pub listed_above : {p : ℕ} → Listed p → 1 < p
-listed_above h = (listed_prime h).above
+listed_above {p} h = ltb→lt 1 p (listed_every (λ n. ltb 1 n) tt p h)
 
 pub listed_positive : {p : ℕ} → Listed p → 0 < p
 listed_positive h = omega (arith, listed_above h)
