@@ -69,7 +69,7 @@ impl Table {
 // The row less the multiple of the row kept in column j that makes its cell there 0. Before column j both have zeros, and nothing changes there.
 fn subtract(row: &mut Cells, cells: &TableCells, j: Column, columns: Column, p: Residue)
     requires { CanSubtract p (record { cells = row.old }) cells.now j columns }
-    ensures { record { cells = row.new } ≡ minus p (record { cells = row.old }) (row_in cells.entry.now j) j columns }
+    ensures { record { cells = row.new } ≡ minus p (record { cells = row.old }) (row_in cells.now j) j columns }
 {
     let at = MOST_COLUMNS * j as usize;
     let factor = Element::of(p, row[j as usize]);
