@@ -1,5 +1,5 @@
 -- `poly::value::monomial_at` meets its contract: the powers one after the other, begun with 1.
-use Rattle.std.proofs.Common.{◌≡◌, ℕ, ◌*◌, ◌%◌, ◌^◌, ap, ◌∙◌}
+use Rattle.std.proofs.Common.{◌≡◌, ◌*◌, ◌%◌, ◌^◌, ap, ◌∙◌}
 use Rattle.field.specs.Contract.{element}
 use Rattle.poly.specs.Keys.{exponents}
 use Rattle.poly.specs.Value.Monomial.{times_power_of}

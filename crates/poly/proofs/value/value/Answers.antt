@@ -1,15 +1,15 @@
 -- `poly::value::value` meets its contract: each turn works the term's power of w, then y^b z^c from that of the key before, and adds their product
 -- at the term's power of x.
-use Rattle.std.proofs.Common.{◌≡◌, ℕ, suc, ◌+◌, ◌-◌, ◌*◌, ◌/◌, ◌%◌, ◌^◌, ◌≤◌, ◌<◌, List, length, get_or, sym, ap, ◌∙◌, subst, arith}
+use Rattle.std.proofs.Common.{◌≡◌, ℕ, suc, ◌+◌, ◌-◌, ◌*◌, ◌/◌, ◌%◌, ◌≤◌, ◌<◌, List, length, get_or, sym, ap, ◌∙◌, subst, arith}
 use Rattle.std.proofs.Math.ListN.{get_or-eq_default}
 use Rattle.field.specs.declared.elements.Element.{Element}
 use Rattle.field.specs.Contract.{element}
 use Rattle.field.specs.Elements.Plain.{plus_product_is}
-use Rattle.poly.specs.Keys.{keys, exponents}
+use Rattle.poly.specs.Keys.{keys}
 use Rattle.poly.specs.Terms.{key_of, coefficient_of}
 use Rattle.poly.specs.Lists.{Falling}
 use Rattle.poly.specs.List.Falling.{falling_key, falling_coefficient, falling_rises}
-use Rattle.poly.specs.Value.Monomial.{head, monomial}
+use Rattle.poly.specs.Value.Monomial.{monomial}
 use Rattle.poly.specs.Value.Model.{plus_term}
 use Rattle.poly.specs.Value.PowerLaws.{factors_again, times_power_is, rises, risen_is, head_none}
 use Rattle.poly.specs.Value.ModelLaws.{value_of_none, value_of_stored, term_in_parts}
