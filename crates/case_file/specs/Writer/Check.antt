@@ -1,7 +1,7 @@
 -- The lines of the writer: line 26 is decided, by computing and by the test that the code makes; and what follows from the fault of both lines.
 use Rattle.std.specs.Prelude.{◌≡◌, Bool, true, false, ◌&&◌, List, ℕ, ◌%◌, ◌≤◌, eqb, leb, length}
 use Rattle.std.proofs.Common.{sym, ◌∙◌, true≢false, arith, le-leb, leb-true, eq-eqb, eqb-true}
-use Rattle.std.proofs.Math.Logic.{Dec.not}
+use Rattle.std.proofs.Math.Logic.Dec
 use Rattle.std.proofs.Math.Bool.{and-eq-true_iff}
 use Rattle.std.proofs.Math.Decide.{ℕ_discrete, dec_lt}
 use Rattle.field.specs.declared.faults.Fault.{Fault}

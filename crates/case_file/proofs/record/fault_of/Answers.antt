@@ -24,10 +24,10 @@ pub returns-then-kind-held : goal.returns-then-kind-held
 returns-then-kind-held c =
     fails_limit today _ _ _ _ (in_range _ (omega arith) (omega arith)) (sym c.follows.ensures ∙ c.if-not-follows.false)
     (rw c.body.ensures at c.if-left-body.false)
-    (rw (c.held.ensures, limit_at _ (omega arith) (omega arith)) at c.if-kind-held.true)
+    (rw (c.held.ensures, limit_at c.args.kind (omega arith) (omega arith)) at c.if-kind-held.true)
 
 pub returns : goal.returns
 returns c =
     passes today _ _ _ _ (in_range _ (omega arith) (omega arith)) (sym c.follows.ensures ∙ c.if-not-follows.false)
     (rw c.body.ensures at c.if-left-body.false)
-    (rw (c.held.ensures, limit_at _ (omega arith) (omega arith)) at c.if-kind-held.false)
+    (rw (c.held.ensures, limit_at c.args.kind (omega arith) (omega arith)) at c.if-kind-held.false)

@@ -11,7 +11,7 @@ returns-then-not-few c = tested_line 0 (many_unwritable _ _ _ _ c.if-not-few.tru
 pub returns-then-buffer-file_length : goal.returns-then-buffer-file_length
 returns-then-buffer-file_length c =
     tested_past (placed_never (not_unwritable _ _ _ _ (few_writable _ _ _ _ c.if-not-few.false)))
-    (tested_line 0 (rw c.file_length.ensures at c.if-buffer-file_length.true, refl) c.at.ensures)
+    (tested_line 0 (rw c.file_length.ensures at c.if-buffer-file_length.true, refl) c.at-then-buffer-file_length.ensures)
 
 pub returns : goal.returns
 returns c =
