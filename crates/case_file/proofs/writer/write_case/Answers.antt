@@ -1,5 +1,5 @@
 -- `write_case` puts the parts of the file one after another: at each place what is left of the file is known (`Putting`), and there is room for it.
-use Rattle.std.proofs.Common.{refl, ℕ, List, [], ◌∷◌, ◌+◌, ◌≤◌, length, arith}
+use Rattle.std.proofs.Common.{refl, ℕ, List, [], ◌∷◌, arith}
 use Rattle.field.specs.Loops.Putting.{Puts, Putting, putting_start, putting_next, putting_room, putting_end}
 use Rattle.case_file.specs.Format.{modulus_kind, end_kind, kind_of}
 use Rattle.case_file.specs.Written.{bytes}
@@ -61,8 +61,8 @@ pub write_points-end-requires : goal.write_points-end-requires
 write_points-end-requires c =
     let z : WriteCall = write_call c.args.modulus c.args.first.now c.args.second.now c.args.skeleton.now c.args.points.now c.args.buffer.now in
     let p =
-        put_skeleton z c.write_key-after_modulus.ensures c.write_terms-after_first.ensures c.write_terms-after_second.ensures
-        c.write_keys-after_skeleton.ensures
+    put_skeleton z c.write_key-after_modulus.ensures c.write_terms-after_first.ensures c.write_terms-after_second.ensures
+    c.write_keys-after_skeleton.ensures
     in
     putting_room p (points_part z) (end_kind ∷ []) refl (omega (arith, c.requires))
 
@@ -70,8 +70,8 @@ pub write1-requires : goal.write1-requires
 write1-requires c =
     let z : WriteCall = write_call c.args.modulus c.args.first.now c.args.second.now c.args.skeleton.now c.args.points.now c.args.buffer.now in
     let p =
-        put_points z c.write_key-after_modulus.ensures c.write_terms-after_first.ensures c.write_terms-after_second.ensures
-        c.write_keys-after_skeleton.ensures c.write_points-end.ensures
+    put_points z c.write_key-after_modulus.ensures c.write_terms-after_first.ensures c.write_terms-after_second.ensures
+    c.write_keys-after_skeleton.ensures c.write_points-end.ensures
     in
     putting_room p (end_kind ∷ []) [] refl (omega (arith, c.requires))
 
@@ -79,7 +79,7 @@ pub returns : goal.returns
 returns c =
     let z : WriteCall = write_call c.args.modulus c.args.first.now c.args.second.now c.args.skeleton.now c.args.points.now c.args.buffer.now in
     let p =
-        put_points z c.write_key-after_modulus.ensures c.write_terms-after_first.ensures c.write_terms-after_second.ensures
-        c.write_keys-after_skeleton.ensures c.write_points-end.ensures
+    put_points z c.write_key-after_modulus.ensures c.write_terms-after_first.ensures c.write_terms-after_second.ensures
+    c.write_keys-after_skeleton.ensures c.write_points-end.ensures
     in
     putting_end (putting_next p refl c.write1.ensures) refl
