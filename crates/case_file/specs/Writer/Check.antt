@@ -1,7 +1,7 @@
 -- The lines of the writer: line 26 is decided, by computing and by the test that the code makes; and what follows from the fault of both lines.
 use Rattle.std.specs.Prelude.{◌≡◌, Bool, true, false, ◌&&◌, List, ℕ, ◌%◌, ◌≤◌, eqb, leb, length}
 use Rattle.std.proofs.Common.{sym, ◌∙◌, true≢false, arith, le-leb, leb-true, eq-eqb, eqb-true}
-use Rattle.std.proofs.Math.Logic.{Dec·not}
+use Rattle.std.proofs.Math.Logic.Dec
 use Rattle.std.proofs.Math.Bool.{and-eq-true_iff}
 use Rattle.std.proofs.Math.Decide.{ℕ_discrete, dec_lt}
 use Rattle.field.specs.declared.faults.Fault.{Fault}
@@ -19,7 +19,7 @@ use Rattle.case_file.specs.Writer.Length.{file_length, length_file}
 unfoldable pub unwritable_decided : (first second skeleton points : ℕ) → Dec (Unwritable first second skeleton points)
 unwritable_decided first second skeleton points =
     either_decided (dec_lt _ first) (either_decided (dec_lt _ second) (either_decided (dec_lt _ skeleton)
-    (either_decided (dec_lt _ points) (Dec·not (ℕ_discrete (points % 3) 0)))))
+    (either_decided (dec_lt _ points) (Dec.not (ℕ_discrete (points % 3) 0)))))
 
 -- the test of the code
 module _ (first second skeleton points : ℕ) where

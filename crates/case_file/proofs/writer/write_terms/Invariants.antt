@@ -1,0 +1,11 @@
+-- Of the records of the list those from i on are still to be put (`Listing`). The measure is how many.
+use Rattle.std.proofs.Common.{length, ◌-◌}
+use Rattle.case_file.specs.WriteCall.{singles}
+use Rattle.case_file.specs.Writer.Turns.{Listing}
+use Rattle.case_file.proofs.writer.write_terms.Given as goal
+
+abbrev pub invariant-loop-i : goal.invariant-loop-i
+invariant-loop-i l = Listing singles l.kind l.list l.at l.fn.buffer l.i l.next l.buffer
+
+abbrev pub decreases-loop-i : goal.decreases-loop-i
+decreases-loop-i l = length l.list - l.i
