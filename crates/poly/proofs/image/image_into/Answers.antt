@@ -1,7 +1,6 @@
 -- `poly::image::image_into` meets its contract: the two values, the tests of their leading numbers and what is made of both are the model's,
 -- which answers the point.
 use Rattle.std.proofs.Common.{◌≡◌, sym, ap, ◌∙◌, subst, List, ℕ, get_or}
-use Rattle.field.specs.Moduli.{Listed}
 use Rattle.field.specs.Modulus.Laws.{listed_above, listed_positive}
 use Rattle.poly.specs.declared.PointImage.{PointImage}
 use Rattle.poly.specs.Coefficients.{Eight}
