@@ -37,7 +37,7 @@ pub extern "C" fn balungkiro_candidate(
 )
     ensures { Laid of_candidate (Candidate (candidate_call modulus first.now second.now skeleton.now
         points.now ceiling out.old work.old))
-        (record { numbers = numbers.exit.now; output = out.new; work = work.new }) }
+        (record { numbers = numbers.new; output = out.new; work = work.new }) }
 {
     let found = divisor::candidate(modulus, first, second, skeleton, points, ceiling, out, work);
     *numbers = [
@@ -70,7 +70,7 @@ pub extern "C" fn balungkiro_cancel(
     ensures { Laid of_cancel (Cancel (cancel_call modulus numerator.now denominator.now skeleton.now
         points.now ceiling numerator_out.old denominator_out.old work.old))
         (record {
-          numbers = numbers.exit.now;
+          numbers = numbers.new;
           numerator_output = numerator_out.new;
           denominator_output = denominator_out.new;
           work = work.new;
@@ -112,7 +112,7 @@ pub extern "C" fn balungkiro_quotient(
     numbers: &mut [usize; 4],
 )
     ensures { Laid of_quotient (Quotient (quotient_call modulus first.now second.now out.old
-        work.old)) (record { numbers = numbers.exit.now; output = out.new; work = work.new }) }
+        work.old)) (record { numbers = numbers.new; output = out.new; work = work.new }) }
 {
     let divided = poly::quotient::quotient(modulus, first, second, out, work);
     *numbers = [
@@ -134,7 +134,7 @@ pub extern "C" fn balungkiro_image(
     numbers: &mut [usize; 4],
 )
     ensures { Laid of_image (ImageAnswer (image_call modulus first.now second.now point.now))
-        (record { numbers = numbers.exit.now; coefficients = coefficients.new }) }
+        (record { numbers = numbers.new; coefficients = coefficients.new }) }
 {
     let seen = poly::image::image(modulus, first, second, point);
     let u = seen.coefficients;
@@ -270,7 +270,7 @@ pub extern "C" fn balungkiro_read(
 )
     ensures { Laid of_contents (λ r. r ≡ contents (read bytes.now))
         (record {
-          numbers = numbers.exit.now;
+          numbers = numbers.new;
           first = first.new;
           second = second.new;
           skeleton = skeleton.new;
@@ -302,7 +302,7 @@ pub extern "C" fn balungkiro_write(
     numbers: &mut [usize; 4],
 )
     ensures { Laid of_write (Write (write_call modulus first.now second.now skeleton.now
-        points.now buffer.old)) (record { numbers = numbers.exit.now; buffer = buffer.new }) }
+        points.now buffer.old)) (record { numbers = numbers.new; buffer = buffer.new }) }
 {
     let wrote = case_file::write(modulus, first, second, skeleton, points, buffer);
     *numbers = [
