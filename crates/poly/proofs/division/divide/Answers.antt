@@ -39,19 +39,19 @@ steps-requires c =
     let a = c.args in
     let r = c.inverse-inverse.result in
     let d : Setting =
-        record {
-          modulus = r.modulus;
-          terms = a.divisor.now;
-          lead = c.of-lead.result.bits;
-          inverse = r.value;
-          bound = c.most-above.result.bits - c.most-below.result.bits;
-        } in
+    record {
+      modulus = r.modulus;
+      terms = a.divisor.now;
+      lead = c.of-lead.result.bits;
+      inverse = r.value;
+      bound = c.most-above.result.bits - c.most-below.result.bits;
+    } in
     let same = ap (λ (v : Element). v.modulus) c.of-coefficient.ensures in
     let is =
-        setting_is d a.p a.dividend.now a.divisor.now (c.inverse-inverse.ensures.same ∙ same) refl c.of-lead.ensures
-        (lead_inverse_is a.p a.dividend.now a.divisor.now a.work.now c.requires.lists _ same
-        (ap (λ (v : Element). v.value) c.of-coefficient.ensures ∙ c.coefficient_of.ensures) r c.inverse-inverse.ensures)
-        (ap₂ ◌-◌ c.most-above.ensures c.most-below.ensures) in
+    setting_is d a.p a.dividend.now a.divisor.now (c.inverse-inverse.ensures.same ∙ same) refl c.of-lead.ensures
+    (lead_inverse_is a.p a.dividend.now a.divisor.now a.work.now c.requires.lists _ same
+    (ap (λ (v : Element). v.value) c.of-coefficient.ensures ∙ c.coefficient_of.ensures) r c.inverse-inverse.ensures)
+    (ap₂ ◌-◌ c.most-above.ensures c.most-below.ensures) in
     begun_can_step a.p a.dividend.now a.divisor.now a.work.now c.requires.lists d is _ c.spread.ensures c.requires.empty _
     (ap (λ (k : ℕ). k + 1) c.of-highest.ensures)
 
@@ -60,18 +60,18 @@ returns c =
     let a = c.args in
     let r = c.inverse-inverse.result in
     let d : Setting =
-        record {
-          modulus = r.modulus;
-          terms = a.divisor.now;
-          lead = c.of-lead.result.bits;
-          inverse = r.value;
-          bound = c.most-above.result.bits - c.most-below.result.bits;
-        } in
+    record {
+      modulus = r.modulus;
+      terms = a.divisor.now;
+      lead = c.of-lead.result.bits;
+      inverse = r.value;
+      bound = c.most-above.result.bits - c.most-below.result.bits;
+    } in
     let same = ap (λ (v : Element). v.modulus) c.of-coefficient.ensures in
     let is =
-        setting_is d a.p a.dividend.now a.divisor.now (c.inverse-inverse.ensures.same ∙ same) refl c.of-lead.ensures
-        (lead_inverse_is a.p a.dividend.now a.divisor.now a.work.now c.requires.lists _ same
-        (ap (λ (v : Element). v.value) c.of-coefficient.ensures ∙ c.coefficient_of.ensures) r c.inverse-inverse.ensures)
-        (ap₂ ◌-◌ c.most-above.ensures c.most-below.ensures) in
+    setting_is d a.p a.dividend.now a.divisor.now (c.inverse-inverse.ensures.same ∙ same) refl c.of-lead.ensures
+    (lead_inverse_is a.p a.dividend.now a.divisor.now a.work.now c.requires.lists _ same
+    (ap (λ (v : Element). v.value) c.of-coefficient.ensures ∙ c.coefficient_of.ensures) r c.inverse-inverse.ensures)
+    (ap₂ ◌-◌ c.most-above.ensures c.most-below.ensures) in
     let narrow : at_most (most_key a.divisor.now) (most_key a.dividend.now) ≡ true = cc in
     begun_ends a.p a.dividend.now a.divisor.now a.work.now c.requires.lists d is _ c.spread.ensures narrow a.ceiling _ _ c.steps.ensures

@@ -1,6 +1,6 @@
 -- `poly::quotient::exact` meets its contract, from what its calls say: the room cleared, the division, the quotient's terms gathered, and
 -- the room cleared again.
-use Rattle.std.proofs.Common.{◌≡◌, ◌≤◌, length, arith}
+use Rattle.std.proofs.Common.{◌≤◌, length, arith}
 use Rattle.poly.specs.Room.{work_room}
 use Rattle.poly.specs.Rooms.Laws.{zeroed_all}
 use Rattle.poly.specs.QuotientCall.{QuotientCall, quotient_call}
