@@ -1,5 +1,4 @@
 -- `poly::division::fits` meets its contract: the divisor's leading monomial is below the remainder's, and the difference is within the bound.
-use Rattle.std.proofs.Common.{sym, ◌∙◌}
 use Rattle.poly.specs.Key.Difference.{at_most_key, fits_not, fits_rest}
 use Rattle.poly.proofs.division.fits.Goals as goal
 

@@ -18,7 +18,7 @@ pack-requires c =
     let l = c.loop-i in
     let small : (v : Variable) → most v c.args.terms.now ≤ 7 = λ v. omega (arith, most_small v c.args.terms.now c.requires) in
     let all : record { x = l.x; y = l.y; z = l.z; w = l.w } ≡ most_of c.args.terms.now =
-        folding_end l.invariant c.loop-i-test.false ∙ raised_most c.args.terms.now in
+    folding_end l.invariant c.loop-i-test.false ∙ raised_most c.args.terms.now in
     subst (λ (e : Exponents). Packable e.x e.y e.z e.w) (sym all)
     (record { x_small = small in_x; y_small = small in_y; z_small = small in_z; w_small = small in_w })
 

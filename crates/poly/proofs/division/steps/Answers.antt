@@ -1,5 +1,5 @@
 -- `poly::division::steps` meets its contract. What is left of the division, from the cell k down, ends as the whole does; the search passes cells that are 0.
-use Rattle.std.proofs.Common.{◌≡◌, refl, sym, ap, ◌∙◌, ◌+◌, ◌-◌, ◌*◌, ◌%◌, true, false, get_or, set, length-set, mod-lt, arith}
+use Rattle.std.proofs.Common.{◌≡◌, refl, ap, ◌∙◌, ◌+◌, ◌-◌, ◌*◌, true, false, get_or, set, length-set, mod-lt, arith}
 use Rattle.field.specs.declared.elements.Element.{Element}
 use Rattle.field.specs.Elements.Plain.{has_modulus, product_is}
 use Rattle.poly.specs.Keys.{keys}
