@@ -13,7 +13,7 @@ use Rattle.algebra.specs.Laws.Monomial.{monomial_off}
 use Rattle.field.specs.Fp.{el}
 use Rattle.field.specs.Prime.{Prime}
 use Rattle.field.specs.Modulo.{Modulo}
-use Rattle.poly.specs.Keys.{key, exponents, keys}
+use Rattle.poly.specs.Keys.{exponents, keys}
 use Rattle.poly.specs.Terms.{key_of, coefficient_of, poly}
 use Rattle.poly.specs.Key.Laws.{exponents_of_key}
 use Rattle.poly.specs.Lists.{Falling}

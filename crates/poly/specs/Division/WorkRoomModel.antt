@@ -1,7 +1,6 @@
 -- Division in the lent work room: the remainder's cells, the quotient's cells, and what is beyond;
 -- what the functions of the division and the quotient ask for and promise.
 use Rattle.std.specs.Prelude.{◌≡◌, List, ℕ, ◌≤◌, ◌<◌, length, get_or, take, drop}
-use Rattle.field.specs.Refusal.{whole}
 use Rattle.poly.specs.Keys.{keys}
 use Rattle.poly.specs.Terms.{key_of}
 use Rattle.field.specs.Lent.{written}

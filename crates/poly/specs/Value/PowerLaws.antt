@@ -1,5 +1,5 @@
 -- Powers modulo p: what is raised may be reduced first, a power goes by its bits or one factor at a time, and what powers mean in the field.
-use Rattle.std.specs.Prelude.{◌≡◌, refl, ℕ, zero, suc, ◌+◌, ◌-◌, ◌*◌, ◌/◌, ◌%◌, ◌^◌, ◌≤◌, ◌<◌}
+use Rattle.std.specs.Prelude.{◌≡◌, refl, ℕ, zero, suc, ◌+◌, ◌*◌, ◌/◌, ◌%◌, ◌^◌, ◌≤◌, ◌<◌}
 use Rattle.std.proofs.Common.{sym, ap, ap₂, ◌∙◌, subst, mul_assoc, one-mul, mul-one, mod-eq_of_lt, pow-suc, arith, pow-add}
 use Rattle.std.proofs.Math.Nat.{pow-zero}
 use Rattle.algebra.specs.Ring.{pow}
