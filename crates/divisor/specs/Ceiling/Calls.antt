@@ -10,7 +10,7 @@ use Rattle.field.specs.Faults.Laws.{refuses_below}
 use Rattle.poly.specs.Terms.{Polynomial}
 use Rattle.poly.specs.PointValue.{Point}
 use Rattle.divisor.specs.declared.CandidateRecord.{CandidateRecord}
-use Rattle.divisor.specs.Rule.{Kept, divisor, Verdict, unsolvable, several, divided, RuleAnswer, all_bad, some_good}
+use Rattle.divisor.specs.Rule.{Kept, divisor, Tried, cut_off, rejected, accepted, Verdict, unsolvable, several, divided, RuleAnswer, all_bad, some_good}
 use Rattle.divisor.specs.Candidate.{Call, most_steps, table, Numbers, A, B, monomials, lent_points, Result, Candidate, refused, answered}
 use Rattle.divisor.specs.HigherCeiling.{HigherChangesNothing, NeverReached, with_ceiling, CandidateUnder, StepsWithin}
 use Rattle.divisor.specs.Answer.Determined.{steps_determined, tried_reached, tried_within}
