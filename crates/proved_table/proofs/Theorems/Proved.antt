@@ -2,7 +2,7 @@
 -- P1 is also what the bytes of the example file are answered; and beside the table stand the images that its rows name and the products that give its
 -- polynomials, and rows of the quotient, the Cancel key, the image, the reader, the writer and the picker.
 use Rattle.std.specs.Prelude.{◌≡◌, refl, true, List, [], ◌∷◌, map, ℕ, ◌%◌, ◌^◌, ◌≤◌, length}
-use Rattle.std.proofs.Math.Logic.{Dec·not, Dec·and}
+use Rattle.std.proofs.Math.Logic.Dec
 use Rattle.std.proofs.Math.Decide.{ℕ_discrete, dec_le, dec_lt}
 use Rattle.algebra.specs.Ring.{pow}
 use Rattle.algebra.specs.Mono.{mono}
@@ -54,7 +54,7 @@ use Rattle.proved_table.specs.CeilingRows.{ceiling_rows, ceiling_cancels}
 use Rattle.proved_table.specs.Table.{images, products, p1, table}
 
 pub table_passes : (every test table ≡ true) × (every test more_rows ≡ true) × (every test ceiling_rows ≡ true)
-unfolding list_at_fault ℕ_discrete dec_le dec_lt mono pow listed listed_decided el add mul neg chase inv Fp_discrete Dec·not Dec·and placed_check look first_check
+unfolding list_at_fault ℕ_discrete dec_le dec_lt mono pow listed listed_decided el add mul neg chase inv Fp_discrete Dec.not Dec.and placed_check look first_check
     decided cells plus_term with_term fold value_of size_to scaled monic between subtract downwards euclid gcd image_of_values
     image_of points_of lesser alike kept_of leading scaled_terms compare_by compare each_at_most plus less before_all leads
     one_more can_divide divided division within under tried divided_by by_answer with_counts by_kept by_least by_looks computed
@@ -79,7 +79,7 @@ table_determined = each_follows Holds Determined holds_determined table table_ho
 
 -- the images that the rows name are those, and so are the images beside them
 images_pass : (every image_test images ≡ true) × (every image_test more_images ≡ true)
-unfolding list_at_fault ℕ_discrete dec_le dec_lt listed listed_decided el add mul neg chase inv Dec·not Dec·and placed_check look first_check decided cells
+unfolding list_at_fault ℕ_discrete dec_le dec_lt listed listed_decided el add mul neg chase inv Dec.not Dec.and placed_check look first_check decided cells
     plus_term with_term fold value_of size_to scaled monic between subtract downwards euclid gcd image_of_values image_of
     count_decided not_below_decided key_decided plain_term_decided term_decided number_decided checks_append list_checks point_checks image_checks same_numbers
     image_passes image_agrees image_test
@@ -93,7 +93,7 @@ more_images_hold = each_tested image_test Shows image_tested more_images images_
 
 -- the quotients are those
 pub quotients_hold : Each QuotientHolds quotients
-unfolding list_at_fault ℕ_discrete dec_le dec_lt listed listed_decided el add mul neg chase inv Fp_discrete Dec·not Dec·and placed_check look first_check decided
+unfolding list_at_fault ℕ_discrete dec_le dec_lt listed listed_decided el add mul neg chase inv Fp_discrete Dec.not Dec.and placed_check look first_check decided
     compare_by compare each_at_most plus less less_all before_all leads one_more can_divide divided division divided_by
     count_decided not_below_decided key_decided plain_term_decided term_decided list_checks listed_and same_numbers
     right_lists multiplies quotient_agrees quotient_test
@@ -101,7 +101,7 @@ quotients_hold = each_tested quotient_test QuotientHolds quotient_tested quotien
 
 -- the Cancel key hands out those
 cancels_pass : (every cancel_test cancels ≡ true) × (every cancel_test ceiling_cancels ≡ true)
-unfolding list_at_fault ℕ_discrete dec_le dec_lt mono pow listed listed_decided el add mul neg chase inv Fp_discrete Dec·not Dec·and placed_check look first_check
+unfolding list_at_fault ℕ_discrete dec_le dec_lt mono pow listed listed_decided el add mul neg chase inv Fp_discrete Dec.not Dec.and placed_check look first_check
     decided cells plus_term with_term fold value_of size_to scaled monic between subtract downwards euclid gcd image_of_values
     image_of points_of lesser alike kept_of leading scaled_terms compare_by compare each_at_most plus less less_all before_all leads
     one_more can_divide divided division within under tried divided_by by_answer with_counts by_kept by_least by_looks computed
@@ -135,14 +135,14 @@ files_hold = (refl, (refl, (refl, (refl, (refl, tt)))))
 
 -- the files are written so
 pub writes_hold : Each Writes writes
-unfolding dec_lt ℕ_discrete Dec·not placed_check decided added kind_of triples file_of in_order records packed bytes unwritable_decided write_checks by_fault
+unfolding dec_lt ℕ_discrete Dec.not placed_check decided added kind_of triples file_of in_order records packed bytes unwritable_decided write_checks by_fault
     right_write
 writes_hold =
     (right_write_meets _, (right_write_meets _, (right_write_meets _, (right_write_meets _, (right_write_meets _, tt)))))
 
 -- the shorter leading parts are those
 pub picks_hold : Each Picks picks
-unfolding ℕ_discrete dec_le dec_lt Dec·and placed_check look first_check decided count_decided not_below_decided key_decided plain_term_decided
+unfolding ℕ_discrete dec_le dec_lt Dec.and placed_check look first_check decided count_decided not_below_decided key_decided plain_term_decided
     checks_append terms_checks two_lists_checks same_numbers lower_from by_lengths right_pick pick_test
 picks_hold = each_tested pick_test Picks pick_tested picks refl
 

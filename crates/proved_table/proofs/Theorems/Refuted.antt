@@ -1,6 +1,6 @@
 -- The contracts refute the wrong results: each passes its test, by computing.
 use Rattle.std.specs.Prelude.{◌≡◌, refl, true}
-use Rattle.std.proofs.Math.Logic.{Dec·not, Dec·and}
+use Rattle.std.proofs.Math.Logic.Dec
 use Rattle.std.proofs.Math.Decide.{ℕ_discrete, dec_le, dec_lt}
 use Rattle.algebra.specs.Ring.{pow}
 use Rattle.algebra.specs.Mono.{mono}
@@ -52,7 +52,7 @@ use Rattle.proved_table.specs.Test.Picks.{lower_from, by_lengths, right_pick, wr
 use Rattle.proved_table.specs.Test.PicksLaws.{pick_refuted, place_refuted, head_refuted}
 
 wrong_results_pass : (every wrong_test wrong_results ≡ true) × (every wrong_test wrong_ceilings ≡ true)
-unfolding list_at_fault ℕ_discrete dec_le dec_lt mono pow listed listed_decided el add mul neg chase inv Fp_discrete Dec·not Dec·and placed_check look first_check
+unfolding list_at_fault ℕ_discrete dec_le dec_lt mono pow listed listed_decided el add mul neg chase inv Fp_discrete Dec.not Dec.and placed_check look first_check
     decided cells plus_term with_term fold value_of size_to scaled monic between subtract downwards euclid gcd image_of_values
     image_of points_of lesser alike kept_of leading scaled_terms compare_by compare each_at_most plus less before_all leads
     one_more can_divide divided division within under tried divided_by by_answer with_counts by_kept by_least by_looks computed
@@ -71,7 +71,7 @@ wrong_ceilings_refuted = each_tested wrong_test Refuted refuted wrong_ceilings w
 
 -- the contract of the quotient
 pub wrong_quotients_refuted : Each QuotientRefuted wrong_quotients
-unfolding list_at_fault ℕ_discrete dec_le dec_lt listed listed_decided el add mul neg chase inv Fp_discrete Dec·not Dec·and placed_check look first_check decided
+unfolding list_at_fault ℕ_discrete dec_le dec_lt listed listed_decided el add mul neg chase inv Fp_discrete Dec.not Dec.and placed_check look first_check decided
     compare_by compare each_at_most plus less less_all before_all leads one_more can_divide divided division divided_by
     count_decided not_below_decided key_decided plain_term_decided term_decided list_checks listed_and same_numbers
     right_lists multiplies quotient_agrees quotient_test
@@ -79,7 +79,7 @@ unfolding list_at_fault ℕ_discrete dec_le dec_lt listed listed_decided el add 
 wrong_quotients_refuted = each_tested wrong_quotient_test QuotientRefuted quotient_refuted wrong_quotients refl
 
 wrong_cancels_pass : (every wrong_cancel_test wrong_cancels ≡ true) × (every wrong_cancel_test wrong_cancel_ceilings ≡ true)
-unfolding list_at_fault ℕ_discrete dec_le dec_lt mono pow listed listed_decided el add mul neg chase inv Fp_discrete Dec·not Dec·and placed_check look first_check
+unfolding list_at_fault ℕ_discrete dec_le dec_lt mono pow listed listed_decided el add mul neg chase inv Fp_discrete Dec.not Dec.and placed_check look first_check
     decided cells plus_term with_term fold value_of size_to scaled monic between subtract downwards euclid gcd image_of_values
     image_of points_of lesser alike kept_of leading scaled_terms compare_by compare each_at_most plus less less_all before_all leads
     one_more can_divide divided division within under tried divided_by by_answer with_counts by_kept by_least by_looks computed
@@ -97,7 +97,7 @@ wrong_cancel_ceilings_refuted = each_tested wrong_cancel_test CancelRefuted canc
 
 -- of the image
 pub wrong_images_refuted : Each ImageRefuted wrong_images
-unfolding list_at_fault ℕ_discrete dec_le dec_lt listed listed_decided el add mul neg chase inv Dec·not Dec·and placed_check look first_check decided cells
+unfolding list_at_fault ℕ_discrete dec_le dec_lt listed listed_decided el add mul neg chase inv Dec.not Dec.and placed_check look first_check decided cells
     plus_term with_term fold value_of size_to scaled monic between subtract downwards euclid gcd image_of_values image_of
     count_decided not_below_decided key_decided plain_term_decided term_decided number_decided checks_append list_checks point_checks image_checks same_numbers
     image_passes image_agrees image_test clash wrong_image_test
@@ -111,22 +111,22 @@ wrong_files_refuted = each_tested wrong_file_test FileRefuted file_refuted wrong
 
 -- of the writer
 pub wrong_writes_refuted : Each WriteRefuted wrong_writes
-unfolding list_at_fault ℕ_discrete dec_lt Dec·not placed_check decided kind_of added records packed bytes in_order file_of triples unwritable_decided
+unfolding list_at_fault ℕ_discrete dec_lt Dec.not placed_check decided kind_of added records packed bytes in_order file_of triples unwritable_decided
     write_checks by_fault right_write clash write_numbers wrong_write_test
 wrong_writes_refuted = each_tested wrong_write_test WriteRefuted write_refuted wrong_writes refl
 
 -- of the picker: other terms, wherever the lists lie; and the other list, where the lists begin at two places
 pub wrong_picks_refuted : Each PickRefuted wrong_picks
-unfolding ℕ_discrete dec_le dec_lt Dec·and placed_check look first_check decided count_decided not_below_decided key_decided plain_term_decided
+unfolding ℕ_discrete dec_le dec_lt Dec.and placed_check look first_check decided count_decided not_below_decided key_decided plain_term_decided
     checks_append terms_checks two_lists_checks clash lower_from by_lengths right_pick wrong_pick_test
 wrong_picks_refuted = each_tested wrong_pick_test PickRefuted pick_refuted wrong_picks refl
 
 pub wrong_places_refuted : Each PlaceRefuted wrong_places
-unfolding ℕ_discrete dec_le dec_lt Dec·and placed_check look first_check decided count_decided not_below_decided key_decided plain_term_decided
+unfolding ℕ_discrete dec_le dec_lt Dec.and placed_check look first_check decided count_decided not_below_decided key_decided plain_term_decided
     checks_append terms_checks two_lists_checks lower_from by_lengths right_pick wrong_place_test
 wrong_places_refuted = each_tested wrong_place_test PlaceRefuted place_refuted wrong_places refl
 
 pub wrong_heads_refuted : Each HeadRefuted wrong_heads
-unfolding ℕ_discrete dec_le dec_lt Dec·and placed_check look first_check decided count_decided not_below_decided key_decided plain_term_decided
+unfolding ℕ_discrete dec_le dec_lt Dec.and placed_check look first_check decided count_decided not_below_decided key_decided plain_term_decided
     checks_append terms_checks two_lists_checks clash lower_from by_lengths right_pick wrong_head_test
 wrong_heads_refuted = each_tested wrong_head_test HeadRefuted head_refuted wrong_heads refl
