@@ -101,7 +101,7 @@ unfolding wrong_place_test
 place_refuted w h first second part apart c meets = go (eqb w.list 2) (eqb (right w).list 2) h (same_place w first second part c meets)
   where
     go : (a b : Bool) → elim a as (λ _. Bool) [ true ↦ not b | false ↦ b ] ≡ true
-        → ◌≡◌ {A = ℕ × ℕ} (elim a [ true ↦ second.ref_ptr | false ↦ first.ref_ptr ]) (elim b [ true ↦ second.ptr | false ↦ first.ptr ]) → ⊥
+        → ◌≡◌ {A = ℕ × ℕ} (elim a [ true ↦ second.ref_ptr | false ↦ first.ref_ptr ]) (elim b [ true ↦ second.ref_ptr | false ↦ first.ref_ptr ]) → ⊥
     go true true h e = false≢true h
     go true false h e = apart (sym e)
     go false true h e = apart e
