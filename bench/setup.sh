@@ -1,4 +1,4 @@
-# Read by bench/run and bench/handheld: where everything is, what is needed, and the proved library together with its LLVM module.
+# Read by bench/run, bench/instructions and bench/handheld: where everything is, what is needed, and the proved library together with its LLVM module.
 set -u
 
 die() { printf 'bench: %s\n' "$*" >&2; exit 2; }
@@ -20,25 +20,32 @@ need() { # COMMAND-OR-FILE PACKAGE
 need python3 python3
 need cc gcc
 
-# A folder of links to the kit, but for a clang that also keeps the module that it is given, and the words that it is called with.
-kit=$build/kit
-rm -rf "$kit"
-mkdir -p "$kit/on/$machine/toolchain/bin"
-for part in KIT-ID bin lib libs logic; do ln -s "$home/$part" "$kit/$part"; done
-for part in bin rlib logic-built; do ln -s "$home/on/$machine/$part" "$kit/on/$machine/$part"; done
-ln -s "$tools/lib" "$kit/on/$machine/toolchain/lib"
-for tool in "$tools"/bin/*; do ln -s "$tool" "$kit/on/$machine/toolchain/bin/"; done
-rm "$kit/on/$machine/toolchain/bin/clang"
-cat >"$kit/on/$machine/toolchain/bin/clang" <<EOF
+# A folder of links to the kit, but for a clang that also keeps the module that it is given, and the words that it is called with. It stands outside the
+# repository, in which the gate wants no links, and rt itself is copied, since its kit is the folder that it lies in.
+kit=$(mktemp -d) || die "there is no room for temporary files"
+trap 'rm -rf "$kit"' EXIT
+mkdir -p "$kit/kit/bin" "$kit/kit/toolchain/bin"
+for part in "$home"/* "$home"/bin/* "$tools"/* "$tools"/bin/*; do
+    place=$kit/kit${part#"$home"}
+    [ -e "$place" ] || ln -s "$part" "$place"
+done
+rm "$kit/kit/bin/rt" "$kit/kit/bin/rtlib.py" "$kit/kit/toolchain/bin/clang"
+cp "$home/bin/rt" "$home/bin/rtlib.py" "$kit/kit/bin/"
+cat >"$kit/kit/toolchain/bin/clang" <<END
 #!/bin/sh
 printf '%s\n' "\$@" >'$build/clang.words'
 cp module.bc '$build/module.bc' || exit 1
 exec '$tools/bin/clang' "\$@"
-EOF
-chmod +x "$kit/on/$machine/toolchain/bin/clang"
+END
+chmod +x "$kit/kit/toolchain/bin/clang"
 
-rm -f "$build/module.bc"
-(cd "$root" && RATTLE_HOME=$kit rt staticlib handheld) >"$build/library.log" 2>&1 </dev/null || { cat "$build/library.log" >&2; die "the library is not proved"; }
+archive=$root/crates/handheld/out/libhandheld.a
+rm -f "$build/module.bc" "$archive"
+# By rt as it is first, which uses what other checks on this machine have proved.
+for rt in rt "$kit/kit/bin/rt"; do
+    (cd "$root/crates/handheld" && "$rt" lib) >"$build/library.log" 2>&1 </dev/null || { cat "$build/library.log" >&2; die "the library is not proved"; }
+done
+rm -rf "$kit"
 [ -f "$build/module.bc" ] || die "the toolchain gave no LLVM module"
 level=-O3
 grep -qxe "$level" "$build/clang.words" || die "the toolchain compiles at another level than $level: bench/setup.sh is to say which"

@@ -1,6 +1,6 @@
 /* Balungkiro: common divisors of polynomials in x, y, z, w modulo a small prime, and what the rule is built of.
  *
- * Link libhandheld.a, which `rt staticlib handheld` proves and writes to target/staticlib (x86-64).
+ * Link libhandheld.a, which `rt lib` in crates/handheld proves and writes to its folder out/ (x86-64).
  * The library keeps no state, allocates nothing, prints nothing, and returns from every call.
  *
  * Modulus      one of 7, 13, 17, 101, 32003, 65521; below it is p.

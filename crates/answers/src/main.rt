@@ -1,10 +1,15 @@
 // Reads a stream of case files from standard input, each behind its length, and prints for each what the program `candidate` prints.
 #![tactic(auto)]
 
-ghost use Rattle.std.specs.Prelude.{◌≡◌, ◌+◌, ◌*◌, ◌<◌};
-ghost use Rattle.io.specs.Counts.{IsPrefixLen};
+ghost use Rattle.std.specs.Prelude.{◌≡◌, ◌+◌, ◌*◌, ◌<◌, IfOk};
+ghost use Rattle.console.specs.Counts.{IsPrefixLen};
 
-use libc::STDIN_FILENO;
+use console::input;
+use std::io;
+use std::io::Read;
+
+// The most bytes of a file that has a length of two bytes.
+const LONGEST: usize = 65535;
 
 // A length has two bytes, the low byte first.
 fn length_of(low: u8, high: u8) -> usize
@@ -14,30 +19,33 @@ fn length_of(low: u8, high: u8) -> usize
 }
 
 // Reads the file that has this room, and answers it: how many bytes of it there were.
-fn answer(room: &mut [u8]) -> usize
-    ensures { IsPrefixLen result room.new }
+fn answer<R: Read>(rt: &impl Print, reader: &mut R, room: &mut [u8]) -> io::Result<usize>
+    ensures { IfOk result (λ n. IsPrefixLen n room.new) }
 {
-    let n = io::read_full(STDIN_FILENO, room);
-    console::answer::print_candidate_of(&room[..n]);
-    n
+    let n = input::read_full(reader, room)?;
+    console::answer::print_candidate_of(rt, &room[..n])?;
+    Ok(n)
 }
 
 // Answers the next file of the stream: whether there was one, which standard input alone decides.
-fn answer_next() -> bool {
+fn answer_next<R: Read>(rt: &impl Print, reader: &mut R) -> io::Result<bool> {
     let mut length = [0; 2];
-    if io::read_full(STDIN_FILENO, &mut length) < 2 {
-        return false;
+    if input::read_full(reader, &mut length)? < 2 {
+        return Ok(false);
     }
     let n = length_of(length[0], length[1]);
-    let mut bytes = io::large_buffer();
-    answer(&mut bytes[..n]);
-    true
+    let mut bytes = [0; LONGEST];
+    answer(rt, reader, &mut bytes[..n])?;
+    Ok(true)
 }
 
-// A proved loop has to end, and nothing says that the input does: the turns count down from a number that no run uses up.
-fn main() {
-    let mut turns = u64::MAX;
-    while turns > 0 && answer_next() {
-        turns -= 1;
+// A proved loop has to end, and nothing says that the input does: the turns are counted, up to a number that no run reaches.
+fn main(rt: HostRuntime) -> io::Result<()> {
+    let mut reader = rt.reader();
+    for _ in 0..u64::MAX {
+        if !answer_next(&rt, &mut reader)? {
+            break;
+        }
     }
+    Ok(())
 }

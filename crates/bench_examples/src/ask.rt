@@ -8,56 +8,58 @@ use crate::lists::MODULUS;
 use console::print;
 use divisor::MOST_STEPS;
 use field::{Answer, KeyBits, Residue, Term};
-use libc::STDOUT_FILENO;
 use poly::rooms::WORK_ROOM;
+use std::io;
 
 // The most keys of a skeleton.
 const SKELETON: usize = 32;
 
-fn print_label(label: &[u8]) {
-    io::write_all(STDOUT_FILENO, label);
-    io::write_all(STDOUT_FILENO, b": ");
+fn print_label(rt: &impl Print, label: &str) -> io::Result<()> {
+    print!(rt; "{label}: ")
 }
 
 // The numbers of a record, and the terms.
-fn print_found(label: &[u8], numbers: &[usize], terms: &[Term]) {
-    print_label(label);
-    print::line(numbers);
-    print::terms(terms);
+fn print_found(rt: &impl Print, label: &str, numbers: &[usize], terms: &[Term]) -> io::Result<()> {
+    print_label(rt, label)?;
+    print::line(rt, numbers)?;
+    print::terms(rt, terms)
 }
 
 // The candidate with the programs' ceiling.
 pub(crate) fn candidate(
-    label: &[u8],
+    rt: &impl Print,
+    label: &str,
     p: Residue,
     first: &[Term],
     second: &[Term],
     skeleton: &[KeyBits],
     points: &[Residue],
-) {
-    candidate_under(label, p, first, second, skeleton, points, MOST_STEPS);
+) -> io::Result<()> {
+    candidate_under(rt, label, p, first, second, skeleton, points, MOST_STEPS)
 }
 
 // The candidate in rooms that are long enough.
 pub(crate) fn candidate_under(
-    label: &[u8],
+    rt: &impl Print,
+    label: &str,
     p: Residue,
     first: &[Term],
     second: &[Term],
     skeleton: &[KeyBits],
     points: &[Residue],
     ceiling: usize,
-) {
+) -> io::Result<()> {
     let mut out = [0; SKELETON];
     let mut work = [0; WORK_ROOM];
     candidate_in(
-        label, p, first, second, skeleton, points, ceiling, &mut out, &mut work,
-    );
+        rt, label, p, first, second, skeleton, points, ceiling, &mut out, &mut work,
+    )
 }
 
 // The candidate in rooms of the caller's, which are left as the service leaves them.
 pub(crate) fn candidate_in(
-    label: &[u8],
+    rt: &impl Print,
+    label: &str,
     p: Residue,
     first: &[Term],
     second: &[Term],
@@ -66,7 +68,7 @@ pub(crate) fn candidate_in(
     ceiling: usize,
     out: &mut [Term],
     work: &mut [Residue],
-)
+) -> io::Result<()>
     ensures { (found : CandidateRecord) × Candidate (candidate_call p first.now second.now skeleton.now
         points.now ceiling out.old work.old)
         (candidate_result found out.new work.new) }
@@ -86,17 +88,18 @@ pub(crate) fn candidate_in(
         terms,
         found.steps,
     ];
-    print_found(label, &numbers, &out[..terms]);
+    print_found(rt, label, &numbers, &out[..terms])
 }
 
 // The quotient, in rooms that are left as the service leaves them.
 pub(crate) fn quotient(
-    label: &[u8],
+    rt: &impl Print,
+    label: &str,
     first: &[Term],
     second: &[Term],
     out: &mut [Term],
     work: &mut [Residue],
-)
+) -> io::Result<()>
     ensures { (found : QuotientRecord) × Quotient (quotient_call 17 first.now second.now out.old
         work.old) (quotient_result found out.new work.new) }
 {
@@ -105,38 +108,52 @@ pub(crate) fn quotient(
     let list = found.fault.list as usize;
     let terms = found.terms;
     let numbers = [number, list, found.fault.place, terms];
-    print_found(label, &numbers, &out[..terms]);
+    print_found(rt, label, &numbers, &out[..terms])
 }
 
-pub(crate) fn image(label: &[u8], first: &[Term], second: &[Term], point: &[Residue]) {
-    print_label(label);
-    print::image(poly::image::image(MODULUS, first, second, point));
+pub(crate) fn image(
+    rt: &impl Print,
+    label: &str,
+    first: &[Term],
+    second: &[Term],
+    point: &[Residue],
+) -> io::Result<()> {
+    print_label(rt, label)?;
+    print::image(rt, poly::image::image(MODULUS, first, second, point))
 }
 
 // Number, list, place, modulus, value.
-pub(crate) fn arithmetic(label: &[u8], found: Answer) {
+pub(crate) fn arithmetic(rt: &impl Print, label: &str, found: Answer) -> io::Result<()> {
     let fault = found.fault;
     let element = found.element;
-    print_label(label);
-    print::line(&[
-        fault.number as usize,
-        fault.list as usize,
-        fault.place,
-        element.modulus as usize,
-        element.value as usize,
-    ]);
+    print_label(rt, label)?;
+    print::line(
+        rt,
+        &[
+            fault.number as usize,
+            fault.list as usize,
+            fault.place,
+            element.modulus as usize,
+            element.value as usize,
+        ],
+    )
 }
 
 // What the list check says, and the terms of the leading part.
-pub(crate) fn leading_part(label: &[u8], terms: &[Term]) {
-    print_label(label);
-    print::fault(poly::list::check_list(terms));
-    print::terms(poly::list::leading_part(terms));
+pub(crate) fn leading_part(rt: &impl Print, label: &str, terms: &[Term]) -> io::Result<()> {
+    print_label(rt, label)?;
+    print::fault(rt, poly::list::check_list(terms))?;
+    print::terms(rt, poly::list::leading_part(terms))
 }
 
 // What the check of two lists says, and the terms of their shorter leading part.
-pub(crate) fn shorter_part<'a>(label: &[u8], first: &'a [Term], second: &'a [Term]) {
-    print_label(label);
-    print::fault(poly::list::check_lists(first, second));
-    print::terms(poly::list::shorter_part(first, second));
+pub(crate) fn shorter_part<'a>(
+    rt: &impl Print,
+    label: &str,
+    first: &'a [Term],
+    second: &'a [Term],
+) -> io::Result<()> {
+    print_label(rt, label)?;
+    print::fault(rt, poly::list::check_lists(first, second))?;
+    print::terms(rt, poly::list::shorter_part(first, second))
 }

@@ -7,19 +7,21 @@ mod run_only;
 mod services;
 mod table;
 
-fn main() {
-    table::first_six();
-    table::last_six();
-    table::images();
-    run_only::lists();
-    run_only::swapped();
-    run_only::skeletons_and_points();
-    run_only::ceilings();
-    run_only::rooms();
-    run_only::quotients();
-    run_only::images();
-    services::arithmetic();
-    services::arithmetic_refused();
-    services::leading_parts();
-    services::shorter_parts();
+use std::io;
+
+fn main(rt: HostRuntime) -> io::Result<()> {
+    table::first_six(&rt)?;
+    table::last_six(&rt)?;
+    table::images(&rt)?;
+    run_only::lists(&rt)?;
+    run_only::swapped(&rt)?;
+    run_only::skeletons_and_points(&rt)?;
+    run_only::ceilings(&rt)?;
+    run_only::rooms(&rt)?;
+    run_only::quotients(&rt)?;
+    run_only::images(&rt)?;
+    services::arithmetic(&rt)?;
+    services::arithmetic_refused(&rt)?;
+    services::leading_parts(&rt)?;
+    services::shorter_parts(&rt)
 }

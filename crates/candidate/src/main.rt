@@ -1,8 +1,11 @@
 // Reads a case file from standard input and prints its candidate.
 #![tactic(auto)]
 
-fn main() {
-    let mut bytes = io::buffer();
-    let n = console::input::read_file(&mut bytes);
-    console::answer::print_candidate_of(&bytes[..n]);
+use console::{answer, input};
+use std::io;
+
+fn main(rt: HostRuntime) -> io::Result<()> {
+    let mut bytes = [0; input::ENOUGH];
+    let n = input::read_file(&rt, &mut bytes)?;
+    answer::print_candidate_of(&rt, &bytes[..n])
 }

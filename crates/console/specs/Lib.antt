@@ -1,4 +1,5 @@
 -- What the contracts of the programs' common functions say; then, for each source module, its laws.
+pub mod Counts
 pub mod OfFile
 pub mod CandidateOfFile
 pub mod Input

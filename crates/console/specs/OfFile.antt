@@ -1,6 +1,6 @@
 -- What is found where a file is read and a service is asked of the case: the reader's refusal, or the service's answer.
 use Rattle.std.specs.Prelude.{ℕ, ◌≡◌, List}
-use Rattle.io.specs.Counts.{IsPrefixLen}
+use Rattle.console.specs.Counts.{IsPrefixLen}
 use Rattle.field.specs.declared.faults.Fault.{Fault}
 use Rattle.case_file.specs.Reading.{Reading, read}
 use Rattle.case_file.specs.Handed.{fault}

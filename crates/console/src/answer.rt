@@ -6,6 +6,7 @@ use crate::print;
 use divisor::{CandidateRecord, MOST_STEPS};
 use field::{Residue, Term};
 use poly::rooms::WORK_ROOM;
+use std::io;
 
 // Reads the case and asks for its candidate, with a ceiling that two divisions never pass.
 pub fn candidate_of(bytes: &[u8], out: &mut [Term], work: &mut [Residue]) -> CandidateRecord
@@ -37,11 +38,11 @@ pub fn candidate_of(bytes: &[u8], out: &mut [Term], work: &mut [Residue]) -> Can
 }
 
 // Prints what is found: the first line, and a line for each term.
-pub fn print_candidate_of(bytes: &[u8]) {
+pub fn print_candidate_of(rt: &impl Print, bytes: &[u8]) -> io::Result<()> {
     let mut out = [0; field::MOST_KEYS];
     let mut work = [0; WORK_ROOM];
     let found = candidate_of(bytes, &mut out, &mut work);
     let terms = found.terms;
-    print::candidate(found);
-    print::terms(&out[..terms]);
+    print::candidate(rt, found)?;
+    print::terms(rt, &out[..terms])
 }

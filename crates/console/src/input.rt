@@ -1,14 +1,32 @@
 // Standard input.
-ghost use Rattle.io.specs.Counts.{IsPrefixLen};
+ghost use Rattle.std.specs.Prelude.{IfOk};
+ghost use Rattle.console.specs.Counts.{IsPrefixLen};
 
-use libc::STDIN_FILENO;
+use std::io;
+use std::io::Read;
 
-// As much of a case file as settles what is found of it, whatever stands after it: the law `of-file-settled`.
+// As much of a case file as settles what is found of it, whatever stands after it: the law `of_file_settled`.
 pub const ENOUGH: usize = 4096;
 
-// Reads the whole file, or as much as settles what is found of it: how many bytes.
-pub fn read_file(bytes: &mut [u8; ENOUGH]) -> usize
-    ensures { IsPrefixLen result bytes.new }
+// Reads until the room is full or the input ends: how many bytes.
+pub fn read_full<R: Read>(reader: &mut R, room: &mut [u8]) -> io::Result<usize>
+    ensures { IfOk result (λ n. IsPrefixLen n room.new) }
 {
-    io::read_full(STDIN_FILENO, bytes)
+    let mut done: usize = 0;
+    while done < room.len() {
+        let n = reader.read(&mut room[done..])?;
+        if n == 0 {
+            break;
+        }
+        done += n;
+    }
+    Ok(done)
+}
+
+// Reads the whole file, or as much as settles what is found of it: how many bytes.
+pub fn read_file(rt: &impl Input, bytes: &mut [u8; ENOUGH]) -> io::Result<usize>
+    ensures { IfOk result (λ n. IsPrefixLen n bytes.new) }
+{
+    let mut reader = rt.reader();
+    read_full(&mut reader, bytes)
 }

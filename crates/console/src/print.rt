@@ -1,84 +1,98 @@
 // Lines on standard output: numbers with a space between two.
 use divisor::CandidateRecord;
 use field::{Fault, Term};
-use libc::STDOUT_FILENO;
 use poly::ImageRecord;
 use poly::key::Key;
+use std::{fmt, io};
 
-pub fn line(numbers: &[usize]) {
-    let mut i: usize = 0;
-    while i < numbers.len() {
-        if i > 0 {
-            io::write_all(STDOUT_FILENO, b" ");
+// The numbers of a line.
+#[derive(Drop)]
+struct Numbers<'a>(&'a [usize]);
+
+impl fmt::Display for Numbers<'_> {
+    fn fmt<W: fmt::Write>(&self, f: &mut fmt::Formatter<W>) -> fmt::Result {
+        let mut space = "";
+        for number in self.0 {
+            write!(f, "{space}{number}")?;
+            space = " ";
         }
-        io::print_decimal(STDOUT_FILENO, numbers[i] as u64);
-        i += 1;
+        Ok(())
     }
-    io::write_all(STDOUT_FILENO, b"\n");
+}
+
+pub fn line(rt: &impl Print, numbers: &[usize]) -> io::Result<()> {
+    rt.println(Numbers(numbers))
 }
 
 // Number and place: a refusal, as every program but `candidate` prints it.
-pub fn fault(f: Fault) {
-    line(&[f.number as usize, f.place]);
+pub fn fault(rt: &impl Print, f: Fault) -> io::Result<()> {
+    line(rt, &[f.number as usize, f.place])
 }
 
 // The coefficient, then the exponents of x, y, z, w.
-fn term(t: Term) {
+fn term(rt: &impl Print, t: Term) -> io::Result<()> {
     let key = Key::of(t);
-    line(&[
-        poly::key::coefficient_of(t) as usize,
-        key.x() as usize,
-        key.y() as usize,
-        key.z() as usize,
-        key.w() as usize,
-    ]);
+    line(
+        rt,
+        &[
+            poly::key::coefficient_of(t) as usize,
+            key.x() as usize,
+            key.y() as usize,
+            key.z() as usize,
+            key.w() as usize,
+        ],
+    )
 }
 
-pub fn terms(list: &[Term]) {
-    let mut i: usize = 0;
-    while i < list.len() {
-        term(list[i]);
-        i += 1;
+pub fn terms(rt: &impl Print, list: &[Term]) -> io::Result<()> {
+    for t in list {
+        term(rt, *t)?;
     }
+    Ok(())
 }
 
 // Number, list, place, d, bad, unlucky, kept.
-pub fn candidate(r: CandidateRecord) {
-    line(&[
-        r.fault.number as usize,
-        r.fault.list as usize,
-        r.fault.place,
-        r.degree,
-        r.bad,
-        r.unlucky,
-        r.kept,
-    ]);
+pub fn candidate(rt: &impl Print, r: CandidateRecord) -> io::Result<()> {
+    line(
+        rt,
+        &[
+            r.fault.number as usize,
+            r.fault.list as usize,
+            r.fault.place,
+            r.degree,
+            r.bad,
+            r.unlucky,
+            r.kept,
+        ],
+    )
 }
 
 // Number, place, degree, and the eight coefficients.
-fn coefficients(r: ImageRecord) {
+fn coefficients(rt: &impl Print, r: ImageRecord) -> io::Result<()> {
     let u = r.coefficients;
-    line(&[
-        r.fault.number as usize,
-        r.fault.place,
-        r.degree,
-        u[0] as usize,
-        u[1] as usize,
-        u[2] as usize,
-        u[3] as usize,
-        u[4] as usize,
-        u[5] as usize,
-        u[6] as usize,
-        u[7] as usize,
-    ]);
+    line(
+        rt,
+        &[
+            r.fault.number as usize,
+            r.fault.place,
+            r.degree,
+            u[0] as usize,
+            u[1] as usize,
+            u[2] as usize,
+            u[3] as usize,
+            u[4] as usize,
+            u[5] as usize,
+            u[6] as usize,
+            u[7] as usize,
+        ],
+    )
 }
 
 // An image, or a refusal as number and place.
-pub fn image(r: ImageRecord) {
+pub fn image(rt: &impl Print, r: ImageRecord) -> io::Result<()> {
     let refused = r.fault;
     if refused.number != 0 {
-        fault(refused);
-        return;
+        return fault(rt, refused);
     }
-    coefficients(r);
+    coefficients(rt, r)
 }

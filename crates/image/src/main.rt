@@ -4,20 +4,28 @@
 
 use console::{input, print};
 use field::{COORDINATES, Residue, Term};
+use std::io;
 
-fn print_images(p: Residue, first: &[Term], second: &[Term], points: &[Residue]) {
+fn print_images(
+    rt: &impl Print,
+    p: Residue,
+    first: &[Term],
+    second: &[Term],
+    points: &[Residue],
+) -> io::Result<()> {
     if points.len() == 0 {
-        print::image(poly::image::image(p, first, second, points));
+        print::image(rt, poly::image::image(p, first, second, points))?;
     }
     let mut i: usize = 0;
     while i + COORDINATES <= points.len() {
         let end = i + COORDINATES;
-        print::image(poly::image::image(p, first, second, &points[i..end]));
+        print::image(rt, poly::image::image(p, first, second, &points[i..end]))?;
         i = end;
     }
+    Ok(())
 }
 
-fn print_images_of(bytes: &[u8]) {
+fn print_images_of(rt: &impl Print, bytes: &[u8]) -> io::Result<()> {
     let mut first = [0; field::MOST_TERMS];
     let mut second = [0; field::MOST_TERMS];
     let mut skeleton = [0; field::MOST_KEYS];
@@ -25,17 +33,16 @@ fn print_images_of(bytes: &[u8]) {
     let counts = case_file::read_into(bytes, &mut first, &mut second, &mut skeleton, &mut points);
     let fault = counts.fault;
     if fault.number != 0 {
-        print::fault(fault);
-        return;
+        return print::fault(rt, fault);
     }
     let a = counts.first;
     let b = counts.second;
     let n = counts.points;
-    print_images(counts.modulus, &first[..a], &second[..b], &points[..n]);
+    print_images(rt, counts.modulus, &first[..a], &second[..b], &points[..n])
 }
 
-fn main() {
-    let mut bytes = io::buffer();
-    let n = input::read_file(&mut bytes);
-    print_images_of(&bytes[..n]);
+fn main(rt: HostRuntime) -> io::Result<()> {
+    let mut bytes = [0; input::ENOUGH];
+    let n = input::read_file(&rt, &mut bytes)?;
+    print_images_of(&rt, &bytes[..n])
 }

@@ -14,4 +14,3 @@ pub mod WrongCeilings
 pub mod WrongWrites
 pub mod WrongPicks
 pub mod Test
-pub mod Theorems

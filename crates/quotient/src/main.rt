@@ -8,6 +8,7 @@ use console::{input, print};
 use field::{Residue, Term};
 use poly::QuotientRecord;
 use poly::rooms::{CELLS, WORK_ROOM};
+use std::io;
 
 // Reads the case and asks for its quotient.
 fn quotient_of(bytes: &[u8], out: &mut [Term], work: &mut [Residue]) -> QuotientRecord
@@ -27,13 +28,13 @@ fn quotient_of(bytes: &[u8], out: &mut [Term], work: &mut [Residue]) -> Quotient
     poly::quotient::quotient(counts.modulus, &first[..a], &second[..b], out, work)
 }
 
-fn main() {
-    let mut bytes = io::buffer();
-    let n = input::read_file(&mut bytes);
+fn main(rt: HostRuntime) -> io::Result<()> {
+    let mut bytes = [0; input::ENOUGH];
+    let n = input::read_file(&rt, &mut bytes)?;
     let mut out = [0; CELLS];
     let mut work = [0; WORK_ROOM];
     let found = quotient_of(&bytes[..n], &mut out, &mut work);
     let terms = found.terms;
-    print::fault(found.fault);
-    print::terms(&out[..terms]);
+    print::fault(&rt, found.fault)?;
+    print::terms(&rt, &out[..terms])
 }

@@ -5,66 +5,73 @@
 use console::{input, print};
 use field::{COORDINATES, KeyBits, Residue, Term};
 use poly::key::Key;
+use std::io;
 
-fn print_term(kind: u8, t: Term) {
+fn print_term(rt: &impl Print, kind: u8, t: Term) -> io::Result<()> {
     let key = Key::of(t);
     let coefficient = poly::key::coefficient_of(t);
-    print::line(&[kind as usize, coefficient as usize, key.bits as usize]);
+    print::line(
+        rt,
+        &[kind as usize, coefficient as usize, key.bits as usize],
+    )
 }
 
-fn print_terms(kind: u8, list: &[Term]) {
-    let mut i: usize = 0;
-    while i < list.len() {
-        print_term(kind, list[i]);
-        i += 1;
+fn print_terms(rt: &impl Print, kind: u8, list: &[Term]) -> io::Result<()> {
+    for t in list {
+        print_term(rt, kind, *t)?;
     }
+    Ok(())
 }
 
-fn print_key(key: KeyBits) {
-    print::line(&[case_file::SKELETON as usize, key as usize]);
+fn print_key(rt: &impl Print, key: KeyBits) -> io::Result<()> {
+    print::line(rt, &[case_file::SKELETON as usize, key as usize])
 }
 
-fn print_keys(list: &[KeyBits]) {
-    let mut i: usize = 0;
-    while i < list.len() {
-        print_key(list[i]);
-        i += 1;
+fn print_keys(rt: &impl Print, list: &[KeyBits]) -> io::Result<()> {
+    for key in list {
+        print_key(rt, *key)?;
     }
+    Ok(())
 }
 
-fn print_point(y: Residue, z: Residue, w: Residue) {
-    print::line(&[
-        case_file::POINT as usize,
-        y as usize,
-        z as usize,
-        w as usize,
-    ]);
+fn print_point(rt: &impl Print, y: Residue, z: Residue, w: Residue) -> io::Result<()> {
+    print::line(
+        rt,
+        &[
+            case_file::POINT as usize,
+            y as usize,
+            z as usize,
+            w as usize,
+        ],
+    )
 }
 
-fn print_points(numbers: &[Residue]) {
+fn print_points(rt: &impl Print, numbers: &[Residue]) -> io::Result<()> {
     let mut i: usize = 0;
     while i + COORDINATES <= numbers.len() {
-        print_point(numbers[i], numbers[i + 1], numbers[i + 2]);
+        print_point(rt, numbers[i], numbers[i + 1], numbers[i + 2])?;
         i += COORDINATES;
     }
+    Ok(())
 }
 
 fn print_records(
+    rt: &impl Print,
     modulus: Residue,
     first: &[Term],
     second: &[Term],
     skeleton: &[KeyBits],
     points: &[Residue],
-) {
-    print::line(&[case_file::MODULUS as usize, modulus as usize]);
-    print_terms(case_file::FIRST, first);
-    print_terms(case_file::SECOND, second);
-    print_keys(skeleton);
-    print_points(points);
-    print::line(&[case_file::END as usize]);
+) -> io::Result<()> {
+    print::line(rt, &[case_file::MODULUS as usize, modulus as usize])?;
+    print_terms(rt, case_file::FIRST, first)?;
+    print_terms(rt, case_file::SECOND, second)?;
+    print_keys(rt, skeleton)?;
+    print_points(rt, points)?;
+    print::line(rt, &[case_file::END as usize])
 }
 
-fn print_records_of(bytes: &[u8]) {
+fn print_records_of(rt: &impl Print, bytes: &[u8]) -> io::Result<()> {
     let mut first = [0; field::MOST_TERMS];
     let mut second = [0; field::MOST_TERMS];
     let mut skeleton = [0; field::MOST_KEYS];
@@ -72,24 +79,24 @@ fn print_records_of(bytes: &[u8]) {
     let counts = case_file::read_into(bytes, &mut first, &mut second, &mut skeleton, &mut points);
     let fault = counts.fault;
     if fault.number != 0 {
-        print::fault(fault);
-        return;
+        return print::fault(rt, fault);
     }
     let a = counts.first;
     let b = counts.second;
     let keys = counts.skeleton;
     let numbers = counts.points;
     print_records(
+        rt,
         counts.modulus,
         &first[..a],
         &second[..b],
         &skeleton[..keys],
         &points[..numbers],
-    );
+    )
 }
 
-fn main() {
-    let mut bytes = io::buffer();
-    let n = input::read_file(&mut bytes);
-    print_records_of(&bytes[..n]);
+fn main(rt: HostRuntime) -> io::Result<()> {
+    let mut bytes = [0; input::ENOUGH];
+    let n = input::read_file(&rt, &mut bytes)?;
+    print_records_of(&rt, &bytes[..n])
 }

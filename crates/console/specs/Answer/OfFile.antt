@@ -5,7 +5,7 @@ use Rattle.case_file.specs.declared.Counts.{Counts as CaseCounts}
 use Rattle.case_file.specs.Format.{modulus_kind, first_kind, second_kind, skeleton_kind, point_kind}
 use Rattle.case_file.specs.Reading.{Reading, read}
 use Rattle.case_file.specs.Handed.{list, Gives}
-use Rattle.io.specs.Counts.{IsPrefixLen}
+use Rattle.console.specs.Counts.{IsPrefixLen}
 use Rattle.console.specs.Input.Lists.{lists_read}
 use Rattle.console.specs.OfFile.{OfFile, refused, asked, Answered}
 

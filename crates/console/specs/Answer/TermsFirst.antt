@@ -2,7 +2,7 @@
 use Rattle.std.specs.Prelude.{ℕ, ◌≤◌, refl, List, length}
 use Rattle.std.proofs.Common.{zero-le, arith, length-append, length-take}
 use Rattle.std.proofs.lemmas.List.{length-map}
-use Rattle.io.specs.Counts.{IsPrefixLen}
+use Rattle.console.specs.Counts.{IsPrefixLen}
 use Rattle.field.specs.Lent.{written}
 use Rattle.poly.specs.Terms.{number_of, numbers_of}
 use Rattle.poly.specs.QuotientCall.{QuotientCall, QuotientResult, Quotient, refused as refused_quotient, no_quotient, quotient}

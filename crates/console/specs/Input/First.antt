@@ -1,7 +1,7 @@
 -- A list that stands first in an array; one that is padded to an array does.
 use Rattle.std.specs.Prelude.{ℕ, ◌≡◌, List, length, take}
 use Rattle.std.proofs.Common.{arith, sym, ap, length-append, take_at}
-use Rattle.io.specs.Counts.{IsPrefixLen}
+use Rattle.console.specs.Counts.{IsPrefixLen}
 use Rattle.case_file.specs.Handed.{padded}
 use Rattle.console.specs.Answer.TermsFirst.{counts_within}
 

@@ -18,7 +18,8 @@ use Rattle.poly.specs.Lists.{Falling}
 use Rattle.poly.specs.List.Laws.{FallFrom}
 use Rattle.poly.specs.Image.Laws.{image_small}
 use Rattle.divisor.specs.declared.CandidateRecord.{CandidateRecord}
-use Rattle.divisor.specs.Rule.{Kept, Sorted, Unknowns, Solution, without_zeros, made_monic, divisor, cut_off, rejected, accepted}
+use Rattle.divisor.specs.Answer.Determined.{tried_accepted}
+use Rattle.divisor.specs.Rule.{Kept, Sorted, Unknowns, Solution, without_zeros, made_monic, divisor}
 use Rattle.divisor.specs.Rule.{unsolvable, several, divided, all_bad, some_good}
 use Rattle.divisor.specs.Candidate.{Call, table, prime, Numbers, A, B, monomials, lent_points, AnswerTo}
 use Rattle.divisor.specs.Demands.{LeadsWith}
@@ -117,7 +118,6 @@ module _ (c : Call) (pass : Passes (table c)) (listed : Listed c.modulus) where
   accepted_list r G (all_bad all) e = absurd (omega arith)
   accepted_list r G (some_good d b u k kept sorted n H m (unsolvable z)) e = absurd (omega arith)
   accepted_list r G (some_good d b u k kept sorted n H m (several z)) e = absurd (omega arith)
-  accepted_list r G (some_good d b u k kept sorted n H m (divided s only (cut_off a t l))) e = absurd (omega arith)
-  accepted_list r G (some_good d b u k kept sorted n H m (divided s only (rejected a t l x))) e = absurd (omega arith)
-  accepted_list r G (some_good d b u k kept sorted n H m (divided s only (accepted a t l x))) e =
-      solution_list d b u k kept sorted s only.0
+  accepted_list r G (some_good d b u k kept sorted n H m (divided s only tried)) e =
+      let t = tried_accepted (Numbers c listed) (A c listed) (B c listed) (divisor (Numbers c listed) s) c.ceiling n m H tried e in
+      subst (AcceptedList c.modulus (prime c listed) (length c.skeleton)) (sym t.1) (solution_list d b u k kept sorted s only.0)

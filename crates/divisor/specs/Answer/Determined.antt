@@ -1,5 +1,5 @@
 -- The rule settles its answer, the steps of division too: two answers to the same question are equal.
-use Rattle.std.specs.Prelude.{◌≡◌, refl, Bool, true, false, List, ◌∷◌, length, ℕ, suc, ◌+◌ as ◌+ₙ◌, ◌≤◌}
+use Rattle.std.specs.Prelude.{◌≡◌, refl, Bool, true, false, List, ◌∷◌, length, ℕ, suc, ◌+◌ as ◌+ₙ◌, ◌<◌, ◌≤◌}
 use Rattle.std.proofs.Common.{sym, ◌∙◌, ap, ap₂, subst, true≢false, arith}
 use Rattle.algebra.specs.Field.{Field}
 use Rattle.algebra.specs.Series.{Seq}
@@ -11,9 +11,10 @@ use Rattle.algebra.specs.Laws.Division.{division_determined}
 use Rattle.poly.specs.Terms.{Polynomial}
 use Rattle.poly.specs.PointValue.{Point}
 use Rattle.poly.specs.Image.Laws.{image_unique}
+use Rattle.field.specs.Numbers.{CEILING_REACHED}
 use Rattle.divisor.specs.declared.CandidateRecord.{CandidateRecord}
 use Rattle.divisor.specs.Rule.{report, Kept, Sorted, done, bad, unlucky, keep, AllBad, Unknowns, OnlySolution, SeveralSolutions}
-use Rattle.divisor.specs.Rule.{divisor, Steps, of_first, of_both, Tried, cut_off, rejected, accepted, Verdict, unsolvable, several, divided}
+use Rattle.divisor.specs.Rule.{DividesBoth, divisor, Steps, of_first, of_both, Tried, cut_off, rejected, accepted, Verdict, unsolvable, several, divided}
 use Rattle.divisor.specs.Rule.{RuleAnswer, all_bad, some_good}
 
 -- two divisions of f by g find the same terms and say the same
@@ -29,6 +30,7 @@ module _ (K : Field) (A B : Polynomial K) where
   -- the least degree is least
   pub least_degree : (d e : ℕ) (points : List (Point R)) (b u b' u' : ℕ) (ks : List (Kept K)) (k : Kept K) (ls : List (Kept K))
       → Sorted K A B d points b u ks → Sorted K A B e points b' u' (k ∷ ls) → d ≤ e
+  least_degree d e _ _ _ b' u' _ k ls done sorted = elim sorted [ ]
   least_degree d e points b u b' u' ks k ls (bad x s) (bad y t) = least_degree d e _ _ u _ u' ks k ls s t
   least_degree d e points b u b' u' ks k ls (bad x s) (unlucky f W j l t) = absurd (j.good x)
   least_degree d e points b u b' u' ks k ls (bad x s) (keep W j t) = absurd (j.good x)
@@ -101,6 +103,26 @@ module _ (K : Field) (A B : Polynomial K) where
   tried_determined G ceiling n m a b H I (accepted c s l x) (cut_off e t k) = absurd (let q = steps_determined G c e s t in omega arith)
   tried_determined G ceiling n m a b H I (accepted c s l x) (rejected e t k y) = absurd (y x)
   tried_determined G ceiling n m a b H I (accepted c s l x) (accepted e t k y) = (refl, refl, steps_determined G c e s t)
+
+  -- only an accepted G has number 0
+  pub tried_accepted : (G : Polynomial K) (ceiling n m : ℕ) (H : Polynomial K) → Tried K A B G ceiling n H m → n ≡ 0 → DividesBoth K A B G × (H ≡ G)
+  tried_accepted G ceiling n m H (cut_off a s l) e = absurd (omega arith)
+  tried_accepted G ceiling n m H (rejected a s l x) e = absurd (omega arith)
+  tried_accepted G ceiling n m H (accepted a s l both) e = (both, refl)
+
+  -- number 18 says that there are more steps than the ceiling
+  pub tried_reached : (G : Polynomial K) (ceiling n m : ℕ) (H : Polynomial K) → Tried K A B G ceiling n H m → n ≡ CEILING_REACHED
+      → (a : ℕ) × Steps K A B G a × (ceiling < a)
+  tried_reached G ceiling n m H (cut_off a s l) e = (a, s, l)
+  tried_reached G ceiling n m H (rejected a s l x) e = absurd (omega arith)
+  tried_reached G ceiling n m H (accepted a s l x) e = absurd (omega arith)
+
+  -- no more steps are taken than the ceiling, and with number 18 as many
+  pub tried_within : (G : Polynomial K) (ceiling n m : ℕ) (H : Polynomial K) → Tried K A B G ceiling n H m
+      → (m ≤ ceiling) × (n ≡ CEILING_REACHED → m ≡ ceiling)
+  tried_within G ceiling n m H (cut_off a s l) = (omega arith, λ e. refl)
+  tried_within G ceiling n m H (rejected a s l x) = (l, λ e. absurd (omega arith))
+  tried_within G ceiling n m H (accepted a s l x) = (l, λ e. absurd (omega arith))
 
   verdict_determined : (monomials : List Exponents) (kept : List (Kept K)) (ceiling : ℕ) (n m a b : ℕ) (G H : Polynomial K)
       → Verdict K A B monomials kept ceiling n G a → Verdict K A B monomials kept ceiling m H b → (n ≡ m) × (G ≡ H) × (a ≡ b)

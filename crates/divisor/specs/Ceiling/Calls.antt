@@ -13,7 +13,7 @@ use Rattle.divisor.specs.declared.CandidateRecord.{CandidateRecord}
 use Rattle.divisor.specs.Rule.{Kept, divisor, Tried, cut_off, rejected, accepted, Verdict, unsolvable, several, divided, RuleAnswer, all_bad, some_good}
 use Rattle.divisor.specs.Candidate.{Call, most_steps, table, Numbers, A, B, monomials, lent_points, Result, Candidate, refused, answered}
 use Rattle.divisor.specs.HigherCeiling.{HigherChangesNothing, NeverReached, with_ceiling, CandidateUnder, StepsWithin}
-use Rattle.divisor.specs.Answer.Determined.{steps_determined}
+use Rattle.divisor.specs.Answer.Determined.{steps_determined, tried_reached, tried_within}
 use Rattle.divisor.specs.Answer.CandidateDetermined.{candidate_determined}
 use Rattle.divisor.specs.Ceiling.Steps.{divisor_steps}
 
@@ -57,13 +57,12 @@ never_cut_off c l r (refused f h) e = let b = table_below c f h in omega arith
 never_cut_off c l r (answered pass listed f G (all_bad h)) e = omega arith
 never_cut_off c l r (answered pass listed f G (some_good d b u k kept s n H m (unsolvable z))) e = omega arith
 never_cut_off c l r (answered pass listed f G (some_good d b u k kept s n H m (several z))) e = omega arith
-never_cut_off c l r (answered pass listed f G (some_good d b u k kept sorted n H m (divided s only (cut_off a t x)))) e =
+never_cut_off c l r (answered pass listed f G (some_good d b u k kept sorted n H m (divided s only tried))) e =
+    let reached = tried_reached (Numbers c listed) (A c listed) (B c listed) (divisor (Numbers c listed) s) c.ceiling n m H tried e in
     let found = divisor_steps c pass listed (record { d = d; bad = b; unlucky = u; first = k; others = kept; sorted = sorted }) s only.0 in
-    let q = steps_determined (Numbers c listed) (A c listed) (B c listed) (divisor (Numbers c listed) s) a found.steps t found.takes in
+    let q = steps_determined (Numbers c listed) (A c listed) (B c listed) (divisor (Numbers c listed) s) reached.0 found.steps reached.1 found.takes in
     let w = found.few in
     omega arith
-never_cut_off c l r (answered pass listed f G (some_good d b u k kept s n H m (divided t only (rejected a x y z)))) e = omega arith
-never_cut_off c l r (answered pass listed f G (some_good d b u k kept s n H m (divided t only (accepted a x y z)))) e = omega arith
 
 -- 18 IS NEVER REACHED
 pub never_reached : (c : Call) → NeverReached (CandidateUnder c) (λ r. r.found.fault.number)
@@ -77,9 +76,6 @@ steps_within c r (answered pass listed f G (some_good d b u k kept s n H m (unso
     record { within = omega arith; reached = λ e. absurd (omega arith) }
 steps_within c r (answered pass listed f G (some_good d b u k kept s n H m (several z))) =
     record { within = omega arith; reached = λ e. absurd (omega arith) }
-steps_within c r (answered pass listed f G (some_good d b u k kept s n H m (divided t only (cut_off a x y)))) =
-    record { within = omega arith; reached = λ e. refl }
-steps_within c r (answered pass listed f G (some_good d b u k kept s n H m (divided t only (rejected a x y z)))) =
-    record { within = y; reached = λ e. absurd (omega arith) }
-steps_within c r (answered pass listed f G (some_good d b u k kept s n H m (divided t only (accepted a x y z)))) =
-    record { within = y; reached = λ e. absurd (omega arith) }
+steps_within c r (answered pass listed f G (some_good d b u k kept sorted n H m (divided s only tried))) =
+    let t = tried_within (Numbers c listed) (A c listed) (B c listed) (divisor (Numbers c listed) s) c.ceiling n m H tried in
+    record { within = t.0; reached = t.1 }

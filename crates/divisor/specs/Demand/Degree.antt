@@ -21,8 +21,9 @@ use Rattle.poly.specs.PointImage.{LeadVanishes, Bad, Image}
 use Rattle.poly.specs.Image.Laws.{good_keeps, image_small}
 use Rattle.poly.specs.Value.Laws.{polynomial_finite, valued, value_of_polynomial, Bounded, polynomial_ends}
 use Rattle.divisor.specs.declared.CandidateRecord.{CandidateRecord}
+use Rattle.divisor.specs.Answer.Determined.{tried_accepted}
 use Rattle.divisor.specs.Rule.{DividesBoth, Kept, Sorted, done, bad, unlucky, keep, First, Equations, Unknowns, Solution, without_zeros}
-use Rattle.divisor.specs.Rule.{divisor, cut_off, rejected, accepted, unsolvable, several, divided, RuleAnswer, all_bad, some_good}
+use Rattle.divisor.specs.Rule.{divisor, unsolvable, several, divided, RuleAnswer, all_bad, some_good}
 use Rattle.divisor.specs.Demands.{DegreeX, IsPolynomial, GreatestInX}
 use Rattle.divisor.specs.Monic.Value.{value_without_zeros, without_zeros_nonzero, made_monic_nonzero}
 
@@ -134,9 +135,6 @@ module _ (K : Field) where
       absurd (omega arith)
   accepted_greatest A B monomials points ceiling first second r G (some_good d b u k kept sorted n H m (several s)) e =
       absurd (omega arith)
-  accepted_greatest A B monomials points ceiling first second r G (some_good d b u k kept sorted n H m (divided s only (cut_off a t l))) e =
-      absurd (omega arith)
-  accepted_greatest A B monomials points ceiling first second r G (some_good d b u k kept sorted n H m (divided s only (rejected a t l x))) e =
-      absurd (omega arith)
-  accepted_greatest A B monomials points ceiling first second r G (some_good d b u k kept sorted n H m (divided s only (accepted a t l both))) e =
-      accepted_degree A B monomials points first second d b u k kept sorted s only.0 both
+  accepted_greatest A B monomials points ceiling first second r G (some_good d b u k kept sorted n H m (divided s only tried)) e =
+      let t = tried_accepted K A B (divisor K s) ceiling n m H tried e in
+      subst (λ (I : Polynomial K). GreatestInX K A B I d) (sym t.1) (accepted_degree A B monomials points first second d b u k kept sorted s only.0 t.0)

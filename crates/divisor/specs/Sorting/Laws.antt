@@ -143,6 +143,8 @@ module _ {p : ℕ} (P : Prime p) (A B : Polynomial (Modulo p P)) where
   pub sorted : (d : ℕ) (points : List (Point (Modulo p P).ring)) (looks : List PointImage) → Looked points looks → AtLeast (suc d) (sizes_of looks)
       → (u : ℕ) × Sorted (Modulo p P) A B d points (alike 0 (sizes_of looks)) u (kept_of P (suc d) points looks)
   sorted d [] [] nowhere h = (unfold alike kept_of in (0, done))
+  sorted d [] (r ∷ looks) looked h = elim looked [ ]
+  sorted d (at ∷ points) [] looked h = elim looked [ ]
   sorted d (at ∷ points) (r ∷ looks) (one (bad x) rest) h =
       let s = sorted d points looks rest h.1 in
       sorted_by d at points r looks 0 refl

@@ -18,9 +18,9 @@ use Rattle.field.specs.Lent.{written}
 use Rattle.poly.specs.Key.Laws.{Digits, digits_of, exponents_of_key}
 use Rattle.poly.specs.Key.Terms.{key_of_term, coefficient_of_term}
 use Rattle.divisor.specs.declared.CandidateRecord.{CandidateRecord}
-use Rattle.divisor.specs.Rule.{Kept, Unknowns, Solution, without_zeros, divided_by, made_monic, divisor, cut_off, rejected}
+use Rattle.divisor.specs.Rule.{Kept, Tried, Unknowns, Solution, without_zeros, divided_by, made_monic, divisor, cut_off, rejected}
 use Rattle.divisor.specs.Rule.{accepted, unsolvable, several, divided, all_bad, some_good}
-use Rattle.divisor.specs.Candidate.{Call, prime, Numbers, A, AnswerTo, handed_out}
+use Rattle.divisor.specs.Candidate.{Call, prime, Numbers, A, B, AnswerTo, handed_out}
 use Rattle.divisor.specs.Answer.CandidateDetermined.{result_of}
 use Rattle.divisor.specs.Monic.Value.{zero_dropped, nonzero_kept}
 
@@ -102,16 +102,21 @@ module _ (p : ℕ) (P : Prime p) (small : p < coefficient_limit) where
       ap (λ (n : ℕ). terms_of p P (take n (written (numbers_of p P f) out))) (sym (length_numbers p P f))
       ∙ ap (terms_of p P) (take_at (numbers_of p P f) _ _ refl) ∙ read_numbers f h
 
+-- what the divisions hand out has keys where G has
+tried_keyed : (K : Field) (A B G : Polynomial K) (ceiling n m : ℕ) (H : Polynomial K) → Tried K A B G ceiling n H m → Keyed K G → Keyed K H
+tried_keyed K A B G ceiling n m H (cut_off a s l) h = tt
+tried_keyed K A B G ceiling n m H (rejected a s l x) h = tt
+tried_keyed K A B G ceiling n m H (accepted a s l x) h = h
+
 -- an answer's G has keys, and the record counts its terms
 pub answer_counts : (c : Call) (listed : Listed c.modulus) (r : CandidateRecord) (G : Polynomial (Numbers c listed))
     → AnswerTo c listed r G → Keyed (Numbers c listed) G × (r.terms ≡ length G)
 answer_counts c listed r G (all_bad all) = (tt, refl)
 answer_counts c listed r G (some_good d b u k kept sorted n H m (unsolvable x)) = (tt, refl)
 answer_counts c listed r G (some_good d b u k kept sorted n H m (several x)) = (tt, refl)
-answer_counts c listed r G (some_good d b u k kept sorted n H m (divided s only (cut_off a t l))) = (tt, refl)
-answer_counts c listed r G (some_good d b u k kept sorted n H m (divided s only (rejected a t l x))) = (tt, refl)
-answer_counts c listed r G (some_good d b u k kept sorted n H m (divided s only (accepted a t l x))) =
-    ((divisor_within (Numbers c listed) c.skeleton (k ∷ kept) s only.0).keyed, refl)
+answer_counts c listed r G (some_good d b u k kept sorted n H m (divided s only tried)) =
+    (tried_keyed (Numbers c listed) (A c listed) (B c listed) (divisor (Numbers c listed) s) c.ceiling n m H tried
+    (divisor_within (Numbers c listed) c.skeleton (k ∷ kept) s only.0).keyed, refl)
 
 -- in an answered call the output holds G
 pub answered_output : (c : Call) (listed : Listed c.modulus) (f : CandidateRecord) (G : Polynomial (Numbers c listed))

@@ -1,7 +1,7 @@
 -- The lines of the candidate's inputs, of the image's and of two lists without a modulus, each decided by computing.
 use Rattle.std.specs.Prelude.{◌≡◌, refl, ◌⊎◌, List, [], ◌∷◌, ◌++◌, map, ℕ, zero, suc, ◌%◌, ◌≤◌, ◌<◌, length, get_or}
 use Rattle.std.proofs.Common.{subst, inl, inr, arith}
-use Rattle.std.proofs.Math.Logic.{Dec·not, Dec·and}
+use Rattle.std.proofs.Math.Logic.Dec
 use Rattle.std.proofs.Math.Decide.{ℕ_discrete, dec_le, dec_lt}
 use Rattle.field.specs.Numbers.{MODULUS, FIRST_COUNT, FIRST_TERM, SECOND_COUNT, SECOND_TERM, SKELETON_COUNT, SKELETON_KEY, POINTS_COUNT, POINT_NUMBER}
 use Rattle.field.specs.Modulus.Laws.{listed_decided}
@@ -52,7 +52,7 @@ module _ (ks : List ℕ) where
   from_wrong (suc i) (not_below before e l h) = let q : before ≡ i = omega arith in (l, inr (subst (λ (n : ℕ). get_or ks n 0 ≤ get_or ks (suc i) 0) q h))
 
   unfoldable pub key_decided : (i : ℕ) → Dec (WrongKey ks i)
-  key_decided i = decided_as (to_wrong i) (from_wrong i) (Dec·and (dec_lt i (length ks))
+  key_decided i = decided_as (to_wrong i) (from_wrong i) (Dec.and (dec_lt i (length ks))
       (either_decided (dec_le keys (get_or ks i 0)) (not_below_decided i)))
 
 module _ (ts : List ℕ) where
@@ -70,7 +70,7 @@ module _ (ts : List ℕ) where
 
   unfoldable pub plain_term_decided : (i : ℕ) → Dec (WrongTerm ts i)
   plain_term_decided i = decided_as (to_wrong_term i) (from_wrong_term i)
-      (either_decided (key_decided (map key_of ts) i) (Dec·and (dec_lt i (length ts)) (ℕ_discrete (coefficient_of (get_or ts i 0)) 0)))
+      (either_decided (key_decided (map key_of ts) i) (Dec.and (dec_lt i (length ts)) (ℕ_discrete (coefficient_of (get_or ts i 0)) 0)))
 
 module _ (p : ℕ) (ts : List ℕ) where
   -- and modulo p
@@ -87,11 +87,11 @@ module _ (p : ℕ) (ts : List ℕ) where
 
   unfoldable pub term_decided : (i : ℕ) → Dec (WrongModulo p ts i)
   term_decided i = decided_as (to_wrong_modulo i) (from_wrong_modulo i)
-      (either_decided (plain_term_decided ts i) (Dec·and (dec_lt i (length ts)) (dec_le p (coefficient_of (get_or ts i 0)))))
+      (either_decided (plain_term_decided ts i) (Dec.and (dec_lt i (length ts)) (dec_le p (coefficient_of (get_or ts i 0)))))
 
   unfoldable pub number_decided : (i : ℕ) → Dec (WrongNumber p ts i)
   number_decided i = decided_as (λ (h : (i < length ts) × (p ≤ get_or ts i 0)). record { there = h.0; large = h.1 }) (λ w. (w.there, w.large))
-      (Dec·and (dec_lt i (length ts)) (dec_le p (get_or ts i 0)))
+      (Dec.and (dec_lt i (length ts)) (dec_le p (get_or ts i 0)))
 
 -- checks of two tables, one behind the other
 unfoldable pub checks_append : (front back : List Line) → Checks front → Checks back → Checks (front ++ back)
@@ -100,7 +100,7 @@ checks_append (l ∷ front) back cs ds = (cs.0, checks_append front back cs.1 ds
 
 unfoldable pub list_checks : (p : ℕ) (A B : List ℕ) → Checks (of_lists p A B)
 list_checks p A B = (
-  placed_check MODULUS 0 _ (Dec·not (listed_decided p)),
+  placed_check MODULUS 0 _ (Dec.not (listed_decided p)),
   (
     placed_check FIRST_COUNT 0 _ (count_decided most_terms A),
     (
@@ -130,13 +130,13 @@ skeleton_checks skeleton = (
 
 unfoldable pub points_checks : (p : ℕ) (points : List ℕ) → Checks (of_points p points)
 points_checks p points = (
-  placed_check POINTS_COUNT 0 _ (either_decided (count_decided most_point_numbers points) (Dec·not (ℕ_discrete (length points % 3) 0))),
+  placed_check POINTS_COUNT 0 _ (either_decided (count_decided most_point_numbers points) (Dec.not (ℕ_discrete (length points % 3) 0))),
   (first_check POINT_NUMBER _ (number_decided p points) (length points) (numbers_end p points), tt),
 )
 
 unfoldable pub point_checks : (p : ℕ) (point : List ℕ) → Checks (of_point p point)
 point_checks p point = (
-  placed_check POINTS_COUNT 0 _ (Dec·not (ℕ_discrete (length point) 3)),
+  placed_check POINTS_COUNT 0 _ (Dec.not (ℕ_discrete (length point) 3)),
   (first_check POINT_NUMBER _ (number_decided p point) (length point) (numbers_end p point), tt),
 )
 

@@ -1,7 +1,7 @@
 -- Division of short lists of terms by the rule, over any field, computed: it says how many steps there are and whether the divisor divides, or leaves it
 -- open.
 use Rattle.std.specs.Prelude.{Bool, true, false, [], ◌∷◌, ℕ, zero, suc, ◌-◌}
-use Rattle.std.proofs.Math.Logic.{Dec·and}
+use Rattle.std.proofs.Math.Logic.Dec
 use Rattle.std.proofs.Math.Decide.{dec_le}
 use Rattle.algebra.specs.Field.{Field}
 use Rattle.algebra.specs.Four.{Exponents, ◌⊞◌, ◌≼◌}
@@ -21,8 +21,8 @@ one_more open_still = open_still
 -- each exponent at most the other's
 unfoldable pub each_at_most : (e f : Exponents) → Dec (e ≼ f)
 each_at_most e f =
-    elim (Dec·and (dec_le e.x f.x) (Dec·and (dec_le e.y f.y)
-    (Dec·and (dec_le e.z f.z) (dec_le e.w f.w)))) [
+    elim (Dec.and (dec_le e.x f.x) (Dec.and (dec_le e.y f.y)
+    (Dec.and (dec_le e.z f.z) (dec_le e.w f.w)))) [
       | yes h ↦ yes (record { x = h.0; y = h.1.0; z = h.1.1.0; w = h.1.1.1 })
       | no n ↦ no (λ l. n (l.x, (l.y, (l.z, l.w))))
     ]
@@ -83,7 +83,7 @@ module _ (K : Field) where
 
   -- m over the monomial l: no exponent of the quotient negative, and with most_g none above most_f
   unfoldable pub can_divide : (l most_f most_g m : Exponents) → Dec ((l ≼ m) × (over m l ⊞ most_g ≼ most_f))
-  can_divide l most_f most_g m = Dec·and (each_at_most l m) (each_at_most (over m l ⊞ most_g) most_f)
+  can_divide l most_f most_g m = Dec.and (each_at_most l m) (each_at_most (over m l ⊞ most_g) most_f)
 
   -- the remainder t ∷ f by g, which begins with the term l; most_f and most_g are the greatest exponents; the number of steps is bounded
   unfoldable pub divided : Exponents → Exponents → Term R → Polynomial K → ℕ → Polynomial K → Outcome

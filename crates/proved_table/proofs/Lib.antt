@@ -1,0 +1,2 @@
+-- What is proved of the table and of the wrong results.
+pub mod Theorems
