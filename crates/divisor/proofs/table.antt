@@ -1,2 +1,0 @@
--- What the walks over the table share.
-pub mod Apart
