@@ -141,7 +141,7 @@ pub record PickRow : Type 0 where
 
 -- where the list of that number begins
 abbrev pub place_of : ℕ → Bor (List ℕ) → Bor (List ℕ) → ℕ × ℕ
-place_of list first second = elim (eqb list 2) [ true ↦ second.ptr | false ↦ first.ptr ]
+place_of list first second = elim (eqb list 2) [ true ↦ second.ref_ptr | false ↦ first.ref_ptr ]
 
 -- slices that are a row's lists, and a part that has the row's terms and begins where the row's list does
 pub record Sliced (r : PickRow) (first second part : Bor (List ℕ)) : Type 0 where

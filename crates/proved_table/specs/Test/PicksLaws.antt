@@ -81,7 +81,7 @@ module _ (w : PickRow) (first second part : Bor (List ℕ)) (c : Sliced w first 
   settled : (part.ref_ptr ≡ place_of (right w).list first second) × (part.now ≡ (right w).terms)
   settled =
       let row = pick_row w.first_list w.second_list (right w).list (right w).terms in
-      let slice : Bor (List ℕ) = record { ref_ptr = place_of (right w).list first second; ghost_name = part.name; now = (right w).terms } in
+      let slice : Bor (List ℕ) = record { ref_ptr = place_of (right w).list first second; now = (right w).terms } in
       shorter_determined meets (shorter_picks row (right_pick_meets w.first_list w.second_list) first second slice
       (record { first_now = c.first_now; second_now = c.second_now; part_now = refl; part_place = refl }))
 
@@ -101,7 +101,7 @@ unfolding wrong_place_test
 place_refuted w h first second part apart c meets = go (eqb w.list 2) (eqb (right w).list 2) h (same_place w first second part c meets)
   where
     go : (a b : Bool) → elim a as (λ _. Bool) [ true ↦ not b | false ↦ b ] ≡ true
-        → ◌≡◌ {A = ℕ × ℕ} (elim a [ true ↦ second.ptr | false ↦ first.ptr ]) (elim b [ true ↦ second.ptr | false ↦ first.ptr ]) → ⊥
+        → ◌≡◌ {A = ℕ × ℕ} (elim a [ true ↦ second.ref_ptr | false ↦ first.ref_ptr ]) (elim b [ true ↦ second.ref_ptr | false ↦ first.ref_ptr ]) → ⊥
     go true true h e = false≢true h
     go true false h e = apart (sym e)
     go false true h e = apart e
