@@ -1,5 +1,5 @@
 -- Adding the equations of the kept points to a table: the turns of the loop, and what the table stays ready for.
-use Rattle.std.specs.Prelude.{◌≡◌, ℕ, suc, ◌+◌, ◌-◌, ◌%◌, ◌<◌, length, get_or}
+use Rattle.std.specs.Prelude.{◌≡◌, ℕ, suc, ◌+◌, ◌%◌, ◌<◌, length, get_or}
 use Rattle.std.proofs.Math.Path.{refl, sym, ap, subst}
 use Rattle.std.proofs.Common.{◌∙◌, mod-lt, arith}
 use mathlib.Core.List.{List, [], ◌∷◌, ◌++◌}

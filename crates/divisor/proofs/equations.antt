@@ -1,2 +1,0 @@
--- What the walks over the equations share.
-pub mod Passed
