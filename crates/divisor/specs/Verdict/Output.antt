@@ -114,9 +114,11 @@ pub answer_counts : (c : Call) (listed : Listed c.modulus) (r : CandidateRecord)
 answer_counts c listed r G (all_bad all) = (tt, refl)
 answer_counts c listed r G (some_good d b u k kept sorted n H m (unsolvable x)) = (tt, refl)
 answer_counts c listed r G (some_good d b u k kept sorted n H m (several x)) = (tt, refl)
-answer_counts c listed r G (some_good d b u k kept sorted n H m (divided s only tried)) =
-    (tried_keyed (Numbers c listed) (A c listed) (B c listed) (divisor (Numbers c listed) s) c.ceiling n m H tried
-    (divisor_within (Numbers c listed) c.skeleton (k ∷ kept) s only.0).keyed, refl)
+answer_counts c listed r G (some_good d b u k kept sorted n H m (divided s only tried)) = (
+  tried_keyed (Numbers c listed) (A c listed) (B c listed) (divisor (Numbers c listed) s) c.ceiling n m H tried
+      (divisor_within (Numbers c listed) c.skeleton (k ∷ kept) s only.0).keyed,
+  refl,
+)
 
 -- in an answered call the output holds G
 pub answered_output : (c : Call) (listed : Listed c.modulus) (f : CandidateRecord) (G : Polynomial (Numbers c listed))

@@ -1,0 +1,80 @@
+-- `divisor::answer` meets its contract: the look at the points, their counts, the equations, the solution and the verdict, each as its call promises, make
+-- up what the rule answers.
+use Rattle.std.proofs.Common.{◌+◌, ◌/◌, ◌≤◌, length, sym, ◌∙◌, arith}
+use Rattle.divisor.specs.Candidate.{Call, candidate_call}
+use Rattle.divisor.specs.Checks.Passed.{look_ready}
+use Rattle.divisor.specs.Sorting.Kept.{room_after, SomeGood, can_solve, count_small, counts_fit, columns_fit}
+use Rattle.divisor.specs.Answer.Laws.{nothing_good, ready_verdict, answered_so}
+use Rattle.divisor.proofs.answer.Goals as goal
+use Rattle.divisor.proofs.answer.Goals.{After-look-sizes, After-alike-kept}
+
+-- the call that is answered, as the look at the points has it, and as what follows the counts has it
+abbrev looked : After-look-sizes → Call
+looked c =
+    let a = c.args in candidate_call a.p a.first.now a.second.now a.skeleton.now a.points.now a.ceiling a.out.now a.work.now
+
+abbrev counted : After-alike-kept → Call
+counted c =
+    let a = c.args in candidate_call a.p a.first.now a.second.now a.skeleton.now a.points.now a.ceiling a.out.now a.work.now
+
+-- what is found where some point is good
+good : (c : After-alike-kept)
+    → SomeGood (counted c) c.look-sizes.new.work c.look-sizes.result c.least_size-least.result c.alike-kept.result
+good c = record {
+  pass = c.requires;
+  look = c.look-sizes.ensures;
+  is_least = c.least_size-least.ensures;
+  some = c.if-least-eq0.false;
+  is_count = c.alike-kept.ensures;
+}
+
+-- bad and kept points are not more than all
+fit : (c : After-alike-kept) → c.alike-bad.result + c.alike-kept.result ≤ length c.args.points.now / 3
+fit c = counts_fit (good c) c.alike-bad.result c.alike-bad.ensures
+
+pub look-sizes-requires : goal.look-sizes-requires
+look-sizes-requires c =
+    let a = c.args in
+    look_ready (candidate_call a.p a.first.now a.second.now a.skeleton.now a.points.now a.ceiling a.out.now a.work.now) c.requires
+
+pub no_good_point-requires : goal.no_good_point-requires
+no_good_point-requires c =
+    room_after (looked (goal.at.no_good_point-requires c).After-look-sizes) c.requires _ c.look-sizes.result c.look-sizes.ensures
+
+pub returns-then-least-eq0 : goal.returns-then-least-eq0
+returns-then-least-eq0 c =
+    nothing_good (looked (goal.at.returns-then-least-eq0 c).After-look-sizes) c.requires _ c.look-sizes.result c.look-sizes.ensures
+    (sym c.least_size-least.ensures ∙ c.if-least-eq0.true) _ c.no_good_point.result c.no_good_point.ensures
+
+pub overflow_mul-equations : goal.overflow_mul-equations
+overflow_mul-equations c = omega (arith, count_small (good (goal.at.overflow_mul-equations c).After-alike-kept))
+
+pub overflow_cast-equations : goal.overflow_cast-equations
+overflow_cast-equations c = omega (arith, count_small (good (goal.at.overflow_cast-equations c).After-alike-kept))
+
+pub overflow_add-columns : goal.overflow_add-columns
+overflow_add-columns c = omega (arith, (columns_fit (good (goal.at.overflow_add-columns c).After-alike-kept)).most)
+
+pub overflow_cast-columns : goal.overflow_cast-columns
+overflow_cast-columns c = omega (arith, (columns_fit (good (goal.at.overflow_cast-columns c).After-alike-kept)).most)
+
+pub solved-solved-requires : goal.solved-solved-requires
+solved-solved-requires c =
+    can_solve (good (goal.at.solved-solved-requires c).After-alike-kept) c.places_of-places.result c.places_of-places.ensures
+
+pub settle-verdict-requires : goal.settle-verdict-requires
+settle-verdict-requires c =
+    ready_verdict (good (goal.at.settle-verdict-requires c).After-alike-kept) c.places_of-places.result c.places_of-places.ensures
+    c.solved-solved.result c.solved-solved.ensures
+
+pub overflow_sub-result-2 : goal.overflow_sub-result-2
+overflow_sub-result-2 c = omega (arith, fit (goal.at.overflow_sub-result-2 c).After-alike-kept)
+
+pub overflow_sub-result-3 : goal.overflow_sub-result-3
+overflow_sub-result-3 c = omega (arith, fit (goal.at.overflow_sub-result-3 c).After-alike-kept)
+
+pub returns : goal.returns
+returns c =
+    answered_so (good (goal.at.returns c).After-alike-kept) c.places_of-places.result c.places_of-places.ensures
+    c.solved-solved.result c.solved-solved.ensures c.alike-bad.result c.alike-bad.ensures
+    c.settle-verdict.result c.settle-verdict.ensures c.at.result c.at.ensures
