@@ -1,7 +1,8 @@
 // Reads a stream of case files from standard input, each behind its length, and prints for each what the program `candidate` prints.
 #![tactic(auto)]
 
-ghost use Rattle.std.specs.Prelude.{◌≡◌, ◌+◌, ◌*◌, ◌<◌, IfOk};
+ghost use Rattle.std.specs.Prelude.{◌≡◌, ◌+◌, ◌*◌, ◌<◌, IfOk, take};
+ghost use Rattle.std.specs.Io.KnownBytes.{Consumes};
 ghost use Rattle.console.specs.Counts.{IsPrefixLen};
 
 use console::input;
@@ -20,7 +21,8 @@ fn length_of(low: u8, high: u8) -> usize
 
 // Reads the file that has this room, and answers it: how many bytes of it there were.
 fn answer<R: Read>(rt: &impl Print, reader: &mut R, room: &mut [u8]) -> io::Result<usize>
-    ensures { IfOk result (λ n. IsPrefixLen n room.new) }
+    ensures in_bounds { IfOk result (λ n. IsPrefixLen n room.new) }
+    ensures bytes { IfOk result (λ n. Consumes (R.remaining reader.old) (R.remaining reader.new) (take n room.new)) }
 {
     let n = input::read_full(reader, room)?;
     console::answer::print_candidate_of(rt, &room[..n])?;

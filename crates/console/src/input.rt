@@ -1,5 +1,6 @@
 // Standard input.
-ghost use Rattle.std.specs.Prelude.{IfOk};
+ghost use Rattle.std.specs.Prelude.{◌<◌, IfOk, length, take};
+ghost use Rattle.std.specs.Io.KnownBytes.{Consumes, IsAtEnd};
 ghost use Rattle.console.specs.Counts.{IsPrefixLen};
 
 use std::io;
@@ -8,9 +9,11 @@ use std::io::Read;
 // As much of a case file as settles what is found of it, whatever stands after it: the law `of_file_settled`.
 pub const ENOUGH: usize = 4096;
 
-// Reads until the room is full or the input ends: how many bytes.
+// Reads until the room is full or the input ends: how many bytes. They stand first in the room, and fewer than it holds only at the end.
 pub fn read_full<R: Read>(reader: &mut R, room: &mut [u8]) -> io::Result<usize>
-    ensures { IfOk result (λ n. IsPrefixLen n room.new) }
+    ensures in_bounds { IfOk result (λ n. IsPrefixLen n room.new) }
+    ensures bytes { IfOk result (λ n. Consumes (R.remaining reader.old) (R.remaining reader.new) (take n room.new)) }
+    ensures end { IfOk result (λ n. n < length room.new → IsAtEnd (R.remaining reader.new)) }
 {
     let mut done: usize = 0;
     while done < room.len() {

@@ -1,4 +1,7 @@
 // Lines on standard output: numbers with a space between two.
+ghost use Rattle.std.specs.Prelude.{Some};
+ghost use Rattle.console.specs.Printed.{spaced};
+
 use divisor::CandidateRecord;
 use field::{Fault, Term};
 use poly::ImageRecord;
@@ -10,11 +13,15 @@ use std::{fmt, io};
 struct Numbers<'a>(&'a [usize]);
 
 impl fmt::Display for Numbers<'_> {
+    ghost output = { λ s. Some (spaced s.0.now) };
+
     fn fmt<W: fmt::Write>(&self, f: &mut fmt::Formatter<W>) -> fmt::Result {
-        let mut space = "";
-        for number in self.0 {
-            write!(f, "{space}{number}")?;
-            space = " ";
+        let [first, rest @ ..] = self.0 else {
+            return Ok(());
+        };
+        write!(f, "{first}")?;
+        for number in rest {
+            write!(f, " {number}")?;
         }
         Ok(())
     }
