@@ -1,5 +1,5 @@
 -- The computed result of a call of the writer meets the writer's contract.
-use Rattle.std.specs.Prelude.{◌≡◌, refl, Bool, true, false, eqb, length}
+use Rattle.std.specs.Prelude.{◌≡◌, refl, Bool, true, false, eqb}
 use Rattle.std.proofs.Common.{eqb-true}
 use Rattle.std.proofs.lemmas.Bool.{eqb-false}
 use Rattle.field.specs.Refusal.{Tested}

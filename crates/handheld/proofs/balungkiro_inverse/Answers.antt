@@ -1,0 +1,6 @@
+-- `balungkiro_inverse` meets its contract: it lays out what the service answers.
+use Rattle.handheld.specs.Layout.{laid}
+use Rattle.handheld.proofs.balungkiro_inverse.Goals as goal
+
+pub returns : goal.returns
+returns c = rw c.answer_numbers.ensures (laid _ c.ask_inverse.ensures)
