@@ -3,5 +3,6 @@ pub mod Model
 pub mod Steps
 pub mod Numbers
 pub mod Meaning
+pub mod Quotient
 pub mod Turns
 pub mod Gcd

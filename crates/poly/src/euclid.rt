@@ -1,6 +1,7 @@
-// The greatest common divisor of two polynomials in x, each as eight numbers modulo p, the coefficient of x^0 first. They are changed in place.
+// The greatest common divisor and the quotient of two polynomials in x, each as eight numbers modulo p, the coefficient of x^0 first. They are changed
+// in place.
 ghost use Rattle.std.specs.Prelude.{◌≡◌, ◌-◌};
-ghost use Rattle.poly.specs.Euclid.Model.{size as type_size, scaled as scaled_of, monic as monic_of, subtract as subtract_of, remainder as remainder_of};
+ghost use Rattle.poly.specs.Euclid.Model.{size as type_size, scaled as scaled_of, monic as monic_of, subtract as subtract_of, remainder as remainder_of, quotient as quotient_of};
 ghost use Rattle.poly.specs.Euclid.Steps.{Scalable, Divisible, Step, Reducible, CanTurn, Stepped, Pair, IsDivisor};
 
 use crate::{Eight, POWERS, Size};
@@ -64,6 +65,21 @@ fn reduce(p: Residue, m: usize, f: &mut Eight, g: &Eight)
     while k > 0 {
         k -= 1;
         let c = Element::of(p, f[k + m]);
+        subtract(c, k, f, g);
+    }
+}
+
+// q becomes the quotient of f by g, which is monic of degree m; f becomes its remainder.
+pub(crate) fn divide(p: Residue, m: usize, f: &mut Eight, g: &Eight, q: &mut Eight)
+    requires { Reducible p m f.old }
+    ensures { q.new ≡ quotient_of p m g.now f.old }
+{
+    *q = [Element::ZERO; POWERS];
+    let mut k = POWERS - m;
+    while k > 0 {
+        k -= 1;
+        let c = Element::of(p, f[k + m]);
+        q[k] = c.value;
         subtract(c, k, f, g);
     }
 }

@@ -1,4 +1,4 @@
--- Division with remainder of polynomials in one variable over a field; by it the monic greatest common divisor exists.
+-- Division with remainder of polynomials in one variable over a field: by a divisor nothing is left; by it the monic greatest common divisor exists.
 use Rattle.std.specs.Prelude.{◌≡◌, ◌⊎◌, ℕ, zero, suc, ◌+◌ as ◌+ₙ◌, ◌-◌ as ◌-ₙ◌, ◌≤◌}
 use Rattle.std.proofs.Common.{sym, ◌∙◌, subst, inl, inr, arith}
 use Rattle.std.proofs.Math.Path.{ap, fun_ext}
@@ -7,12 +7,13 @@ use Rattle.algebra.specs.Field.{Field}
 use Rattle.algebra.specs.Series.{Seq, addS, negS, zeroS, conv}
 use Rattle.algebra.specs.Degree.{Ends, Top}
 use Rattle.algebra.specs.Polynomials.{domain}
+use Rattle.algebra.specs.Divides.{Div}
 use Rattle.algebra.specs.GreatestCommon.{GreatestCommon}
 use Rattle.algebra.specs.Univariate.{Poly, PolyD, Fin, over_lead, MonicGreatest}
 use Rattle.algebra.specs.Mono.{mono}
 use Rattle.algebra.specs.Laws.Solver.{◌⊕◌, ◌⊗◌, ◌⊖◌, k0, ◌≗◌, ring2, ring4}
 use Rattle.algebra.specs.Laws.Degree.{Ends_weaken, finite_top}
-use Rattle.algebra.specs.Laws.Divides.{mono_fin}
+use Rattle.algebra.specs.Laws.Divides.{div_refl, div_add, div_mul, div_neg, div_to, quotient_top, mono_fin}
 use Rattle.algebra.specs.Laws.GreatestCommon.{greatest_swap, greatest_subtract}
 use Rattle.algebra.specs.Laws.Univariate.{ends_fin, less, less_ends, over_lead_monic, over_lead_greatest}
 
@@ -21,12 +22,35 @@ module _ (F : Field) where
 
   infixl 70 ◌*◌
   -- division with remainder by g, whose highest coefficient stands at n
-  record WithRemainder (n : ℕ) (f g : Seq F.ring) : Type 0 where
+  pub record WithRemainder (n : ℕ) (f g : Seq F.ring) : Type 0 where
     pub quo : Seq F.ring
     pub rest : Seq F.ring
     pub quo_fin : Fin F quo
     pub eq : addS F.ring (conv F.ring quo g) rest ≡ f
     pub ends : Ends F.ring n rest
+
+  -- by a divisor nothing is left
+  module _ (n : ℕ) (f g : Seq F.ring) (t : Top F.ring n g) (d : WithRemainder n f g) (h : Div (Poly F) (PolyD F) g f) where
+    divides_rest : Div (Poly F) (PolyD F) g d.rest
+    divides_rest =
+        div_to (Poly F) (PolyD F) g _ d.rest
+        (ap (λ (u : Seq F.ring). addS F.ring u (negS F.ring (conv F.ring d.quo g))) (sym d.eq)
+        ∙ ring2 (Poly F) (λ t r. (t ⊕ r) ⊖ t ≗ r) tt (conv F.ring d.quo g) d.rest)
+        (div_add (Poly F) (PolyD F) g f _ h
+        (div_neg (Poly F) (PolyD F) g _ (div_mul (Poly F) (PolyD F) g g d.quo d.quo_fin (div_refl (Poly F) (PolyD F) g))))
+
+    no_rest : d.rest ≡ zeroS F.ring
+    no_rest = elim (finite_top F.ring (domain F) d.rest (ends_fin F n d.rest d.ends)) [
+      | inl z ↦ fun_ext z
+      | inr s ↦
+          let q = quotient_top F.ring (domain F) s.0 g d.rest (ends_fin F (suc n) g t.ends) divides_rest s.1 n t in
+          absurd (s.1.nonzero (d.ends s.0 (omega (arith, q.1))))
+    ]
+
+    pub exact_quotient : conv F.ring g d.quo ≡ f
+    exact_quotient =
+        ring2 (Poly F) (λ g q. g ⊗ q ≗ q ⊗ g ⊕ k0) tt g d.quo
+        ∙ ap (λ (u : Seq F.ring). addS F.ring (conv F.ring d.quo g) u) (sym no_rest) ∙ d.eq
 
   whole : (n : ℕ) (f g : Seq F.ring) → Ends F.ring n f → WithRemainder n f g
   whole n f g h = record {

@@ -18,7 +18,7 @@ use Rattle.algebra.specs.Laws.Mono.{mono_low, mono_high, mono_ends}
 use Rattle.algebra.specs.Laws.GreatestCommon.{Associate}
 use Rattle.algebra.specs.Laws.Univariate.{less, greatest_less, over_lead_associate}
 use Rattle.field.specs.Fp.{Fp, el, add, mul, neg, inv}
-use Rattle.field.specs.Elements.Fp.{el_val, el_mod, el_inj, el_mul, el_nonzero}
+use Rattle.field.specs.Elements.Fp.{el_val, el_mod, el_inj, el_below_inj, el_mul, el_nonzero}
 use Rattle.field.specs.Prime.{Prime}
 use Rattle.field.specs.Elements.Inverse.{mul_inv}
 use Rattle.field.specs.Modulus.Prime.{prime_positive}
@@ -38,8 +38,7 @@ clear_ends p h n f c i l = ap (λ (x : ℕ). el p x) (c i l)
 
 -- eight numbers are determined by their polynomial
 pub series_injective : (p : ℕ) (f g : List ℕ) → Eight p f → Eight p g → series p f ≡ series p g → (i : ℕ) → get_or f i 0 ≡ get_or g i 0
-series_injective p f g hf hg e i =
-    sym (mod-eq_of_lt (hf.below i)) ∙ el_inj p _ _ (ap (λ (u : ℕ → Fp p). u i) e) ∙ mod-eq_of_lt (hg.below i)
+series_injective p f g hf hg e i = el_below_inj p _ _ (hf.below i) (hg.below i) (ap (λ (u : ℕ → Fp p). u i) e)
 
 module _ {p : ℕ} (P : Prime p) where
   abbrev ring : CommRing
@@ -50,7 +49,7 @@ module _ {p : ℕ} (P : Prime p) where
   Greatest a b u = GreatestCommon (Poly (Modulo p P)) (PolyD (Modulo p P)) a b u
 
   -- a step of the model is a step of the mathematics
-  subtract_series : (c k n : ℕ) (f g : List ℕ) → c < p → Eight p f → Clear n g → k + n ≤ 8
+  pub subtract_series : (c k n : ℕ) (f g : List ℕ) → c < p → Eight p f → Clear n g → k + n ≤ 8
       → series p (subtract p c k f g) ≡ less (Modulo p P) k (el p c) (series p f) (series p g)
   unfolding less subtract
   subtract_series c k n f g l h cg fit =

@@ -1,5 +1,6 @@
--- The model of a polynomial in x on eight numbers modulo p, x^0 first: degree, scaling, remainder, and Euclid's algorithm as the code does it.
-use Rattle.std.specs.Prelude.{true, false, List, ℕ, zero, suc, ◌+◌, ◌-◌, ◌*◌, ◌%◌, eqb, get_or}
+-- The model of a polynomial in x on eight numbers modulo p, x^0 first: degree, scaling, remainder and quotient, and
+-- Euclid's algorithm, as the code does it.
+use Rattle.std.specs.Prelude.{true, false, List, ℕ, zero, suc, ◌+◌, ◌-◌, ◌*◌, ◌%◌, eqb, get_or, set, replicate}
 use Rattle.field.specs.Fp.{el, inv}
 use Rattle.field.specs.Loops.Filled.{cells, between}
 use Rattle.field.specs.Loops.Fold.{fold, downwards}
@@ -35,6 +36,14 @@ reduced p m g k f = subtract p (get_or f (k + m) 0) k f g
 -- the remainder of f by g, where f has k powers from m on
 abbrev pub remainder : ℕ → ℕ → List ℕ → ℕ → List ℕ → List ℕ
 remainder p m g k f = fold (reduced p m g) (downwards k) f
+
+-- the quotient of f by g, which is monic of degree m, put into q from its highest power down, where f has k powers from m on
+unfoldable pub put_quotient : ℕ → ℕ → List ℕ → ℕ → List ℕ → List ℕ → List ℕ
+put_quotient p m g zero f q = q
+put_quotient p m g (suc k) f q = put_quotient p m g k (reduced p m g k f) (set q k (get_or f (k + m) 0))
+
+abbrev pub quotient : ℕ → ℕ → List ℕ → List ℕ → List ℕ
+quotient p m g f = put_quotient p m g (8 - m) f (replicate 8 0)
 
 -- Euclid's algorithm; the fuel falls, and the size of g is enough
 unfoldable pub euclid : ℕ → ℕ → List ℕ → List ℕ → List ℕ

@@ -15,7 +15,7 @@ use Rattle.field.specs.Loops.Places.{set_all, replicate_all}
 use Rattle.poly.specs.Value.Monomial.{head, monomial}
 use Rattle.poly.specs.Value.Model.{plus_term, with_term, value_of}
 
-set_eight : (p : ℕ) (r : List ℕ) (x v : ℕ) → Eight p r → v < p → Eight p (set r x v)
+pub set_eight : (p : ℕ) (r : List ℕ) (x v : ℕ) → Eight p r → v < p → Eight p (set r x v)
 set_eight p r x v h l = record { eight = length-set r x v ∙ h.eight; below = λ i. set_all (λ n. n < p) r x i v 0 l (h.below i) }
 
 pub zeros_eight : (p : ℕ) → 0 < p → Eight p (replicate 8 0)
