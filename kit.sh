@@ -1,4 +1,4 @@
-# Read by bench/ and examples/test: where the Rattle toolchain's kit is, and its own clang, linker and C library.
+# Read by bench/: where the Rattle toolchain's kit is, and its own clang, linker and C library.
 # The reader has a function `die`, which says what is missing and ends.
 
 rt=$(command -v rt) || die "the Rattle toolchain is missing: rt is not on the PATH"
