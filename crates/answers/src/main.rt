@@ -1,9 +1,9 @@
 // Reads a stream of case files from standard input, each behind its length, and prints for each what the program `candidate` prints.
 #![tactic(auto)]
 
-ghost use Rattle.std.specs.Prelude.{◌≡◌, ◌+◌, ◌*◌, ◌<◌, IfOk, take};
+ghost use Rattle.std.specs.Prelude.{◌≡◌, ◌+◌, ◌*◌, ◌<◌, IfOk, OnErr, take};
 ghost use Rattle.std.specs.Io.KnownBytes.{Consumes};
-ghost use Rattle.console.specs.Counts.{IsPrefixLen};
+ghost use Rattle.console.specs.Counts.{IsPrefixLen, StandsFirst};
 
 use console::input;
 use std::io;
@@ -19,10 +19,12 @@ fn length_of(low: u8, high: u8) -> usize
     (low as usize) + 256 * (high as usize)
 }
 
-// Reads the file that has this room, and answers it: how many bytes of it there were.
+// Reads the file that has this room, and answers it: how many bytes of it there were. Only a failed read or write is an error; what was read before it
+// stands first in the room.
 fn answer<R: Read>(rt: &impl Print, reader: &mut R, room: &mut [u8]) -> io::Result<usize>
     ensures in_bounds { IfOk result (λ n. IsPrefixLen n room.new) }
     ensures bytes { IfOk result (λ n. Consumes (R.remaining reader.old) (R.remaining reader.new) (take n room.new)) }
+    ensures err { OnErr result (StandsFirst (R.remaining reader.old) (R.remaining reader.new) room.new) }
 {
     let n = input::read_full(reader, room)?;
     console::answer::print_candidate_of(rt, &room[..n])?;

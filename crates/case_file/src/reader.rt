@@ -1,6 +1,6 @@
 // Reading a case file: record by record, up to the end record or the first fault.
 ghost use Rattle.std.specs.Prelude.{◌≡◌};
-ghost use Rattle.case_file.specs.Reading.{refused, read_one, read as Read_of};
+ghost use Rattle.case_file.specs.Reading.{refused, read_one, read as read_of};
 ghost use Rattle.case_file.specs.Handed.{contents, Gives};
 ghost use Rattle.case_file.specs.Reader.Adding.{Ready, Adds};
 
@@ -116,7 +116,7 @@ pub fn read_into(
     skeleton: &mut Keys,
     points: &mut PointNumbers,
 ) -> Counts
-    ensures { Gives (Read_of bytes.now) result first.new second.new skeleton.new points.new }
+    ensures { Gives (read_of bytes.now) result first.new second.new skeleton.new points.new }
 {
     let counts = read_one_into(bytes, first, second, skeleton, points);
     if bytes.len() <= counts.next {
@@ -137,7 +137,7 @@ pub fn read_into(
 
 // The same in one record.
 pub fn read(bytes: &[u8]) -> Contents
-    ensures { result ≡ contents (Read_of bytes.now) }
+    ensures { result ≡ contents (read_of bytes.now) }
 {
     let mut first = [0; MOST_TERMS];
     let mut second = [0; MOST_TERMS];

@@ -1,7 +1,7 @@
 // One record of a case file: its kind, its tests, and its numbers into their list.
 ghost use Rattle.std.specs.Prelude.{◌≡◌, [], ◌∷◌, ◌+◌, ◌<◌, ◌≤◌, length};
 ghost use Rattle.field.specs.Loops.Putting.{Puts};
-ghost use Rattle.case_file.specs.Format.{body as body_of, follows as Follows_of, first_term, key as key_kind, point, today};
+ghost use Rattle.case_file.specs.Format.{body as body_of, follows as follows_of, first_term, key as key_kind, point, today};
 ghost use Rattle.case_file.specs.Reading.{fault_number};
 ghost use Rattle.case_file.specs.Record.Room.{Known, held as held_of, two, four, most};
 
@@ -59,7 +59,7 @@ pub(crate) fn body(kind: u8) -> usize
 
 // Whether a record of the kind may stand after one of kind `before`, which is 0 at the start.
 fn follows(before: u8, kind: u8) -> bool
-    ensures { result ≡ Follows_of today before kind }
+    ensures { result ≡ follows_of today before kind }
 {
     if before == 0 {
         return kind == MODULUS;

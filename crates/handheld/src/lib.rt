@@ -1,5 +1,5 @@
 // The static library for C and Rust programs: each service with C's calling convention, on numbers and slices. A slice is a pointer, then a length.
-// A record is handed back as numbers in a lent array: a reference to a struct would have to be proved by hand.
+// A record is handed back as numbers in a lent array, so that no layout of a struct is shared with C.
 // include/balungkiro.h says the same to C.
 #![tactic(auto)]
 

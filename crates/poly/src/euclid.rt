@@ -1,7 +1,7 @@
 // The greatest common divisor and the quotient of two polynomials in x, each as eight numbers modulo p, the coefficient of x^0 first. They are changed
 // in place.
 ghost use Rattle.std.specs.Prelude.{◌≡◌, ◌-◌};
-ghost use Rattle.poly.specs.Euclid.Model.{size as type_size, scaled as scaled_of, monic as monic_of, subtract as subtract_of, remainder as remainder_of, quotient as quotient_of};
+ghost use Rattle.poly.specs.Euclid.Model.{size as size_of, scaled as scaled_of, monic as monic_of, subtract as subtract_of, remainder as remainder_of, quotient as quotient_of};
 ghost use Rattle.poly.specs.Euclid.Steps.{Scalable, Divisible, Step, Reducible, CanTurn, Stepped, Pair, IsDivisor};
 
 use crate::{Eight, POWERS, Size};
@@ -9,7 +9,7 @@ use field::{Element, Residue};
 
 // The place after the highest number that is not 0.
 fn size(f: &Eight) -> Size
-    ensures { result ≡ type_size f.now }
+    ensures { result ≡ size_of f.now }
 {
     let mut place = POWERS as Size;
     while place > 0 {

@@ -28,14 +28,14 @@ module _ {Found : Type 0} (unread : Fault → Found) (Asked : (p : ℕ) (first s
       → ((p : ℕ) (first second skeleton points : List ℕ) (r : Found) → Asked p first second skeleton points r → IsPrefixLen (terms r) (output r))
       → {counts : CaseCounts} {first second skeleton points : List ℕ} → Gives (read bytes) counts first second skeleton points
       → Meets counts first second skeleton points
-  meets None_first some_IsFirst g =
+  meets none_first some_first g =
       let l = lists_read g in
       record {
-        by_refusal = λ n. record { is = rw g.record_is (refused (rw g.record_is at n)); terms_first = None_first _ };
+        by_refusal = λ n. record { is = rw g.record_is (refused (rw g.record_is at n)); terms_first = none_first _ };
         by_answer = λ z r a. record {
           is = asked (rw g.record_is at z) r
               (rw (l.first_list.is, l.second_list.is, l.skeleton_list.is, l.point_list.is, g.record_is) at a);
-          terms_first = some_IsFirst _ _ _ _ _ r a;
+          terms_first = some_first _ _ _ _ _ r a;
         };
       }
 

@@ -96,11 +96,11 @@ module _ (c : Call) (pass : Passes (table c)) (listed : Listed c.modulus) where
   abbrev looks : List PointImage
   looks = looks_of c
 
-  module _ (d : ℕ) (at_least_lem : AtLeast (suc d) (sizes_of looks)) (k : Kept (Numbers c listed)) (ks : List (Kept (Numbers c listed)))
+  module _ (d : ℕ) (at_least : AtLeast (suc d) (sizes_of looks)) (k : Kept (Numbers c listed)) (ks : List (Kept (Numbers c listed)))
       (kept : kept_of P (suc d) (lent_points c listed) looks ≡ k ∷ ks) where
     abbrev Settled : ComputedVerdict → Type 0
     Settled unsettled = Unit {0}
-    Settled (settled number terms steps) = Candidate c (assembled.result c pass listed d at_least_lem k ks kept number terms steps)
+    Settled (settled number terms steps) = Candidate c (assembled.result c pass listed d at_least k ks kept number terms steps)
 
     abbrev rows : List (List (Fp c.modulus))
     rows = all_rows (Numbers c listed) (monomials c listed) k ks
@@ -131,10 +131,10 @@ module _ (c : Call) (pass : Passes (table c)) (listed : Listed c.modulus) where
           go : (w : Bool) → (w ≡ true) ↔ Both p P c.first_list c.second_list G → (d : Dec (n ≤ c.ceiling))
               → Settled (elim d as (λ _. ComputedVerdict) [ yes l ↦ within G n w | no l ↦ settled CEILING_REACHED [] c.ceiling ])
           go true says (yes l) =
-              assembled.answer_accepted c pass listed d at_least_lem k ks kept (values_of v) solves long below n takes l (says.0 refl)
+              assembled.answer_accepted c pass listed d at_least k ks kept (values_of v) solves long below n takes l (says.0 refl)
           go false says (yes l) =
-              assembled.answer_rejected c pass listed d at_least_lem k ks kept (values_of v) solves long below n takes l (λ both. false≢true (says.1 both))
-          go w says (no l) = assembled.answer_cut c pass listed d at_least_lem k ks kept (values_of v) solves long below n takes (omega arith)
+              assembled.answer_rejected c pass listed d at_least k ks kept (values_of v) solves long below n takes l (λ both. false≢true (says.1 both))
+          go w says (no l) = assembled.answer_cut c pass listed d at_least k ks kept (values_of v) solves long below n takes (omega arith)
 
       -- what the rule says of a list and G
       says_of : (f : List ℕ) (ts : List (Term (Modulo c.modulus (prime c listed)).ring)) (whole : Bool)
@@ -160,7 +160,7 @@ module _ (c : Call) (pass : Passes (table c)) (listed : Listed c.modulus) where
 
       division_settles : Settled (by_division p P c.first_list c.second_list c.skeleton c.points c.ceiling G)
       division_settles =
-          let g = assembled.list c pass listed d at_least_lem k ks kept (values_of v) solves long below in
+          let g = assembled.list c pass listed d at_least k ks kept (values_of v) solves long below in
           let right = right_lists c pass in
           tried_settles (divided_by p P G c.first_list) (divided_by p P G c.second_list)
           (divided_by_means p P G c.first_list g.some g.falls right.first.some right.first.falls)
@@ -169,9 +169,9 @@ module _ (c : Call) (pass : Passes (table c)) (listed : Listed c.modulus) where
     answer_settles : (a : Solutions (Fp c.modulus)) → Meets (Numbers c listed) (length c.skeleton + length ks) rows a
         → Settled (by_answer p P c.first_list c.second_list c.skeleton c.points c.ceiling a)
     unfolding by_answer
-    answer_settles unsolvable h = assembled.answer_none c pass listed d at_least_lem k ks kept h
+    answer_settles unsolvable h = assembled.answer_none c pass listed d at_least k ks kept h
     answer_settles (one v) h = division_settles v h
-    answer_settles (several v w) h = assembled.answer_several c pass listed d at_least_lem k ks kept v w h
+    answer_settles (several v w) h = assembled.answer_several c pass listed d at_least k ks kept v w h
 
     counts_sound : (v : ComputedVerdict) → Settled v
         → Sound (with_counts p P c.first_list c.second_list c.skeleton c.points c.ceiling d (sizes_of looks) v)
@@ -182,9 +182,9 @@ module _ (c : Call) (pass : Passes (table c)) (listed : Listed c.modulus) where
   kept_sound : (d : ℕ) → AtLeast (suc d) (sizes_of looks) → (l : List (Kept (Numbers c listed))) → kept_of P (suc d) (lent_points c listed) looks ≡ l
       → Sound (by_kept p P c.first_list c.second_list c.skeleton c.points c.ceiling d (sizes_of looks) l)
   unfolding by_kept
-  kept_sound d at_least_lem [] e = tt
-  kept_sound d at_least_lem (k ∷ ks) e = counts_sound d at_least_lem k ks e _
-      (answer_settles d at_least_lem k ks e _ (solve_meets (Numbers c listed) (length c.skeleton + length ks)
+  kept_sound d at_least [] e = tt
+  kept_sound d at_least (k ∷ ks) e = counts_sound d at_least k ks e _
+      (answer_settles d at_least k ks e _ (solve_meets (Numbers c listed) (length c.skeleton + length ks)
       (all_rows (Numbers c listed) (monomials c listed) k ks)))
 
   least_sound : (m : ℕ) → Least 0 (sizes_of looks) m → Sound (by_least p P c.first_list c.second_list c.skeleton c.points c.ceiling looks m)
