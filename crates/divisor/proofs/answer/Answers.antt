@@ -1,6 +1,6 @@
 -- `divisor::answer` meets its contract: the look at the points, their counts, the equations, the solution and the verdict, each as its call promises, make
 -- up what the rule answers.
-use Rattle.std.proofs.Common.{◌+◌, ◌/◌, ◌≤◌, length, sym, ◌∙◌, arith}
+use Rattle.std.proofs.Common.{◌≡◌, ◌+◌, ◌/◌, ◌≤◌, length, sym, ◌∙◌, arith}
 use Rattle.divisor.specs.Candidate.{Call, candidate_call}
 use Rattle.divisor.specs.Checks.Passed.{look_ready}
 use Rattle.divisor.specs.Sorting.Kept.{room_after, SomeGood, can_solve, count_small, counts_fit, columns_fit}
@@ -18,19 +18,19 @@ counted c =
     let a = c.args in candidate_call a.p a.first.now a.second.now a.skeleton.now a.points.now a.ceiling a.out.now a.work.now
 
 -- what is found where some point is good
-good : (c : After-alike-kept)
+good : (c : After-alike-kept) → ¬ (c.least_size-least.result ≡ 0)
     → SomeGood (counted c) c.look-sizes.new.work c.look-sizes.result c.least_size-least.result c.alike-kept.result
-good c = record {
+good c some = record {
   pass = c.requires;
   look = c.look-sizes.ensures;
   is_least = c.least_size-least.ensures;
-  some = c.if-least-eq0.false;
+  some = some;
   is_count = c.alike-kept.ensures;
 }
 
 -- bad and kept points are not more than all
-fit : (c : After-alike-kept) → c.alike-bad.result + c.alike-kept.result ≤ length c.args.points.now / 3
-fit c = counts_fit (good c) c.alike-bad.result c.alike-bad.ensures
+fit : (c : After-alike-kept) → ¬ (c.least_size-least.result ≡ 0) → c.alike-bad.result + c.alike-kept.result ≤ length c.args.points.now / 3
+fit c some = counts_fit (good c some) c.alike-bad.result c.alike-bad.ensures
 
 pub look-sizes-requires : goal.look-sizes-requires
 look-sizes-requires c =
@@ -47,34 +47,34 @@ returns-then-least-eq0 c =
     (sym c.least_size-least.ensures ∙ c.if-least-eq0.true) _ c.no_good_point.result c.no_good_point.ensures
 
 pub overflow_mul-equations : goal.overflow_mul-equations
-overflow_mul-equations c = omega (arith, count_small (good (goal.at.overflow_mul-equations c).After-alike-kept))
+overflow_mul-equations c = omega (arith, count_small (good (goal.at.overflow_mul-equations c).After-alike-kept c.if-least-eq0.false))
 
 pub overflow_cast-equations : goal.overflow_cast-equations
-overflow_cast-equations c = omega (arith, count_small (good (goal.at.overflow_cast-equations c).After-alike-kept))
+overflow_cast-equations c = omega (arith, count_small (good (goal.at.overflow_cast-equations c).After-alike-kept c.if-least-eq0.false))
 
 pub overflow_add-columns : goal.overflow_add-columns
-overflow_add-columns c = omega (arith, (columns_fit (good (goal.at.overflow_add-columns c).After-alike-kept)).most)
+overflow_add-columns c = omega (arith, (columns_fit (good (goal.at.overflow_add-columns c).After-alike-kept c.if-least-eq0.false)).most)
 
 pub overflow_cast-columns : goal.overflow_cast-columns
-overflow_cast-columns c = omega (arith, (columns_fit (good (goal.at.overflow_cast-columns c).After-alike-kept)).most)
+overflow_cast-columns c = omega (arith, (columns_fit (good (goal.at.overflow_cast-columns c).After-alike-kept c.if-least-eq0.false)).most)
 
 pub solved-solved-requires : goal.solved-solved-requires
 solved-solved-requires c =
-    can_solve (good (goal.at.solved-solved-requires c).After-alike-kept) c.places_of-places.result c.places_of-places.ensures
+    can_solve (good (goal.at.solved-solved-requires c).After-alike-kept c.if-least-eq0.false) c.places_of-places.result c.places_of-places.ensures
 
 pub settle-verdict-requires : goal.settle-verdict-requires
 settle-verdict-requires c =
-    ready_verdict (good (goal.at.settle-verdict-requires c).After-alike-kept) c.places_of-places.result c.places_of-places.ensures
+    ready_verdict (good (goal.at.settle-verdict-requires c).After-alike-kept c.if-least-eq0.false) c.places_of-places.result c.places_of-places.ensures
     c.solved-solved.result c.solved-solved.ensures
 
 pub overflow_sub-result-2 : goal.overflow_sub-result-2
-overflow_sub-result-2 c = omega (arith, fit (goal.at.overflow_sub-result-2 c).After-alike-kept)
+overflow_sub-result-2 c = omega (arith, fit (goal.at.overflow_sub-result-2 c).After-alike-kept c.if-least-eq0.false)
 
 pub overflow_sub-result-3 : goal.overflow_sub-result-3
-overflow_sub-result-3 c = omega (arith, fit (goal.at.overflow_sub-result-3 c).After-alike-kept)
+overflow_sub-result-3 c = omega (arith, fit (goal.at.overflow_sub-result-3 c).After-alike-kept c.if-least-eq0.false)
 
 pub returns : goal.returns
 returns c =
-    answered_so (good (goal.at.returns c).After-alike-kept) c.places_of-places.result c.places_of-places.ensures
+    answered_so (good (goal.at.returns c).After-alike-kept c.if-least-eq0.false) c.places_of-places.result c.places_of-places.ensures
     c.solved-solved.result c.solved-solved.ensures c.alike-bad.result c.alike-bad.ensures
     c.settle-verdict.result c.settle-verdict.ensures c.at.result c.at.ensures
