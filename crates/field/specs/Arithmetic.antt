@@ -6,7 +6,11 @@ use Rattle.field.specs.Refusal.{Line, line, placed, whole, none, Refuses, Passes
 use Rattle.field.specs.Contract.{element, sum_of, difference_of, product_of, Inverse}
 use Rattle.field.specs.declared.faults.Fault.{Fault}
 use Rattle.field.specs.declared.elements.Element.{Element}
-use Rattle.field.specs.declared.services.Answer.{Answer}
+
+-- What a service tells: a fault and an element.
+pub record Answer : Type 0 where
+  pub fault : Fault
+  pub element : Element
 
 -- the modulus is not in the list; the first operand is at least p
 abbrev pub first_operand : Element → List Line
@@ -29,12 +33,20 @@ no_inverse a = line INVERSE_OF_ZERO (whole (a.value ≡ 0)) ∷ []
 abbrev pub inverse_operand : Element → List Line
 inverse_operand a = first_operand a ++ no_inverse a
 
+-- told of a refusal: 0 with the first operand's modulus as it came
+abbrev pub refused_answer : Element → Fault → Answer
+refused_answer a f = record { fault = f; element = element a.modulus 0 }
+
+-- told of an outcome
+abbrev pub given_answer : Element → Answer
+given_answer outcome = record { fault = none; element = outcome }
+
 -- A line applies: its fault, and 0 with the first operand's modulus as it came. No line applies: the outcome.
 pub data Arithmetic (lines : List Line) (Outcome : Element → Type 0) (a : Element) : Answer → Type 0 where
   refused : (fault : Fault) → Refuses lines fault
-      → Arithmetic lines Outcome a (record { fault = fault; element = element a.modulus 0 })
+      → Arithmetic lines Outcome a (refused_answer a fault)
   answered : (outcome : Element) → Passes lines → Outcome outcome
-      → Arithmetic lines Outcome a (record { fault = none; element = outcome })
+      → Arithmetic lines Outcome a (given_answer outcome)
 
 abbrev pub AskSum : Element → Element → Answer → Type 0
 AskSum a b = Arithmetic (two_operands a b) (λ r. r ≡ sum_of a b) a

@@ -1,5 +1,5 @@
 -- Refusals: a table of lines, tested in order. Each line gives a number, at a place, exactly when something holds. The number says which list is at fault.
-use Rattle.std.specs.Prelude.{◌≡◌, ◌⊎◌, List, [], ◌∷◌, ℕ, ◌<◌, get_or}
+use Rattle.std.specs.Prelude.{◌≡◌, ◌⊎◌, List, [], ◌∷◌, ℕ, ◌<◌, get_or, Result, MatchResult}
 use Rattle.field.specs.Numbers.{list_at_fault}
 use Rattle.field.specs.declared.faults.Fault.{Fault}
 
@@ -52,6 +52,14 @@ Passes (l ∷ lines) = ((place : ℕ) → ¬ l.given place) × Passes lines
 pub data Tested (lines : List Line) (f : Fault) : Type 0 where
   refused : Refuses lines f → Tested lines f
   passed : Passes lines → f ≡ none → Tested lines f
+
+-- a check of the lines: it passes, or its error is the fault of the first that applies
+abbrev pub Checked : List Line → Result Unit Fault → Type 0
+Checked lines r = MatchResult r (λ _. Passes lines) (Refuses lines)
+
+-- A `Result` for what a promise speaks of: that is said of its value, or of its error, which is a fault with a number.
+abbrev pub Told : {A B : Type 0} → (Fault → B) → (A → B) → (B → Type 0) → Result A Fault → Type 0
+Told of_fault of_value Promise r = MatchResult r (λ v. Promise (of_value v)) (λ f. (0 < f.number) × Promise (of_fault f))
 
 -- a fault that names another list than its number's
 abbrev pub AnotherList : Fault → Type 0

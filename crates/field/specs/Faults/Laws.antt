@@ -1,13 +1,15 @@
 -- Laws of faults and of tables of refusals: a fault is known by its numbers; a table gives one fault at most, and does not both pass and refuse; a table
 -- may be tested part by part.
-use Rattle.std.specs.Prelude.{◌≡◌, refl, Bool, true, ◌&&◌, List, [], ◌∷◌, ◌++◌, ℕ, ◌<◌, T, ltb, drop}
+use Rattle.std.specs.Prelude.{◌≡◌, refl, Result, Ok, Err, Bool, true, ◌&&◌, List, [], ◌∷◌, ◌++◌, ℕ, ◌<◌, T, ltb, drop}
 use Rattle.std.proofs.Common.{sym, ◌∙◌, ap, subst, inl, inr, arith, ltb→lt}
+use Rattle.std.specs.Result.{IsErrAnd}
+use Rattle.std.proofs.lemmas.Result.{err_from_is_err_and}
 use Rattle.std.proofs.Math.Decide.{dec_lt}
 use Rattle.std.proofs.Math.Facts.{and_yes}
 use Rattle.field.specs.declared.faults.Fault.{Fault}
 use Rattle.field.specs.Numbers.{list_at_fault}
 use Rattle.field.specs.Refusal.{Line, placed, whole, first, fault, none, after_fault, fault_in, Refuses, Passes, Tested, refused, passed}
-use Rattle.field.specs.Refusal.{RefutesAnotherList}
+use Rattle.field.specs.Refusal.{RefutesAnotherList, Checked, Told}
 
 -- a fault, and what stands behind it, are known by their numbers
 pub after_fault_known : (X : Fault → List ℕ → Type 0) (f g : Fault) (rest more : List ℕ) → after_fault f rest ≡ after_fault g more → X f rest → X g more
@@ -136,6 +138,9 @@ numbered = each_number (ltb 0)
 pub refuses_numbered : (lines : List Line) → T (numbered lines) → (f : Fault) → Refuses lines f → ¬ (f.number ≡ 0)
 refuses_numbered lines t f h e = omega (arith, ltb→lt 0 f.number (refuses_tested (ltb 0) lines t f h))
 
+pub refuses_positive : (lines : List Line) → T (numbered lines) → (f : Fault) → Refuses lines f → 0 < f.number
+refuses_positive lines t f h = ltb→lt 0 f.number (refuses_tested (ltb 0) lines t f h)
+
 -- each number is below n
 abbrev pub numbered_below : ℕ → List Line → Bool
 numbered_below n = each_number (λ m. ltb m n)
@@ -159,3 +164,50 @@ module _ (front back : List Line) (f : Fault) (t : Tested front f) where
   pub tested_goes_on : T (numbered front) → f.number ≡ 0 → {g : Fault} → Tested back g → Tested (front ++ back) g
   tested_goes_on some z {g} (refused h) = refused (refuses_back front back g (tested_passes front some f t z).0 h)
   tested_goes_on some z {g} (passed h e) = passed (passes_append front back (tested_passes front some f t z).0 h) e
+
+-- what a `?` hands on is the error that it met
+pub exit_err : {A : Type 0} (r : Result A Fault) {f : Fault} → IsErrAnd r (λ g. g ≡ f) → r ≡ Err f
+exit_err r h = let p = err_from_is_err_and r h in p.1 ∙ ap Err p.2
+
+pub checked_err : (lines : List Line) {r : Result Unit Fault} {f : Fault} → r ≡ Err f → Refuses lines f → Checked lines r
+checked_err lines e h = rw e h
+
+-- a check in two parts: it stops at the first, or goes on with the second
+pub checked_stops : (front back : List Line) {r : Result Unit Fault} {f : Fault} → r ≡ Err f → Refuses front f → Checked (front ++ back) r
+checked_stops front back {f} e h = checked_err (front ++ back) e (refuses_front front back f h)
+
+pub checked_goes_on : (front back : List Line) (r : Result Unit Fault) → Passes front → Checked back r → Checked (front ++ back) r
+checked_goes_on front back (Ok _) h k = passes_append front back h k
+checked_goes_on front back (Err f) h k = refuses_back front back f h k
+
+-- what is told of an error
+pub told_err : {A B : Type 0} (of_fault : Fault → B) (of_value : A → B) (Promise : B → Type 0) {r : Result A Fault} {f : Fault}
+    → r ≡ Err f → 0 < f.number → Promise (of_fault f) → Told of_fault of_value Promise r
+told_err of_fault of_value Promise e l h = rw e (l, h)
+
+-- where no fault with a number is told like a value, and a fault and a value are known by what is told of them, a promise that settles what is told settles the `Result`
+pub told_determined : {A B : Type 0} (of_fault : Fault → B) (of_value : A → B) (Promise : B → Type 0)
+    → ((f g : Fault) → of_fault f ≡ of_fault g → f ≡ g) → ((x y : A) → of_value x ≡ of_value y → x ≡ y)
+    → ((f : Fault) (x : A) → 0 < f.number → ¬ (of_fault f ≡ of_value x))
+    → ((b c : B) → Promise b → Promise c → b ≡ c)
+    → (r q : Result A Fault) → Told of_fault of_value Promise r → Told of_fault of_value Promise q → r ≡ q
+told_determined of_fault of_value Promise faults values apart same (Ok x) (Ok y) h k = ap Ok (values x y (same _ _ h k))
+told_determined of_fault of_value Promise faults values apart same (Ok x) (Err g) h k = absurd (apart g x k.0 (same _ _ k.1 h))
+told_determined of_fault of_value Promise faults values apart same (Err f) (Ok y) h k = absurd (apart f y h.0 (same _ _ h.1 k))
+told_determined of_fault of_value Promise faults values apart same (Err f) (Err g) h k = ap Err (faults f g (same _ _ h.1 k.1))
+
+-- a check gives one `Result`
+pub checked_determined : (lines : List Line) → OnePlaceEach lines → (r q : Result Unit Fault) → Checked lines r → Checked lines q → r ≡ q
+checked_determined lines one (Ok x) (Ok y) h k = refl
+checked_determined lines one (Ok x) (Err g) h k = absurd (not_passes_and_refuses lines g h k)
+checked_determined lines one (Err f) (Ok y) h k = absurd (not_passes_and_refuses lines f k h)
+checked_determined lines one (Err f) (Err g) h k = ap Err (refuses_determined lines one f g h k)
+
+-- The fault that a check says: none where it passes. Of this a test of the lines tells.
+abbrev pub fault_said : Result Unit Fault → Fault
+fault_said (Ok _) = none
+fault_said (Err f) = f
+
+pub checked_tested : (lines : List Line) (r : Result Unit Fault) → Checked lines r → Tested lines (fault_said r)
+checked_tested lines (Ok _) h = passed h refl
+checked_tested lines (Err f) h = refused h

@@ -1,19 +1,18 @@
 -- The promises of the arithmetic services settle their answers, and what is known where no line applies.
-use Rattle.std.specs.Prelude.{◌≡◌, refl, List, ℕ, ◌*◌, ◌%◌, ◌≤◌, ◌<◌, T}
+use Rattle.std.specs.Prelude.{◌≡◌, refl, List, ℕ, ◌*◌, ◌%◌, ◌≤◌, ◌<◌, T, Result, Err}
 use Rattle.std.proofs.Common.{sym, ap, ◌∙◌, inl, arith}
 use Rattle.field.specs.Modulus.Laws.{listed_stable}
 use Rattle.field.specs.Fp.{el}
 use Rattle.field.specs.Elements.Fp.{el_below_inj}
 use Rattle.field.specs.Elements.Inverse.{inverse_unique}
 use Rattle.field.specs.Elements.Link.{inverse_mul}
-use Rattle.field.specs.Refusal.{Line, none, Tested, RefutesAnotherList}
+use Rattle.field.specs.Refusal.{Line, none, Passes, Refuses, Told, RefutesAnotherList}
 use Rattle.field.specs.Faults.Laws.{OnePlaceEach, placed_one_place, whole_one_place, never_placed}
-use Rattle.field.specs.Faults.Laws.{refuses_determined, refuses_names, not_passes_and_refuses, numbered, tested_passes, tested_refuses}
+use Rattle.field.specs.Faults.Laws.{refuses_determined, refuses_names, not_passes_and_refuses, numbered, refuses_positive, told_err}
 use Rattle.field.specs.Contract.{element, Fit, Invertible, sum_of, difference_of, product_of, Inverse}
-use Rattle.field.specs.Arithmetic.{two_operands, inverse_operand, Arithmetic, refused, answered, AskSum, AskDifference, AskProduct, AskInverse}
+use Rattle.field.specs.Arithmetic.{two_operands, inverse_operand, Arithmetic, refused, answered, AskSum, AskDifference, AskProduct, AskInverse, Answer, refused_answer, given_answer}
 use Rattle.field.specs.declared.faults.Fault.{Fault}
 use Rattle.field.specs.declared.elements.Element.{Element}
-use Rattle.field.specs.declared.services.Answer.{Answer}
 
 abbrev pub answer : Fault → Element → Answer
 answer f e = record { fault = f; element = e }
@@ -68,26 +67,19 @@ arithmetic_another_list lines Outcome a r other (refused f h) = other (refuses_n
 arithmetic_another_list lines Outcome a r other (answered x h o) = other refl
 
 -- operands to which no line applies are those that the operations ask for
-pub operands_fit : (a b : Element) (f : Fault) → Tested (two_operands a b) f → f.number ≡ 0 → Fit a b
-operands_fit a b f t z =
-    let passed = (tested_passes (two_operands a b) tt f t z).0 in
+pub operands_fit : (a b : Element) → Passes (two_operands a b) → Fit a b
+operands_fit a b passed =
     let first = never_placed passed.1.0 in
     let large : ¬ (a.modulus ≤ b.value) = λ l. never_placed passed.1.1.0 (inl l) in
     record { below = omega arith; other_below = omega arith }
 
-pub operand_invertible : (a : Element) (f : Fault) → Tested (inverse_operand a) f → f.number ≡ 0 → Invertible a
-operand_invertible a f t z =
-    let passed = (tested_passes (inverse_operand a) tt f t z).0 in
+pub operand_invertible : (a : Element) → Passes (inverse_operand a) → Invertible a
+operand_invertible a passed =
     let first = never_placed passed.1.0 in
     let zero = never_placed passed.1.1.0 in
     record { is_listed = listed_stable a.modulus (never_placed passed.0); below = omega arith; nonzero = omega arith }
 
--- a service that tested its lines and answers by the fault's number
-module _ (lines : List Line) (Outcome : Element → Type 0) (a : Element) (f : Fault) (t : Tested lines f) (e : Element) where
-  pub arithmetic_refused : ¬ (f.number ≡ 0) → e ≡ element a.modulus 0 → Arithmetic lines Outcome a (answer f e)
-  arithmetic_refused n z = rw z (refused f (tested_refuses lines f t n))
-
-  pub arithmetic_answered : T (numbered lines) → f.number ≡ 0 → Outcome e → Arithmetic lines Outcome a (answer f e)
-  arithmetic_answered some z o =
-      let h = tested_passes lines some f t z in
-      rw h.1 (answered e h.0 o)
+-- a service that refuses as its check does
+pub ask_refused : (lines : List Line) (Outcome : Element → Type 0) (a : Element) (f : Fault) (r : Result Element Fault)
+    → T (numbered lines) → Refuses lines f → r ≡ Err f → Told (refused_answer a) given_answer (Arithmetic lines Outcome a) r
+ask_refused lines Outcome a f r some h e = told_err (refused_answer a) given_answer (Arithmetic lines Outcome a) e (refuses_positive lines some f h) (refused f h)

@@ -1,13 +1,14 @@
 -- `field::ask_difference` meets its contract: where no line applies, the operands are those that `difference` asks for.
-use Rattle.std.proofs.Common.{rules}
-use Rattle.field.specs.Services.Laws.{operands_fit, arithmetic_refused, arithmetic_answered}
+use Rattle.field.specs.Arithmetic.{answered}
+use Rattle.field.specs.Faults.Laws.{exit_err}
+use Rattle.field.specs.Services.Laws.{operands_fit, ask_refused}
 use Rattle.field.proofs.services.ask_difference.Goals as goal
 
-pub difference-element-requires : goal.difference-element-requires
-difference-element-requires c = search (rules, operands_fit)
+pub returns-in_err-check_operands : goal.returns-in_err-check_operands
+returns-in_err-check_operands c = ask_refused _ _ _ _ _ tt c.in_err-check_operands.ensures (exit_err _ c.from_residual.ensures.1)
 
-pub returns-then-fault-ne0 : goal.returns-then-fault-ne0
-returns-then-fault-ne0 c = search (rules, arithmetic_refused)
+pub difference-requires : goal.difference-requires
+difference-requires c = operands_fit _ _ c.in_ok-check_operands.ensures
 
-pub returns-else-fault-ne0 : goal.returns-else-fault-ne0
-returns-else-fault-ne0 c = search (rules, arithmetic_answered)
+pub returns : goal.returns
+returns c = answered _ c.in_ok-check_operands.ensures c.difference.ensures
