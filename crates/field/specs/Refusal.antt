@@ -58,8 +58,8 @@ abbrev pub Checked : List Line → Result Unit Fault → Type 0
 Checked lines r = MatchResult r (λ _. Passes lines) (Refuses lines)
 
 -- A `Result` for what a promise speaks of: that is said of its value, or of its error, which is a fault with a number.
-abbrev pub Told : {A B : Type 0} → (Fault → B) → (A → B) → (B → Type 0) → Result A Fault → Type 0
-Told of_fault of_value Promise r = MatchResult r (λ v. Promise (of_value v)) (λ f. (0 < f.number) × Promise (of_fault f))
+abbrev pub StandsFor : {A B : Type 0} → (Fault → B) → (A → B) → (B → Type 0) → Result A Fault → Type 0
+StandsFor of_fault of_value Promise r = MatchResult r (λ v. Promise (of_value v)) (λ f. (0 < f.number) × Promise (of_fault f))
 
 -- a fault that names another list than its number's
 abbrev pub AnotherList : Fault → Type 0

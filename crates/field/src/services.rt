@@ -1,5 +1,5 @@
 // The arithmetic services: what they refuse, and what they answer.
-ghost use Rattle.field.specs.Refusal.{Checked, Told};
+ghost use Rattle.field.specs.Refusal.{Checked, StandsFor};
 ghost use Rattle.field.specs.Arithmetic.{first_operand, two_operands, inverse_operand, refused_answer, given_answer, AskSum, AskDifference, AskProduct, AskInverse};
 
 use crate::{Element, Fault, is_modulus};
@@ -41,28 +41,28 @@ fn check_inverse_operand(a: Element) -> Result<(), Fault>
 }
 
 pub fn ask_sum(a: Element, b: Element) -> Result<Element, Fault>
-    ensures { Told (refused_answer a) given_answer (AskSum a b) result }
+    ensures { StandsFor (refused_answer a) given_answer (AskSum a b) result }
 {
     check_operands(a, b)?;
     Ok(a.sum(b))
 }
 
 pub fn ask_difference(a: Element, b: Element) -> Result<Element, Fault>
-    ensures { Told (refused_answer a) given_answer (AskDifference a b) result }
+    ensures { StandsFor (refused_answer a) given_answer (AskDifference a b) result }
 {
     check_operands(a, b)?;
     Ok(a.difference(b))
 }
 
 pub fn ask_product(a: Element, b: Element) -> Result<Element, Fault>
-    ensures { Told (refused_answer a) given_answer (AskProduct a b) result }
+    ensures { StandsFor (refused_answer a) given_answer (AskProduct a b) result }
 {
     check_operands(a, b)?;
     Ok(a.product(b))
 }
 
 pub fn ask_inverse(a: Element) -> Result<Element, Fault>
-    ensures { Told (refused_answer a) given_answer (AskInverse a) result }
+    ensures { StandsFor (refused_answer a) given_answer (AskInverse a) result }
 {
     check_inverse_operand(a)?;
     Ok(a.inverse())

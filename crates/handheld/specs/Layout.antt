@@ -4,7 +4,7 @@ use Rattle.std.specs.Prelude.{List, [], ◌∷◌, ℕ}
 use Rattle.field.specs.Refusal.{after_fault}
 use Rattle.field.specs.declared.faults.Fault.{Fault}
 use Rattle.field.specs.declared.services.Answer.{Answer}
-use Rattle.poly.specs.declared.ImageRecord.{ImageRecord}
+use Rattle.poly.specs.ImageCall.{ImageRecord}
 use Rattle.poly.specs.declared.Picked.{Picked}
 use Rattle.poly.specs.QuotientCall.{QuotientResult}
 use Rattle.divisor.specs.Candidate.{Result}

@@ -8,13 +8,19 @@ use Rattle.field.specs.Modulo.{Modulo}
 use Rattle.field.specs.Numbers.{POINTS_COUNT, POINT_NUMBER, NO_GOOD_POINT}
 use Rattle.field.specs.Refusal.{Line, line, whole, first, fault, none, Refuses, Passes}
 use Rattle.field.specs.declared.faults.Fault.{Fault}
-use Rattle.poly.specs.declared.ImageRecord.{ImageRecord}
+use Rattle.poly.specs.declared.MonicImage.{MonicImage}
 use Rattle.poly.specs.declared.PointImage.{PointImage}
 use Rattle.poly.specs.Terms.{Polynomial, terms_of}
 use Rattle.poly.specs.PointValue.{Point}
 use Rattle.poly.specs.PointImage.{Bad, Image}
 use Rattle.poly.specs.Lists.{WrongNumber, of_lists}
 use Rattle.poly.specs.Coefficients.{Eight, series}
+
+-- What the service tells: a fault, U's coefficients and its degree.
+pub record ImageRecord : Type 0 where
+  pub fault : Fault
+  pub coefficients : List ℕ
+  pub degree : ℕ
 
 -- what the service is lent
 pub record ImageCall : Type 0 where
@@ -51,6 +57,10 @@ point_of p P numbers = record { y = el p (get_or numbers 0 0); z = el p (get_or 
 -- on refusal the coefficients and the degree are 0
 abbrev pub refused_image : Fault → ImageRecord
 refused_image f = record { fault = f; coefficients = replicate 8 0; degree = 0 }
+
+-- told of an image
+abbrev pub found_image : MonicImage → ImageRecord
+found_image u = record { fault = none; coefficients = u.coefficients; degree = u.degree }
 
 -- what a point gives: where it is bad nothing, of size 0; else the image, whose size is one more than its degree
 pub data PointAnswer (p : ℕ) (P : Prime p) (A B : Polynomial (Modulo p P)) (at : Point (Modulo p P).ring) : PointImage → Type 0 where

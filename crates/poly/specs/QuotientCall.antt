@@ -8,13 +8,25 @@ use Rattle.field.specs.Modulo.{Modulo}
 use Rattle.field.specs.Numbers.{DOES_NOT_DIVIDE}
 use Rattle.field.specs.Refusal.{Line, fault, none, Refuses, Passes}
 use Rattle.field.specs.declared.faults.Fault.{Fault}
-use Rattle.poly.specs.declared.QuotientRecord.{QuotientRecord}
 use Rattle.poly.specs.Keys.{keys}
 use Rattle.poly.specs.Terms.{poly}
 use Rattle.poly.specs.Divides.{Divides}
 use Rattle.poly.specs.Lists.{WrongModulo, of_lists}
 use Rattle.field.specs.Lent.{written}
 use Rattle.poly.specs.Room.{of_rooms, cleared}
+
+-- What the service tells: a fault, and how many terms the quotient has.
+pub record QuotientRecord : Type 0 where
+  pub fault : Fault
+  pub terms : ℕ
+
+-- told of a refusal
+abbrev pub refused_quotient : Fault → QuotientRecord
+refused_quotient f = record { fault = f; terms = 0 }
+
+-- told of a quotient
+abbrev pub found_quotient : ℕ → QuotientRecord
+found_quotient n = record { fault = none; terms = n }
 
 -- what the service is lent
 pub record QuotientCall : Type 0 where
@@ -50,11 +62,11 @@ quotient_result found output work = record { found = found; output = output; wor
 -- the promise of the quotient service
 pub data Quotient (c : QuotientCall) : QuotientResult → Type 0 where
   refused : (f : Fault) → Refuses (quotient_table c) f
-      → Quotient c (quotient_result (record { fault = f; terms = 0 }) c.output c.work)
+      → Quotient c (quotient_result (refused_quotient f) c.output c.work)
   no_quotient : Passes (quotient_table c) → (listed : Listed c.modulus)
       → ¬ Divides (Modulo c.modulus (listed_prime listed)) (poly c.modulus (listed_prime listed) c.second_list)
       (poly c.modulus (listed_prime listed) c.first_list)
-      → Quotient c (quotient_result (record { fault = fault DOES_NOT_DIVIDE 0; terms = 0 }) c.output (cleared c.work))
+      → Quotient c (quotient_result (refused_quotient (fault DOES_NOT_DIVIDE 0)) c.output (cleared c.work))
   quotient : Passes (quotient_table c) → (listed : Listed c.modulus) (qs : List ℕ)
       → IsQuotient c.modulus (listed_prime listed) c.first_list c.second_list qs
-      → Quotient c (quotient_result (record { fault = none; terms = length qs }) (written qs c.output) (cleared c.work))
+      → Quotient c (quotient_result (found_quotient (length qs)) (written qs c.output) (cleared c.work))

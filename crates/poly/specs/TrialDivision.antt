@@ -1,15 +1,25 @@
 -- Trial division under a ceiling on its steps, for the layer above: what it is lent, and what it answers and leaves behind.
-use Rattle.std.specs.Prelude.{◌≡◌, Bool, true, false, List, length, ℕ, ◌≤◌, ◌<◌}
+use Rattle.std.specs.Prelude.{◌≡◌, Bool, true, false, List, length, ℕ, ◌≤◌, ◌<◌, Result, Ok, Err}
 use Rattle.algebra.specs.Division.{Division}
 use Rattle.field.specs.Prime.{Prime}
 use Rattle.field.specs.Moduli.{Listed}
 use Rattle.field.specs.Modulo.{Modulo}
 use Rattle.field.specs.Numbers.{DOES_NOT_DIVIDE, CEILING_REACHED}
-use Rattle.poly.specs.declared.Trial.{Trial}
+use Rattle.poly.specs.declared.Stopped.{Stopped}
 use Rattle.poly.specs.Keys.{keys}
 use Rattle.poly.specs.Terms.{terms_of, poly}
 use Rattle.poly.specs.Room.{work_room, cleared}
 use Rattle.poly.specs.Lists.{Falling}
+
+-- What a trial tells: 0 where the divisor divides, 15 or 18; and the steps taken.
+pub record Trial : Type 0 where
+  pub number : ℕ
+  pub steps : ℕ
+
+-- told of the steps taken, or of what it stopped with
+abbrev pub trial : Result ℕ Stopped → Trial
+trial (Ok n) = record { number = 0; steps = n }
+trial (Err s) = record { number = s.number; steps = s.steps }
 
 -- a listed modulus, two lists that are not empty and fall, and a work room that is not too short
 pub record CanDivide (p : ℕ) (dividend divisor work : List ℕ) : Type 0 where

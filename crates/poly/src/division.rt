@@ -1,12 +1,12 @@
 // Division by leading terms in a lent work room: one number for each key holds the remainder, the next as many hold the quotient's coefficients.
-ghost use Rattle.std.specs.Prelude.{◌≡◌, max, length};
+ghost use Rattle.std.specs.Prelude.{◌≡◌, ◌<◌, max, length, IfErr};
 ghost use Rattle.poly.specs.Keys.{keys};
-ghost use Rattle.poly.specs.TrialDivision.{CanDivide, TrialDivision};
+ghost use Rattle.poly.specs.TrialDivision.{CanDivide, TrialDivision, trial};
 ghost use Rattle.poly.specs.Division.SpreadModel.{spread as spread_over};
 ghost use Rattle.poly.specs.Division.Model.{KeysBelow, most_key, at_most, fits_in, less_product};
 ghost use Rattle.poly.specs.Division.WorkRoomModel.{CanSubtract, CanStep, Stepped, CanBegin, Divided};
 
-use crate::Trial;
+use crate::Stopped;
 use crate::key::Key;
 use crate::rooms::{CELLS, WORK_ROOM, clear};
 use field::{Element, Fault, KeyBits, RefusalNumber, Residue, Term};
@@ -97,20 +97,20 @@ fn steps(
     top: KeyBits,
     ceiling: usize,
     work: &mut [Residue],
-) -> Trial
+) -> Result<usize, Stopped>
     requires { CanStep (record { modulus = inverse.modulus; terms = divisor.now; lead = lead; inverse = inverse.value; bound = bound.bits })
         top work.old }
-    ensures { Stepped (record {
+    ensures steps { Stepped (record {
       modulus = inverse.modulus;
       terms = divisor.now;
       lead = lead;
       inverse = inverse.value;
       bound = bound.bits;
-    }) ceiling work.old work.new result }
+    }) ceiling work.old work.new (trial result) }
+    ensures numbered { IfErr result (λ s. 0 < s.number) }
 {
     let mut k = top;
     let mut taken: usize = 0;
-    let mut number: RefusalNumber = 0;
     'steps: loop {
         loop {
             if k == 0 {
@@ -119,15 +119,19 @@ fn steps(
             k -= 1;
             if work[k as usize] != 0 {
                 if !fits(k, lead, bound) {
-                    number = Fault::DOES_NOT_DIVIDE;
-                    break 'steps;
+                    return Err(Stopped {
+                        number: Fault::DOES_NOT_DIVIDE,
+                        steps: taken,
+                    });
                 }
                 break;
             }
         }
         if taken == ceiling {
-            number = Fault::CEILING_REACHED;
-            break 'steps;
+            return Err(Stopped {
+                number: Fault::CEILING_REACHED,
+                steps: taken,
+            });
         }
         taken += 1;
         let shift = (k - lead) as usize;
@@ -135,10 +139,7 @@ fn steps(
         work[CELLS + shift] = q.value;
         subtract(q, shift, divisor, work);
     }
-    Trial {
-        number,
-        steps: taken,
-    }
+    Ok(taken)
 }
 
 // Whether the divisor divides the dividend, in a room whose cells of the remainder are 0; the quotient's coefficients are stored in its other cells.
@@ -148,17 +149,18 @@ pub(crate) fn divide(
     divisor: &[Term],
     ceiling: usize,
     work: &mut [Residue],
-) -> Trial
+) -> Result<usize, Stopped>
     requires { CanBegin p dividend.now divisor.now work.old }
-    ensures { Divided p dividend.now divisor.now ceiling work.old work.new result }
+    ensures division { Divided p dividend.now divisor.now ceiling work.old work.new (trial result) }
+    ensures numbered { IfErr result (λ s. 0 < s.number) }
 {
     let above = most(dividend);
     let below = most(divisor);
     if !at_most(below, above) {
-        return Trial {
+        return Err(Stopped {
             number: Fault::DOES_NOT_DIVIDE,
             steps: 0,
-        };
+        });
     }
     let bound = Key {
         bits: above.bits - below.bits,
@@ -180,9 +182,10 @@ pub fn divides(
     divisor: &[Term],
     ceiling: usize,
     work: &mut [Residue],
-) -> Trial
+) -> Result<usize, Stopped>
     requires { CanDivide p dividend.now divisor.now work.old }
-    ensures { TrialDivision p dividend.now divisor.now ceiling work.old work.new result }
+    ensures division { TrialDivision p dividend.now divisor.now ceiling work.old work.new (trial result) }
+    ensures numbered { IfErr result (λ s. 0 < s.number) }
 {
     clear(CELLS, work);
     let trial = divide(p, dividend, divisor, ceiling, work);

@@ -1,22 +1,11 @@
 // The image of two polynomials at a point: the monic greatest common divisor of their values, as polynomials in x.
 ghost use Rattle.std.specs.Prelude.{◌≡◌};
-ghost use Rattle.field.specs.Refusal.{Tested};
-ghost use Rattle.poly.specs.ImageCall.{image_call, refused_image, image_table, Fine, AnswersPoint, ImageAnswer};
+ghost use Rattle.field.specs.Refusal.{Checked, StandsFor};
+ghost use Rattle.poly.specs.ImageCall.{image_call, refused_image, found_image, image_table, Fine, AnswersPoint, ImageAnswer};
 ghost use Rattle.poly.specs.Image.Model.{seen};
 
-use crate::{Eight, ImageRecord, POWERS, PointImage, Size, euclid, list, points, value};
+use crate::{Eight, MonicImage, POWERS, PointImage, Size, euclid, list, points, value};
 use field::{Element, Fault, Residue, Term};
-
-// On refusal the coefficients and the degree are 0.
-fn refused(fault: Fault) -> ImageRecord
-    ensures { result ≡ refused_image fault }
-{
-    ImageRecord {
-        fault,
-        coefficients: [Element::ZERO; POWERS],
-        degree: 0,
-    }
-}
 
 // The image at a point, of inputs that are in order: its coefficients into u, and its size; at a bad point all are 0. A point is bad if both
 // x-leading coefficients are 0 there; else a value that keeps its degree is not 0, and the other is divided by it.
@@ -53,32 +42,35 @@ pub fn image_at(p: Residue, first: &[Term], second: &[Term], point: &[Residue]) 
 }
 
 // The refusals of the image's inputs.
-fn image_fault(p: Residue, first: &[Term], second: &[Term], point: &[Residue]) -> Fault
-    ensures { Tested (image_table (image_call p first.now second.now point.now)) result }
+fn check_call(
+    p: Residue,
+    first: &[Term],
+    second: &[Term],
+    point: &[Residue],
+) -> Result<(), Fault>
+    ensures { Checked (image_table (image_call p first.now second.now point.now)) result }
 {
-    let fault = list::lists_fault(p, first, second);
-    if fault.number != 0 {
-        return fault;
-    }
-    points::point_fault(p, point)
+    list::check_modulo(p, first, second)?;
+    points::check_point(p, point)
 }
 
 // The image service.
-pub fn image(p: Residue, first: &[Term], second: &[Term], point: &[Residue]) -> ImageRecord
-    ensures { ImageAnswer (image_call p first.now second.now point.now) result }
+pub fn image(
+    p: Residue,
+    first: &[Term],
+    second: &[Term],
+    point: &[Residue],
+) -> Result<MonicImage, Fault>
+    ensures { StandsFor refused_image found_image (ImageAnswer (image_call p first.now second.now point.now)) result }
 {
-    let fault = image_fault(p, first, second, point);
-    if fault.number != 0 {
-        return refused(fault);
-    }
-    let mut u: Eight = [Element::ZERO; POWERS];
-    let size = image_into(p, first, second, point, &mut u);
+    check_call(p, first, second, point)?;
+    let mut coefficients: Eight = [Element::ZERO; POWERS];
+    let size = image_into(p, first, second, point, &mut coefficients);
     if size == 0 {
-        return refused(Fault::at(Fault::NO_GOOD_POINT, 0));
+        return Err(Fault::at(Fault::NO_GOOD_POINT, 0));
     }
-    ImageRecord {
-        fault: Fault::none(),
-        coefficients: u,
+    Ok(MonicImage {
+        coefficients,
         degree: size as usize - 1,
-    }
+    })
 }

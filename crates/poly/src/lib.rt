@@ -1,7 +1,7 @@
 // Layer 2, polynomials in x, y, z, w modulo a listed prime: keys and lists, the value and the image at a point, division.
 #![tactic(auto)]
 
-use field::{Fault, RefusalNumber, Residue};
+use field::{RefusalNumber, Residue};
 
 pub mod division;
 mod euclid;
@@ -29,10 +29,9 @@ pub struct PointImage {
     pub coefficients: Eight,
 }
 
-// What the image service answers: U's coefficients and its degree; on refusal all are 0.
+// What the image service finds: U's coefficients and its degree.
 #[derive(Clone, Copy)]
-pub struct ImageRecord {
-    pub fault: Fault,
+pub struct MonicImage {
     pub coefficients: Eight,
     pub degree: usize,
 }
@@ -44,16 +43,9 @@ pub struct Picked {
     pub terms: usize,
 }
 
-// What a division under a ceiling on its steps answers: 0 where the divisor divides, 15 or 18; and the steps taken, one for each term of the quotient.
+// What a division under a ceiling on its steps stops with, where the divisor is not found to divide: 15 or 18, and the steps taken.
 #[derive(Clone, Copy)]
-pub struct Trial {
+pub struct Stopped {
     pub number: RefusalNumber,
     pub steps: usize,
-}
-
-// What the quotient service answers: the count of terms, 0 on refusal.
-#[derive(Clone, Copy)]
-pub struct QuotientRecord {
-    pub fault: Fault,
-    pub terms: usize,
 }

@@ -1,6 +1,6 @@
 // Lists of terms: the check with which every service begins, the public list checks, the leading part, and the shorter of two.
 ghost use Rattle.std.specs.Prelude.{◌<◌, length};
-ghost use Rattle.field.specs.Refusal.{Tested};
+ghost use Rattle.field.specs.Refusal.{Checked};
 ghost use Rattle.poly.specs.Lists.{WrongModulo, of_terms, of_lists};
 ghost use Rattle.poly.specs.LeadingPart.{of_list, LeadingPart};
 ghost use Rattle.poly.specs.ShorterPart.{of_two_lists, ShorterHead, ShorterPart};
@@ -32,41 +32,43 @@ fn first_wrong(bound: u32, terms: &[Term]) -> usize
 }
 
 // The check of one list, whose two refusal numbers are given.
-fn list_fault(count: RefusalNumber, term: RefusalNumber, bound: u32, terms: &[Term]) -> Fault
-    ensures { Tested (of_terms count term (WrongModulo bound terms.now) terms.now) result }
+fn check_terms(
+    count: RefusalNumber,
+    term: RefusalNumber,
+    bound: u32,
+    terms: &[Term],
+) -> Result<(), Fault>
+    ensures { Checked (of_terms count term (WrongModulo bound terms.now) terms.now) result }
 {
-    if terms.len() == 0 {
-        return Fault::at(count, 0);
+    if terms.is_empty() {
+        return Err(Fault::at(count, 0));
     }
     if terms.len() > MOST_TERMS {
-        return Fault::at(count, 0);
+        return Err(Fault::at(count, 0));
     }
     let place = first_wrong(bound, terms);
     if place < terms.len() {
-        return Fault::at(term, place);
+        return Err(Fault::at(term, place));
     }
-    Fault::none()
+    Ok(())
 }
 
 // The refusals 1 to 5, of the modulus and the two lists.
-pub fn lists_fault(p: Residue, first: &[Term], second: &[Term]) -> Fault
-    ensures { Tested (of_lists p first.now second.now) result }
+pub fn check_modulo(p: Residue, first: &[Term], second: &[Term]) -> Result<(), Fault>
+    ensures { Checked (of_lists p first.now second.now) result }
 {
     if !field::is_modulus(p) {
-        return Fault::at(Fault::MODULUS, 0);
+        return Err(Fault::at(Fault::MODULUS, 0));
     }
-    let fault = list_fault(Fault::FIRST_COUNT, Fault::FIRST_TERM, p as u32, first);
-    if fault.number != 0 {
-        return fault;
-    }
-    list_fault(Fault::SECOND_COUNT, Fault::SECOND_TERM, p as u32, second)
+    check_terms(Fault::FIRST_COUNT, Fault::FIRST_TERM, p as u32, first)?;
+    check_terms(Fault::SECOND_COUNT, Fault::SECOND_TERM, p as u32, second)
 }
 
 // The list check: the refusals 2 and 3 without a modulus, by a bound that no coefficient reaches.
-pub fn check_list(terms: &[Term]) -> Fault
-    ensures { Tested (of_list terms.now) result }
+pub fn check_list(terms: &[Term]) -> Result<(), Fault>
+    ensures { Checked (of_list terms.now) result }
 {
-    list_fault(
+    check_terms(
         Fault::FIRST_COUNT,
         Fault::FIRST_TERM,
         Key::COEFFICIENT_LIMIT,
@@ -94,40 +96,36 @@ fn leading_length(terms: &[Term]) -> usize
 pub fn leading_part(terms: &[Term]) -> &[Term]
     ensures { LeadingPart terms.entry result }
 {
-    let fault = check_list(terms);
-    if fault.number != 0 {
-        return &terms[..0];
+    match check_list(terms) {
+        Err(_) => &terms[..0],
+        Ok(()) => &terms[..leading_length(terms)],
     }
-    let n = leading_length(terms);
-    &terms[..n]
 }
 
 // The check of two lists: the refusals 2 to 5 without a modulus.
-pub fn check_lists(first: &[Term], second: &[Term]) -> Fault
-    ensures { Tested (of_two_lists first.now second.now) result }
+pub fn check_lists(first: &[Term], second: &[Term]) -> Result<(), Fault>
+    ensures { Checked (of_two_lists first.now second.now) result }
 {
-    let fault = check_list(first);
-    if fault.number != 0 {
-        return fault;
-    }
+    check_list(first)?;
     let bound = Key::COEFFICIENT_LIMIT;
-    list_fault(Fault::SECOND_COUNT, Fault::SECOND_TERM, bound, second)
+    check_terms(Fault::SECOND_COUNT, Fault::SECOND_TERM, bound, second)
 }
 
 // Which of two lists has the shorter leading part, the first on a tie, and how many terms that has; on refusal the first, and none.
 pub fn shorter_head(first: &[Term], second: &[Term]) -> Picked
     ensures { ShorterHead first.now second.now result }
 {
-    let fault = check_lists(first, second);
-    if fault.number != 0 {
-        return Picked { list: 1, terms: 0 };
+    match check_lists(first, second) {
+        Err(_) => Picked { list: 1, terms: 0 },
+        Ok(()) => {
+            let n = leading_length(first);
+            let m = leading_length(second);
+            if m < n {
+                return Picked { list: 2, terms: m };
+            }
+            Picked { list: 1, terms: n }
+        }
     }
-    let n = leading_length(first);
-    let m = leading_length(second);
-    if m < n {
-        return Picked { list: 2, terms: m };
-    }
-    Picked { list: 1, terms: n }
 }
 
 // The shorter leading part of two lists, as a part of whichever of the two it belongs to: one lifetime for both.

@@ -1,6 +1,6 @@
 // The checks of points: their numbers, and how many there are.
 ghost use Rattle.std.specs.Prelude.{length};
-ghost use Rattle.field.specs.Refusal.{Tested};
+ghost use Rattle.field.specs.Refusal.{Checked};
 ghost use Rattle.poly.specs.Lists.{WrongNumber};
 ghost use Rattle.poly.specs.Search.{Searched};
 ghost use Rattle.poly.specs.ImageCall.{of_point};
@@ -22,15 +22,15 @@ pub fn first_large(p: Residue, numbers: &[Residue]) -> usize
 }
 
 // The refusals 8 and 9, of one point.
-pub(crate) fn point_fault(p: Residue, point: &[Residue]) -> Fault
-    ensures { Tested (of_point p point.now) result }
+pub(crate) fn check_point(p: Residue, point: &[Residue]) -> Result<(), Fault>
+    ensures { Checked (of_point p point.now) result }
 {
     if point.len() != COORDINATES {
-        return Fault::at(Fault::POINTS_COUNT, 0);
+        return Err(Fault::at(Fault::POINTS_COUNT, 0));
     }
     let place = first_large(p, point);
     if place < point.len() {
-        return Fault::at(Fault::POINT_NUMBER, place);
+        return Err(Fault::at(Fault::POINT_NUMBER, place));
     }
-    Fault::none()
+    Ok(())
 }

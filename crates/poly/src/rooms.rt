@@ -1,6 +1,6 @@
 // What is lent to be worked in: the output, and the work room, which is left cleared.
 ghost use Rattle.std.specs.Prelude.{◌≡◌, min, length};
-ghost use Rattle.field.specs.Refusal.{Tested};
+ghost use Rattle.field.specs.Refusal.{Checked};
 ghost use Rattle.poly.specs.Room.{of_rooms, zeroed};
 
 use crate::key::Key;
@@ -13,16 +13,16 @@ pub const CELLS: usize = Key::LIMIT as usize;
 pub const WORK_ROOM: usize = 2 * CELLS;
 
 // The refusals 10 and 11: of the rooms that are lent only the lengths matter, and how many terms the output needs.
-pub fn rooms_fault(output: usize, needed: usize, work: usize) -> Fault
-    ensures { Tested (of_rooms output needed work) result }
+pub fn check_rooms(output: usize, needed: usize, work: usize) -> Result<(), Fault>
+    ensures { Checked (of_rooms output needed work) result }
 {
     if output < needed {
-        return Fault::at(Fault::OUTPUT_SHORT, 0);
+        return Err(Fault::at(Fault::OUTPUT_SHORT, 0));
     }
     if work < WORK_ROOM {
-        return Fault::at(Fault::WORK_SHORT, 0);
+        return Err(Fault::at(Fault::WORK_SHORT, 0));
     }
-    Fault::none()
+    Ok(())
 }
 
 // The first `n` numbers set to 0, or all of them where there are fewer.

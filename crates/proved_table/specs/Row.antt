@@ -7,8 +7,8 @@ use Rattle.field.specs.Numbers.{OUTPUT_SHORT}
 use Rattle.field.specs.Refusal.{fault}
 use Rattle.field.specs.Prime.{Prime}
 use Rattle.field.specs.Modulo.{Modulo}
-use Rattle.poly.specs.declared.ImageRecord.{ImageRecord}
-use Rattle.poly.specs.declared.QuotientRecord.{QuotientRecord}
+use Rattle.poly.specs.ImageCall.{ImageRecord}
+use Rattle.poly.specs.QuotientCall.{QuotientRecord}
 use Rattle.poly.specs.Keys.{keys}
 use Rattle.poly.specs.Terms.{poly}
 use Rattle.poly.specs.ShorterPart.{ShorterPart}

@@ -1,8 +1,8 @@
 -- A wrong result: what a wrong version of a service answers to a row, and what it leaves behind. What it means that the contract refutes it.
 use Rattle.std.specs.Prelude.{◌≡◌, Bool, true, false, List, ℕ, ◌≤◌, length, take}
 use Rattle.std.specs.Borrow.{Bor}
-use Rattle.poly.specs.declared.ImageRecord.{ImageRecord}
-use Rattle.poly.specs.declared.QuotientRecord.{QuotientRecord}
+use Rattle.poly.specs.ImageCall.{ImageRecord}
+use Rattle.poly.specs.QuotientCall.{QuotientRecord}
 use Rattle.poly.specs.Keys.{keys}
 use Rattle.poly.specs.ShorterPart.{ShorterHead, ShorterPart}
 use Rattle.poly.specs.ImageCall.{ImageAnswer}

@@ -2,8 +2,8 @@
 use Rattle.std.specs.Prelude.{true, false, List, [], ◌∷◌, ℕ, length}
 use Rattle.field.specs.Numbers.{DOES_NOT_DIVIDE, NO_GOOD_POINT, BODY_CUT, LIST_SECOND, LIST_SKELETON, LIST_POINTS}
 use Rattle.field.specs.Refusal.{fault, none}
-use Rattle.poly.specs.declared.ImageRecord.{ImageRecord}
-use Rattle.poly.specs.declared.QuotientRecord.{QuotientRecord}
+use Rattle.poly.specs.ImageCall.{ImageRecord}
+use Rattle.poly.specs.QuotientCall.{QuotientRecord}
 use Rattle.poly.specs.ImageCall.{refused_image}
 use Rattle.case_file.specs.declared.Contents.{Contents}
 use Rattle.case_file.specs.Handed.{padded}

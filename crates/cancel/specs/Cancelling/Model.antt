@@ -1,6 +1,6 @@
 -- What the parts of the key ask for and promise.
 use Rattle.std.specs.Prelude.{◌≡◌, ◌⊎◌, List, length, get_or, ℕ, ◌≤◌, ◌<◌}
-use Rattle.poly.specs.declared.QuotientRecord.{QuotientRecord}
+use Rattle.poly.specs.QuotientCall.{QuotientRecord}
 use Rattle.poly.specs.Keys.{keys}
 use Rattle.poly.specs.Terms.{coefficient_of}
 use Rattle.poly.specs.QuotientCall.{quotient_call, quotient_result, Quotient}

@@ -18,7 +18,7 @@ use Rattle.field.specs.Modulus.Laws.{listed_prime, listed_below}
 use Rattle.field.specs.Modulo.{Modulo}
 use Rattle.field.specs.Refusal.{Passes}
 use Rattle.field.specs.Faults.Laws.{placed_never, passes_append}
-use Rattle.poly.specs.declared.QuotientRecord.{QuotientRecord}
+use Rattle.poly.specs.QuotientCall.{QuotientRecord}
 use Rattle.poly.specs.Keys.{exponents, keys}
 use Rattle.poly.specs.Terms.{Polynomial, coefficient_limit, key_of, terms_of, numbers_of, poly}
 use Rattle.poly.specs.Divides.{Divides}

@@ -9,7 +9,7 @@ use Rattle.field.specs.Modulo.{Modulo}
 use Rattle.field.specs.Numbers.{CEILING_REACHED}
 use Rattle.field.specs.Lent.{written}
 use Rattle.poly.specs.Room.{work_room, cleared}
-use Rattle.poly.specs.declared.Trial.{Trial}
+use Rattle.poly.specs.TrialDivision.{Trial}
 use Rattle.poly.specs.Terms.{term_of, terms_of, poly}
 use Rattle.poly.specs.TrialDivision.{CanDivide, says, Told, ended, cut_off, TrialDivision}
 use Rattle.poly.specs.Division.Ends.{dividing, division_ends}

@@ -7,7 +7,7 @@ use Rattle.poly.specs.Keys.{keys}
 use Rattle.poly.specs.Terms.{terms_of}
 use Rattle.field.specs.Lent.{written}
 use Rattle.poly.specs.Room.{work_room, cleared}
-use Rattle.poly.specs.declared.Trial.{Trial}
+use Rattle.poly.specs.TrialDivision.{Trial}
 use Rattle.poly.specs.TrialDivision.{CanDivide, Told}
 use Rattle.poly.specs.Lists.{Falling}
 use Rattle.poly.specs.List.Right.{RightLists}

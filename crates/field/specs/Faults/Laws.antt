@@ -9,7 +9,7 @@ use Rattle.std.proofs.Math.Facts.{and_yes}
 use Rattle.field.specs.declared.faults.Fault.{Fault}
 use Rattle.field.specs.Numbers.{list_at_fault}
 use Rattle.field.specs.Refusal.{Line, placed, whole, first, fault, none, after_fault, fault_in, Refuses, Passes, Tested, refused, passed}
-use Rattle.field.specs.Refusal.{RefutesAnotherList, Checked, Told}
+use Rattle.field.specs.Refusal.{RefutesAnotherList, Checked, StandsFor}
 
 -- a fault, and what stands behind it, are known by their numbers
 pub after_fault_known : (X : Fault → List ℕ → Type 0) (f g : Fault) (rest more : List ℕ) → after_fault f rest ≡ after_fault g more → X f rest → X g more
@@ -181,20 +181,20 @@ checked_goes_on front back (Ok _) h k = passes_append front back h k
 checked_goes_on front back (Err f) h k = refuses_back front back f h k
 
 -- what is told of an error
-pub told_err : {A B : Type 0} (of_fault : Fault → B) (of_value : A → B) (Promise : B → Type 0) {r : Result A Fault} {f : Fault}
-    → r ≡ Err f → 0 < f.number → Promise (of_fault f) → Told of_fault of_value Promise r
-told_err of_fault of_value Promise e l h = rw e (l, h)
+pub stands_err : {A B : Type 0} (of_fault : Fault → B) (of_value : A → B) (Promise : B → Type 0) {r : Result A Fault} {f : Fault}
+    → r ≡ Err f → 0 < f.number → Promise (of_fault f) → StandsFor of_fault of_value Promise r
+stands_err of_fault of_value Promise e l h = rw e (l, h)
 
 -- where no fault with a number is told like a value, and a fault and a value are known by what is told of them, a promise that settles what is told settles the `Result`
-pub told_determined : {A B : Type 0} (of_fault : Fault → B) (of_value : A → B) (Promise : B → Type 0)
+pub stands_determined : {A B : Type 0} (of_fault : Fault → B) (of_value : A → B) (Promise : B → Type 0)
     → ((f g : Fault) → of_fault f ≡ of_fault g → f ≡ g) → ((x y : A) → of_value x ≡ of_value y → x ≡ y)
     → ((f : Fault) (x : A) → 0 < f.number → ¬ (of_fault f ≡ of_value x))
     → ((b c : B) → Promise b → Promise c → b ≡ c)
-    → (r q : Result A Fault) → Told of_fault of_value Promise r → Told of_fault of_value Promise q → r ≡ q
-told_determined of_fault of_value Promise faults values apart same (Ok x) (Ok y) h k = ap Ok (values x y (same _ _ h k))
-told_determined of_fault of_value Promise faults values apart same (Ok x) (Err g) h k = absurd (apart g x k.0 (same _ _ k.1 h))
-told_determined of_fault of_value Promise faults values apart same (Err f) (Ok y) h k = absurd (apart f y h.0 (same _ _ h.1 k))
-told_determined of_fault of_value Promise faults values apart same (Err f) (Err g) h k = ap Err (faults f g (same _ _ h.1 k.1))
+    → (r q : Result A Fault) → StandsFor of_fault of_value Promise r → StandsFor of_fault of_value Promise q → r ≡ q
+stands_determined of_fault of_value Promise faults values apart same (Ok x) (Ok y) h k = ap Ok (values x y (same _ _ h k))
+stands_determined of_fault of_value Promise faults values apart same (Ok x) (Err g) h k = absurd (apart g x k.0 (same _ _ k.1 h))
+stands_determined of_fault of_value Promise faults values apart same (Err f) (Ok y) h k = absurd (apart f y h.0 (same _ _ h.1 k))
+stands_determined of_fault of_value Promise faults values apart same (Err f) (Err g) h k = ap Err (faults f g (same _ _ h.1 k.1))
 
 -- a check gives one `Result`
 pub checked_determined : (lines : List Line) → OnePlaceEach lines → (r q : Result Unit Fault) → Checked lines r → Checked lines q → r ≡ q

@@ -6,9 +6,9 @@ use Rattle.field.specs.Fp.{el}
 use Rattle.field.specs.Elements.Fp.{el_below_inj}
 use Rattle.field.specs.Elements.Inverse.{inverse_unique}
 use Rattle.field.specs.Elements.Link.{inverse_mul}
-use Rattle.field.specs.Refusal.{Line, none, Passes, Refuses, Told, RefutesAnotherList}
+use Rattle.field.specs.Refusal.{Line, none, Passes, Refuses, StandsFor, RefutesAnotherList}
 use Rattle.field.specs.Faults.Laws.{OnePlaceEach, placed_one_place, whole_one_place, never_placed}
-use Rattle.field.specs.Faults.Laws.{refuses_determined, refuses_names, not_passes_and_refuses, numbered, refuses_positive, told_err}
+use Rattle.field.specs.Faults.Laws.{refuses_determined, refuses_names, not_passes_and_refuses, numbered, refuses_positive, stands_err}
 use Rattle.field.specs.Contract.{element, Fit, Invertible, sum_of, difference_of, product_of, Inverse}
 use Rattle.field.specs.Arithmetic.{two_operands, inverse_operand, Arithmetic, refused, answered, AskSum, AskDifference, AskProduct, AskInverse, Answer, refused_answer, given_answer}
 use Rattle.field.specs.declared.faults.Fault.{Fault}
@@ -81,5 +81,5 @@ operand_invertible a passed =
 
 -- a service that refuses as its check does
 pub ask_refused : (lines : List Line) (Outcome : Element → Type 0) (a : Element) (f : Fault) (r : Result Element Fault)
-    → T (numbered lines) → Refuses lines f → r ≡ Err f → Told (refused_answer a) given_answer (Arithmetic lines Outcome a) r
-ask_refused lines Outcome a f r some h e = told_err (refused_answer a) given_answer (Arithmetic lines Outcome a) e (refuses_positive lines some f h) (refused f h)
+    → T (numbered lines) → Refuses lines f → r ≡ Err f → StandsFor (refused_answer a) given_answer (Arithmetic lines Outcome a) r
+ask_refused lines Outcome a f r some h e = stands_err (refused_answer a) given_answer (Arithmetic lines Outcome a) e (refuses_positive lines some f h) (refused f h)

@@ -13,7 +13,7 @@ use Rattle.field.specs.declared.elements.Element.{Element}
 use Rattle.poly.specs.Keys.{keys}
 use Rattle.poly.specs.Terms.{key_of, coefficient_of, terms_of, poly}
 use Rattle.poly.specs.Room.{work_room, zeroed, cleared}
-use Rattle.poly.specs.declared.Trial.{Trial}
+use Rattle.poly.specs.TrialDivision.{Trial}
 use Rattle.poly.specs.TrialDivision.{CanDivide, Told, ended, TrialDivision}
 use Rattle.poly.specs.List.Falling.{falling_coefficient, falling_keys, falling_first, falling_positive}
 use Rattle.poly.specs.Rooms.Laws.{zeroed_length, zeroed_at, zeroed_beyond, zeroed_same}

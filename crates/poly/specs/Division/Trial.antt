@@ -1,5 +1,6 @@
 -- Trial division says yes exactly if the divisor divides; what is told of a division under a ceiling; its promise settles its answer and the work room.
-use Rattle.std.specs.Prelude.{◌≡◌, refl, ◌↔◌, Bool, true, false, List, ℕ, ◌≤◌, ◌<◌, length}
+use Rattle.std.specs.Prelude.{◌≡◌, refl, ◌↔◌, Bool, true, false, List, ℕ, ◌≤◌, ◌<◌, length, Result, Ok, Err, IfErr}
+use Rattle.std.proofs.lemmas.Result.{IfErr-at_err}
 use Rattle.std.proofs.Common.{sym, ◌∙◌, ap, subst, arith}
 use Rattle.std.proofs.lemmas.List.{length-map}
 use Rattle.algebra.specs.Polynomials.{domain}
@@ -11,10 +12,10 @@ use Rattle.field.specs.Moduli.{Listed}
 use Rattle.field.specs.Modulus.Laws.{listed_prime}
 use Rattle.field.specs.Modulo.{Modulo}
 use Rattle.field.specs.Numbers.{CEILING_REACHED}
-use Rattle.poly.specs.declared.Trial.{Trial}
+use Rattle.poly.specs.declared.Stopped.{Stopped}
 use Rattle.poly.specs.Terms.{term_of, terms_of, poly}
 use Rattle.poly.specs.Divides.{Divides}
-use Rattle.poly.specs.TrialDivision.{says, Told, ended, cut_off, TrialDivision}
+use Rattle.poly.specs.TrialDivision.{Trial, trial, says, Told, ended, cut_off, TrialDivision}
 use Rattle.poly.specs.Key.Terms.{poly_finite}
 
 module _ {p : ℕ} (P : Prime p) where
@@ -76,3 +77,19 @@ trial_determined p listed f g ceiling work a b r s x y =
           (subst (λ (w : Bool). Told ceiling (length y.quotient) w r) same.1
           (subst (λ (n : ℕ). Told ceiling n x.whole r) count x.told)) y.told,
     )
+
+-- what is told of a trial that stopped, and of one that did not
+pub stopped_number : {r : Result ℕ Stopped} {s : Stopped} → r ≡ Err s → IfErr r (λ t. 0 < t.number) → ¬ ((trial r).number ≡ 0)
+stopped_number {r} {s} e h z =
+    let k : 0 < s.number = IfErr-at_err (λ (t : Stopped). 0 < t.number) e h in
+    omega (arith, k, ap (λ (r : Result ℕ Stopped). (trial r).number) e)
+
+pub ended_number : {r : Result ℕ Stopped} {n : ℕ} → r ≡ Ok n → (trial r).number ≡ 0
+ended_number e = ap (λ (r : Result ℕ Stopped). (trial r).number) e
+
+-- what is told settles the `Result`
+pub told_settles : (r q : Result ℕ Stopped) → IfErr r (λ t. 0 < t.number) → IfErr q (λ t. 0 < t.number) → trial r ≡ trial q → r ≡ q
+told_settles (Ok n) (Ok m) h k e = ap (λ (t : Trial). Ok t.steps) e
+told_settles (Ok n) (Err s) h k e = absurd (omega (arith, k, ap (λ (t : Trial). t.number) e))
+told_settles (Err s) (Ok n) h k e = absurd (omega (arith, h, ap (λ (t : Trial). t.number) e))
+told_settles (Err s) (Err t) h k e = ap (λ (u : Trial). Err (record { number = u.number; steps = u.steps })) e

@@ -5,7 +5,7 @@ use Rattle.poly.specs.Keys.{keys}
 use Rattle.poly.specs.Terms.{key_of}
 use Rattle.field.specs.Lent.{written}
 use Rattle.poly.specs.Room.{work_room}
-use Rattle.poly.specs.declared.Trial.{Trial}
+use Rattle.poly.specs.TrialDivision.{Trial}
 use Rattle.poly.specs.TrialDivision.{CanDivide, Told}
 use Rattle.poly.specs.Division.SpreadModel.{gathered}
 use Rattle.poly.specs.Division.Model.{KeysBelow, Setting, Outcome, divide_from, found_from, divided, found}

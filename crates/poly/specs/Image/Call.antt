@@ -1,21 +1,22 @@
 -- The image service: what its inputs are where no line applies, its answers by the model, and that its promise settles the record.
-use Rattle.std.specs.Prelude.{◌≡◌, refl, List, ℕ, zero, suc, ◌-◌}
+use Rattle.std.specs.Prelude.{◌≡◌, refl, List, ℕ, zero, suc, ◌-◌, Result, Err}
 use Rattle.std.proofs.Common.{sym, ap, ◌∙◌, subst, arith, ext_get_or}
 use Rattle.field.specs.Prime.{Prime}
 use Rattle.field.specs.Modulo.{Modulo}
 use Rattle.field.specs.Moduli.{Listed}
 use Rattle.field.specs.Modulus.Laws.{listed_prime, listed_unique}
 use Rattle.field.specs.Numbers.{NO_GOOD_POINT, list_at_fault}
-use Rattle.field.specs.Refusal.{fault, none, Passes, Tested, RefutesAnotherList}
+use Rattle.field.specs.Refusal.{fault, none, Passes, Refuses, StandsFor, RefutesAnotherList}
 use Rattle.field.specs.Faults.Laws.{OnePlaceEach, whole_one_place, first_one_place, one_place_append, refuses_determined, not_passes_and_refuses}
-use Rattle.field.specs.Faults.Laws.{refuses_names, passes_front, passes_back, tested_passes, tested_refuses}
+use Rattle.field.specs.Faults.Laws.{refuses_names, passes_front, passes_back, refuses_positive, stands_err}
 use Rattle.field.specs.declared.faults.Fault.{Fault}
-use Rattle.poly.specs.declared.ImageRecord.{ImageRecord}
+use Rattle.poly.specs.ImageCall.{ImageRecord}
 use Rattle.poly.specs.declared.PointImage.{PointImage}
+use Rattle.poly.specs.declared.MonicImage.{MonicImage}
 use Rattle.poly.specs.Terms.{Polynomial, terms_of}
 use Rattle.poly.specs.PointValue.{Point}
 use Rattle.poly.specs.Lists.{of_lists}
-use Rattle.poly.specs.ImageCall.{ImageCall, image_call, of_point, image_table, Fine, point_of, refused_image, image_record}
+use Rattle.poly.specs.ImageCall.{ImageCall, image_call, of_point, image_table, Fine, point_of, refused_image, found_image, image_record}
 use Rattle.poly.specs.ImageCall.{PointAnswer, bad, good, AnswersPoint, ImageAnswer, refused, answered}
 use Rattle.poly.specs.Image.Model.{image_of}
 use Rattle.poly.specs.Euclid.Meaning.{series_injective}
@@ -31,20 +32,18 @@ module _ (p : ℕ) (A B point : List ℕ) where
       let back = passes_back (of_lists p A B) (of_point p point) h in
       record { lists = passes_front (of_lists p A B) (of_point p point) h; three = point_three p point back; below = point_below p point back }
 
-  -- a service that tested its lines and answers by the fault's number
-  module _ (f : Fault) (t : Tested (image_table (image_call p A B point)) f) where
-    pub image_refused : ¬ (f.number ≡ 0) → {r : ImageRecord} → r ≡ refused_image f → ImageAnswer (image_call p A B point) r
-    image_refused n e = rw e (refused f (tested_refuses (image_table (image_call p A B point)) f t n))
+  -- what the service answers, where the inputs pass
+  pub image_answered : Passes (image_table (image_call p A B point)) → (found : PointImage) → AnswersPoint p A B point found
+      → {r : ImageRecord} → r ≡ image_record found.size found.coefficients → ImageAnswer (image_call p A B point) r
+  image_answered pass found h e =
+      let listed = (lists_are_right p A B (image_fine pass).lists).is_listed in
+      rw e (answered pass listed found (h (listed_prime listed)))
 
-    pub image_passes : f.number ≡ 0 → Passes (image_table (image_call p A B point))
-    image_passes z = (tested_passes (image_table (image_call p A B point)) tt f t z).0
-
-    pub image_answered : f.number ≡ 0 → (found : PointImage) → AnswersPoint p A B point found
-        → {r : ImageRecord} → r ≡ image_record found.size found.coefficients → ImageAnswer (image_call p A B point) r
-    image_answered z found h e =
-        let pass = image_passes z in
-        let listed = (lists_are_right p A B (image_fine pass).lists).is_listed in
-        rw e (answered pass listed found (h (listed_prime listed)))
+  -- its error is the table's
+  pub image_refused : (f : Fault) → Refuses (image_table (image_call p A B point)) f → {r : Result MonicImage Fault} → r ≡ Err f
+      → StandsFor refused_image found_image (ImageAnswer (image_call p A B point)) r
+  image_refused f h e = stands_err refused_image found_image (ImageAnswer (image_call p A B point)) e
+      (refuses_positive (image_table (image_call p A B point)) tt f h) (refused f h)
 
 -- the record by a size that the code has tested
 pub record_bad : (size : ℕ) (u : List ℕ) → size ≡ 0 → image_record size u ≡ refused_image (fault NO_GOOD_POINT 0)

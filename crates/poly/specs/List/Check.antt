@@ -1,12 +1,12 @@
 -- The check of one list: what a term's test says; without a modulus the bound is one that no coefficient reaches.
-use Rattle.std.specs.Prelude.{◌≡◌, List, map, get_or}
+use Rattle.std.specs.Prelude.{◌≡◌, List, map, get_or, Result, Ok, Err}
 use Rattle.std.proofs.Math.Path.{refl, ap}
 use Rattle.std.proofs.Common.{inl, inr}
 use Prim.Native.Nat.{ℕ, zero, suc, ◌≤◌, ◌<◌}
 use native.Mathlib.Omega.{arith}
 use Rattle.std.proofs.Math.ListN.{length, length-map, get_or-map}
-use Rattle.field.specs.Refusal.{Passes, Tested, refused, passed}
-use Rattle.field.specs.Faults.Laws.{OnePlaceEach, whole_one_place, first_one_place, tested_determined}
+use Rattle.field.specs.Refusal.{Passes, Tested, Checked}
+use Rattle.field.specs.Faults.Laws.{OnePlaceEach, whole_one_place, first_one_place, tested_determined, checked_determined}
 use Rattle.field.specs.declared.faults.Fault.{Fault}
 use Rattle.poly.specs.Keys.{keys}
 use Rattle.poly.specs.Terms.{key_of, coefficient_of, coefficient_limit}
@@ -55,14 +55,13 @@ module _ (ts : List ℕ) where
   small_coefficient i (wrong_term w) = w
   small_coefficient i (coefficient_large l m) = absurd (omega arith)
 
-  pub tested_without_modulus : {count term : ℕ} {f : Fault} → Tested (of_terms count term (WrongModulo coefficient_limit ts) ts) f
-      → Tested (of_terms count term (WrongTerm ts) ts) f
-  tested_without_modulus (refused (inl h)) = refused (inl h)
-  tested_without_modulus (refused (inr (n, inl h))) =
-      refused (inr (n, inl (h.0, h.1, (small_coefficient h.0 h.2.0, λ j l v. h.2.1 j l (wrong_term v)))))
-  tested_without_modulus (refused (inr (n, inr h))) = absurd h.1
-  tested_without_modulus (passed h e) =
-      passed (h.0, ((λ i w. h.1.0 i (wrong_term w.0, λ j l v. w.1 j l (small_coefficient j v))), tt)) e
+  pub checked_without_modulus : (count term : ℕ) (r : Result Unit Fault) → Checked (of_terms count term (WrongModulo coefficient_limit ts) ts) r
+      → Checked (of_terms count term (WrongTerm ts) ts) r
+  checked_without_modulus count term (Ok _) h = (h.0, ((λ i w. h.1.0 i (wrong_term w.0, λ j l v. w.1 j l (small_coefficient j v))), tt))
+  checked_without_modulus count term (Err f) (inl h) = inl h
+  checked_without_modulus count term (Err f) (inr (n, inl h)) =
+      inr (n, inl (h.0, h.1, (small_coefficient h.0 h.2.0, λ j l v. h.2.1 j l (wrong_term v))))
+  checked_without_modulus count term (Err f) (inr (n, inr h)) = absurd h.1
 
 -- two lists that pass do so in either order
 pub lists_swap : (p : ℕ) (A B : List ℕ) → Passes (of_lists p A B) → Passes (of_lists p B A)
@@ -83,3 +82,14 @@ list_check_determined ts = tested_determined (of_list ts) (whole_one_place _, (f
 pub two_lists_check_determined : (A B : List ℕ) (f g : Fault) → Tested (of_two_lists A B) f → Tested (of_two_lists A B) g → f ≡ g
 two_lists_check_determined A B =
     tested_determined (of_two_lists A B) (whole_one_place _, (first_one_place _, (whole_one_place _, (first_one_place _, tt))))
+
+-- and their results
+pub lists_checked_determined : (p : ℕ) (A B : List ℕ) (r q : Result Unit Fault) → Checked (of_lists p A B) r → Checked (of_lists p A B) q → r ≡ q
+lists_checked_determined p A B = checked_determined (of_lists p A B) (lists_one_place p A B)
+
+pub list_checked_determined : (ts : List ℕ) (r q : Result Unit Fault) → Checked (of_list ts) r → Checked (of_list ts) q → r ≡ q
+list_checked_determined ts = checked_determined (of_list ts) (whole_one_place _, (first_one_place _, tt))
+
+pub two_lists_checked_determined : (A B : List ℕ) (r q : Result Unit Fault) → Checked (of_two_lists A B) r → Checked (of_two_lists A B) q → r ≡ q
+two_lists_checked_determined A B =
+    checked_determined (of_two_lists A B) (whole_one_place _, (first_one_place _, (whole_one_place _, (first_one_place _, tt))))

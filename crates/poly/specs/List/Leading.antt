@@ -6,8 +6,8 @@ use Rattle.std.proofs.lemmas.List.{length-map}
 use Rattle.std.proofs.Math.ListN.{get_or-append, get_or-map}
 use Rattle.std.proofs.Math.Seq.{take-append_seam}
 use Rattle.std.specs.Borrow.{Bor}
-use Rattle.field.specs.Refusal.{Passes, Tested}
-use Rattle.field.specs.Faults.Laws.{never_placed, not_passes_and_refuses, tested_passes, tested_refuses}
+use Rattle.field.specs.Refusal.{Passes}
+use Rattle.field.specs.Faults.Laws.{never_placed, not_passes_and_refuses}
 use Rattle.field.specs.declared.faults.Fault.{Fault}
 use Rattle.poly.specs.Keys.{keys}
 use Rattle.poly.specs.Terms.{key_of}
@@ -62,19 +62,9 @@ module _ (ts : List ℕ) (pass : Passes (of_list ts)) where
             subst (λ (t : ℕ). x_of t < x_of (get_or ts 0 0)) (sym (get_or-drop n ts i 0)) (omega arith);
       }
 
--- the service: refused, the empty head; else the leading part
-module _ (ts : List ℕ) (f : Fault) (t : Tested (of_list ts) f) where
-  pub leading_refused : ¬ (f.number ≡ 0) → LeadingTerms ts []
-  leading_refused n = refused f (tested_refuses (of_list ts) f t n)
-
-  leading_passes : f.number ≡ 0 → Passes (of_list ts)
-  leading_passes z = (tested_passes (of_list ts) tt f t z).0
-
-  pub leading_some : f.number ≡ 0 → 0 < length ts
-  leading_some z = list_has_terms ts (leading_passes z)
-
-  pub leading_answered : f.number ≡ 0 → (n : ℕ) → Searched (Lower ts) (length ts) n → LeadingTerms ts (take n ts)
-  leading_answered z n s = answered (take n ts) (leading_passes z) (leading_found ts (leading_passes z) n s)
+-- the service, where the list passes: the leading part
+pub leading_answered : (ts : List ℕ) → Passes (of_list ts) → (n : ℕ) → Searched (Lower ts) (length ts) n → LeadingTerms ts (take n ts)
+leading_answered ts h n s = answered (take n ts) h (leading_found ts h n s)
 
 -- a head is as long as the other: where it ended before, the other's next term would be lower and not
 not_shorter : (ts head other : List ℕ) → IsLeading ts head → IsLeading ts other → length other ≤ length head

@@ -2,8 +2,8 @@
 use Rattle.std.specs.Prelude.{◌≡◌, refl, List, [], ℕ, ◌≤◌, ◌<◌, length, take}
 use Rattle.std.proofs.Common.{sym, ap, ap₂, ◌∙◌, subst, inl, inr, arith, length-take-le}
 use Rattle.std.specs.Borrow.{Bor}
-use Rattle.field.specs.Refusal.{Refuses, Passes, Tested}
-use Rattle.field.specs.Faults.Laws.{not_passes_and_refuses, tested_passes, tested_refuses}
+use Rattle.field.specs.Refusal.{Refuses, Passes}
+use Rattle.field.specs.Faults.Laws.{not_passes_and_refuses}
 use Rattle.field.specs.declared.faults.Fault.{Fault}
 use Rattle.poly.specs.declared.Picked.{Picked}
 use Rattle.poly.specs.LeadingPart.{of_list, IsLeading, LeadingTerms, LeadingPart}
@@ -30,39 +30,35 @@ module _ (A B : List ℕ) (h : Passes (of_two_lists A B)) where
   second_passes : Passes (of_list B)
   second_passes = h.1.1
 
--- the ways out of the choice, by the check of both lists and the two lengths
-module _ (A B : List ℕ) (f : Fault) (t : Tested (of_two_lists A B) f) where
-  pub shorter_refused : ¬ (f.number ≡ 0) → ShorterHead A B (pick 1 0)
-  shorter_refused n = picked 1 [] (refused f (tested_refuses (of_two_lists A B) f t n))
+-- the ways out of the choice: refused, or by the two lengths
+pub shorter_refused : (A B : List ℕ) (f : Fault) → Refuses (of_two_lists A B) f → ShorterHead A B (pick 1 0)
+shorter_refused A B f h = picked 1 [] (refused f h)
 
-  module _ (z : f.number ≡ 0) where
-    both_pass : Passes (of_two_lists A B)
-    both_pass = (tested_passes (of_two_lists A B) tt f t z).0
+module _ (A B : List ℕ) (pass : Passes (of_two_lists A B)) where
+  pub first_has_terms : 0 < length A
+  first_has_terms = list_has_terms A (first_passes A B pass)
 
-    pub first_has_terms : 0 < length A
-    first_has_terms = list_has_terms A (first_passes A B both_pass)
+  pub second_has_terms : 0 < length B
+  second_has_terms = list_has_terms B (second_passes A B pass)
 
-    pub second_has_terms : 0 < length B
-    second_has_terms = list_has_terms B (second_passes A B both_pass)
+  module _ (n m : ℕ) (s : Searched (Lower A) (length A) n) (u : Searched (Lower B) (length B) m) where
+    part_of_A : IsLeading A (take n A)
+    part_of_A = leading_found A (first_passes A B pass) n s
 
-    module _ (n m : ℕ) (s : Searched (Lower A) (length A) n) (u : Searched (Lower B) (length B) m) where
-      part_of_A : IsLeading A (take n A)
-      part_of_A = leading_found A (first_passes A B both_pass) n s
+    part_of_B : IsLeading B (take m B)
+    part_of_B = leading_found B (second_passes A B pass) m u
 
-      part_of_B : IsLeading B (take m B)
-      part_of_B = leading_found B (second_passes A B both_pass) m u
+    pub shorter_of_second : m < n → ShorterHead A B (pick 2 m)
+    shorter_of_second l =
+        let a = length-take-le n A s.within in
+        let b = length-take-le m B u.within in
+        picked_length (take m B) m b (of_second (take m B) (take n A) pass part_of_B part_of_A (omega arith))
 
-      pub shorter_of_second : m < n → ShorterHead A B (pick 2 m)
-      shorter_of_second l =
-          let a = length-take-le n A s.within in
-          let b = length-take-le m B u.within in
-          picked_length (take m B) m b (of_second (take m B) (take n A) both_pass part_of_B part_of_A (omega arith))
-
-      pub shorter_of_first : n ≤ m → ShorterHead A B (pick 1 n)
-      shorter_of_first l =
-          let a = length-take-le n A s.within in
-          let b = length-take-le m B u.within in
-          picked_length (take n A) n a (of_first (take n A) (take m B) both_pass part_of_A part_of_B (omega arith))
+    pub shorter_of_first : n ≤ m → ShorterHead A B (pick 1 n)
+    shorter_of_first l =
+        let a = length-take-le n A s.within in
+        let b = length-take-le m B u.within in
+        picked_length (take n A) n a (of_first (take n A) (take m B) pass part_of_A part_of_B (omega arith))
 
 -- the part of the list that is named, as a part of it
 pub picked_of_second : {A B : List ℕ} {r : Picked} → ShorterHead A B r → r.list ≡ 2 → (r.terms ≤ length B) × Shorter A B 2 (take r.terms B)

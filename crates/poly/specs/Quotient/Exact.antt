@@ -3,14 +3,13 @@ use Rattle.std.specs.Prelude.{◌≡◌, Bool, List, ℕ, ◌≤◌, length}
 use Rattle.std.proofs.Common.{sym, ◌∙◌, ap, ap₂, true≢false, arith}
 use Rattle.field.specs.Modulus.Laws.{listed_prime}
 use Rattle.field.specs.Numbers.{DOES_NOT_DIVIDE}
-use Rattle.field.specs.Refusal.{fault, none, Passes}
-use Rattle.field.specs.declared.faults.Fault.{Fault}
+use Rattle.field.specs.Refusal.{fault, Passes}
 use Rattle.poly.specs.Keys.{keys}
 use Rattle.poly.specs.Terms.{terms_of}
 use Rattle.field.specs.Lent.{written}
 use Rattle.poly.specs.Room.{work_room, zeroed, cleared}
-use Rattle.poly.specs.QuotientCall.{QuotientCall, quotient_table, Quotient, no_quotient, quotient}
-use Rattle.poly.specs.declared.Trial.{Trial}
+use Rattle.poly.specs.QuotientCall.{QuotientCall, quotient_table, quotient_result, refused_quotient, found_quotient, Quotient, no_quotient, quotient}
+use Rattle.poly.specs.TrialDivision.{Trial}
 use Rattle.poly.specs.TrialDivision.{CanDivide, says}
 use Rattle.poly.specs.Rooms.Laws.{zeroed_at}
 use Rattle.poly.specs.Division.WorkRoom.{quotient_empty}
@@ -55,10 +54,9 @@ module _ (c : QuotientCall) (h : Passes (quotient_table c)) where
     number_is = ap (λ (t : Trial). t.number) (told_ended keys _ whole r ran.told few)
 
     -- no quotient: nothing is written
-    pub exact_none : ¬ (r.number ≡ 0) → {f : Fault} → f ≡ fault DOES_NOT_DIVIDE 0
-        → Quotient c (record { found = record { fault = f; terms = 0 }; output = c.output; work = end })
-    exact_none n {f = told} e =
-        rw (room, e)
+    pub exact_none : ¬ (r.number ≡ 0) → Quotient c (quotient_result (refused_quotient (fault DOES_NOT_DIVIDE 0)) c.output end)
+    exact_none n =
+        rw room
         (no_quotient h can.is_listed
         (λ d.
         true≢false
@@ -84,11 +82,10 @@ module _ (c : QuotientCall) (h : Passes (quotient_table c)) where
 
     -- the quotient, written first in the output
     pub exact_found : r.number ≡ 0 → length (quotient_cells after) ≡ keys → (out : List ℕ) (n : ℕ) → Gathered (quotient_cells after) c.output out n
-        → {f : Fault} → f ≡ none
-        → Quotient c (record { found = record { fault = f; terms = n }; output = out; work = end })
-    exact_found z long out n gathers e =
+        → Quotient c (quotient_result (found_quotient n) out end)
+    exact_found z long out n gathers =
         let same = gathered_terms long in
-        rw (gathers.count ∙ ap length same, gathers.output ∙ ap (λ (qs : List ℕ). written qs c.output) same, room, e)
+        rw (gathers.count ∙ ap length same, gathers.output ∙ ap (λ (qs : List ℕ). written qs c.output) same, room)
         (quotient h can.is_listed terms
         (quotient_found p (listed_prime can.is_listed) f g (dividing can) (remainder_cells begun) (quotient_cells begun) begun_remainder begun_quotient
         (says_yes whole (sym number_is ∙ z))))

@@ -1,5 +1,5 @@
 -- A list over another has one quotient at most, so the promise of the quotient service settles record, output and work room.
-use Rattle.std.specs.Prelude.{◌≡◌, refl, List, [], ◌∷◌, ℕ, ◌≤◌, ◌<◌, length}
+use Rattle.std.specs.Prelude.{◌≡◌, refl, List, [], ◌∷◌, ℕ, ◌≤◌, ◌<◌, length, Result, Err}
 use Rattle.std.proofs.Common.{sym, ◌∙◌, ap, subst, arith}
 use Rattle.algebra.specs.SeriesRing.{S4}
 use Rattle.algebra.specs.Polynomials.{D4, domain}
@@ -9,16 +9,17 @@ use Rattle.field.specs.Prime.{Prime}
 use Rattle.field.specs.Moduli.{Listed}
 use Rattle.field.specs.Modulus.Laws.{listed_prime, listed_unique}
 use Rattle.field.specs.Modulo.{Modulo}
-use Rattle.field.specs.Refusal.{Line, none, Passes, RefutesAnotherList}
+use Rattle.field.specs.Refusal.{Line, none, Passes, Refuses, StandsFor, RefutesAnotherList}
 use Rattle.field.specs.Faults.Laws.{OnePlaceEach, whole_one_place, one_place_append, never_placed, refuses_determined, not_passes_and_refuses}
-use Rattle.field.specs.Faults.Laws.{refuses_names, passes_front, passes_back}
+use Rattle.field.specs.Faults.Laws.{refuses_names, refuses_positive, stands_err, passes_front, passes_back}
+use Rattle.field.specs.declared.faults.Fault.{Fault}
 use Rattle.poly.specs.Keys.{exponents, keys}
 use Rattle.poly.specs.Terms.{key_of, poly}
 use Rattle.poly.specs.Divides.{Divides}
 use Rattle.poly.specs.Lists.{of_lists, Falling}
 use Rattle.field.specs.Lent.{written}
 use Rattle.poly.specs.Room.{of_rooms, cleared}
-use Rattle.poly.specs.QuotientCall.{QuotientCall, quotient_table, IsQuotient, QuotientResult, Quotient, refused, no_quotient, quotient}
+use Rattle.poly.specs.QuotientCall.{QuotientCall, quotient_table, IsQuotient, QuotientResult, quotient_result, refused_quotient, found_quotient, Quotient, refused, no_quotient, quotient}
 use Rattle.poly.specs.TrialDivision.{CanDivide}
 use Rattle.poly.specs.List.Check.{lists_one_place}
 use Rattle.poly.specs.List.Right.{lists_are_right}
@@ -94,6 +95,13 @@ module _ (c : QuotientCall) where
       ap handed
       (quotient_unique c.modulus (listed_prime listed) c.first_list c.second_list qs rs g.some_divisor g.divisor_falls q
       (exact_same listed' listed rs q'))
+
+  -- its error, where the inputs do not pass, is the table's
+  pub quotient_refused : (f : Fault) → Refuses (quotient_table c) f → {r : Result ℕ Fault} → r ≡ Err f
+      → StandsFor refused_quotient found_quotient (λ q. Quotient c (quotient_result q c.output c.work)) r
+  quotient_refused f h e =
+      stands_err refused_quotient found_quotient (λ q. Quotient c (quotient_result q c.output c.work)) e
+      (refuses_positive (quotient_table c) tt f h) (refused f h)
 
   pub quotient_another_list : RefutesAnotherList (λ r. r.found.fault) (Quotient c)
   quotient_another_list r other (refused f h) = other (refuses_names (quotient_table c) f h)

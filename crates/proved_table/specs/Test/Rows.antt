@@ -8,8 +8,8 @@ use Rattle.field.specs.Modulo.{Modulo}
 use Rattle.field.specs.Numbers.{DOES_NOT_DIVIDE}
 use Rattle.field.specs.Refusal.{Line, fault, none, after_fault}
 use Rattle.field.specs.Faults.Decision.{Checks, decided}
-use Rattle.poly.specs.declared.ImageRecord.{ImageRecord}
-use Rattle.poly.specs.declared.QuotientRecord.{QuotientRecord}
+use Rattle.poly.specs.ImageCall.{ImageRecord}
+use Rattle.poly.specs.QuotientCall.{QuotientRecord}
 use Rattle.poly.specs.Terms.{terms_of}
 use Rattle.poly.specs.Lists.{of_lists}
 use Rattle.poly.specs.ImageCall.{image_table, image_record}

@@ -14,8 +14,8 @@ use Rattle.field.specs.Refusal.{fault, none, Passes}
 use Rattle.field.specs.Faults.Laws.{after_fault_known, placed_never, passes_append}
 use Rattle.field.specs.declared.faults.Fault.{Fault}
 use Rattle.field.specs.Faults.Decision.{decided_tested, decided_passes}
-use Rattle.poly.specs.declared.ImageRecord.{ImageRecord}
-use Rattle.poly.specs.declared.QuotientRecord.{QuotientRecord}
+use Rattle.poly.specs.ImageCall.{ImageRecord}
+use Rattle.poly.specs.QuotientCall.{QuotientRecord}
 use Rattle.poly.specs.Keys.{keys}
 use Rattle.poly.specs.Terms.{Polynomial, terms_of, poly}
 use Rattle.poly.specs.Lists.{of_lists}

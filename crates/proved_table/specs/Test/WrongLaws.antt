@@ -6,7 +6,7 @@ use Rattle.std.proofs.lemmas.Bool.{false≢true, eqb-false}
 use Rattle.std.proofs.Math.Bool.{and-eq-true_iff}
 use Rattle.field.specs.Lent.{written}
 use Rattle.poly.specs.Room.{work_room, zeroed, cleared}
-use Rattle.poly.specs.declared.ImageRecord.{ImageRecord}
+use Rattle.poly.specs.ImageCall.{ImageRecord}
 use Rattle.poly.specs.QuotientCall.{QuotientResult}
 use Rattle.poly.specs.Quotient.Laws.{quotient_determined}
 use Rattle.poly.specs.Image.Call.{image_determined}

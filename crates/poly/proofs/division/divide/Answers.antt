@@ -22,8 +22,8 @@ most-above-requires c = falling_keys c.args.p keys c.args.dividend.now c.require
 pub most-below-requires : goal.most-below-requires
 most-below-requires c = falling_keys c.args.p keys c.args.divisor.now c.requires.lists.divisor_falls
 
-pub returns-then-not-at_most : goal.returns-then-not-at_most
-returns-then-not-at_most c =
+pub returns-then-not-at_most-clause-division : goal.returns-then-not-at_most-clause-division
+returns-then-not-at_most-clause-division c =
     let a = c.args in
     let wide : at_most (most_key a.divisor.now) (most_key a.dividend.now) ≡ false = cc in
     begun_wide a.p a.dividend.now a.divisor.now a.work.now c.requires.lists wide a.ceiling
@@ -55,8 +55,8 @@ steps-requires c =
     begun_can_step a.p a.dividend.now a.divisor.now a.work.now c.requires.lists d is _ c.spread.ensures c.requires.empty _
     (ap (λ (k : ℕ). k + 1) c.of-highest.ensures)
 
-pub returns : goal.returns
-returns c =
+pub returns-clause-division : goal.returns-clause-division
+returns-clause-division c =
     let a = c.args in
     let r = c.inverse-inverse.result in
     let d : Setting =
@@ -74,4 +74,4 @@ returns c =
     (ap (λ (v : Element). v.value) c.of-coefficient.ensures ∙ c.coefficient_of.ensures) r c.inverse-inverse.ensures)
     (ap₂ ◌-◌ c.most-above.ensures c.most-below.ensures) in
     let narrow : at_most (most_key a.divisor.now) (most_key a.dividend.now) ≡ true = cc in
-    begun_ends a.p a.dividend.now a.divisor.now a.work.now c.requires.lists d is _ c.spread.ensures narrow a.ceiling _ _ c.steps.ensures
+    begun_ends a.p a.dividend.now a.divisor.now a.work.now c.requires.lists d is _ c.spread.ensures narrow a.ceiling _ _ c.steps.ensures.steps

@@ -12,9 +12,9 @@ divide-trial-requires c =
     rw (zeroed_all keys a.work.now (omega arith) c.clear.ensures)
     (cleared_begins a.p a.dividend.now a.divisor.now a.work.now c.requires keys (omega arith) (omega arith))
 
-pub returns : goal.returns
-returns c =
+pub returns-clause-division : goal.returns-clause-division
+returns-clause-division c =
     let a = c.args in
     cleared_trial a.p a.dividend.now a.divisor.now a.work.now c.requires keys (omega arith) (omega arith) _ _ a.ceiling _
-    (zeroed_all keys a.work.now (omega arith) c.clear.ensures) c.divide-trial.ensures
+    (zeroed_all keys a.work.now (omega arith) c.clear.ensures) c.divide-trial.ensures.division
     (zeroed_all work_room _ (omega arith) c.clear-2.ensures)

@@ -12,7 +12,6 @@ pub steps-init : goal.steps-init
 steps-init c =
     let a = c.args in
     record {
-      answer = refl;
       within = omega arith;
       going = going_start (setting a.divisor.now a.lead a.inverse a.bound.bits) a.work.now a.top c.requires;
     }
@@ -24,7 +23,7 @@ loop-k-preserved c =
     let d = setting a.divisor.now a.lead a.inverse a.bound.bits in
     let going = going_on d c.steps.invariant.going l.invariant.within l.invariant.same in
     let passed = going_passed d c.steps.work l.k going.cells c.if-k-eq0.false c.if-work-k-ne0.false in
-    record { within = omega arith; same = l.invariant.same ∙ passed; answer = l.invariant.answer }
+    record { within = omega arith; same = l.invariant.same ∙ passed }
 
 pub overflow_sub-shift : goal.overflow_sub-shift
 overflow_sub-shift c =
@@ -64,23 +63,22 @@ steps-preserved c =
     let v = c.product-q.result.value in
     let s = l.k - 1 - a.lead in
     record {
-      answer = l.invariant.answer ∙ c.steps.invariant.answer;
       within = omega arith;
       going =
           going_taken d going c.if-k-eq0.false c.if-work-k-ne0.true c.requires fit v _ (ap (λ (x : Element). x.value) factor_is)
           (c.subtract.ensures ∙ ap (λ (x : Element). less_product x.modulus s v a.divisor.now (set c.steps.work (keys + s) v)) factor_is);
     }
 
-pub returns-then-k-eq0 : goal.returns-then-k-eq0
-returns-then-k-eq0 c =
+pub returns-clause-steps : goal.returns-clause-steps
+returns-clause-steps c =
     let a = c.args in
     let l = c.loop-k in
     let d = setting a.divisor.now a.lead a.inverse a.bound.bits in
     let going = going_on d c.steps.invariant.going l.invariant.within l.invariant.same in
-    rw (l.invariant.answer ∙ c.steps.invariant.answer) (going_done d going a.ceiling c.steps.invariant.within c.if-k-eq0.true)
+    going_done d going a.ceiling c.steps.invariant.within c.if-k-eq0.true
 
-pub returns-then-not-fits : goal.returns-then-not-fits
-returns-then-not-fits c =
+pub returns-then-not-fits-clause-steps : goal.returns-then-not-fits-clause-steps
+returns-then-not-fits-clause-steps c =
     let a = c.args in
     let l = c.loop-k in
     let d = setting a.divisor.now a.lead a.inverse a.bound.bits in
@@ -88,8 +86,8 @@ returns-then-not-fits c =
     let fit : fits d (l.k - 1) ≡ false = cc in
     going_stopped d going c.if-k-eq0.false c.if-work-k-ne0.true a.ceiling c.steps.invariant.within fit
 
-pub returns-then-taken-ceiling : goal.returns-then-taken-ceiling
-returns-then-taken-ceiling c =
+pub returns-then-taken-ceiling-clause-steps : goal.returns-then-taken-ceiling-clause-steps
+returns-then-taken-ceiling-clause-steps c =
     let a = c.args in
     let l = c.loop-k in
     let d = setting a.divisor.now a.lead a.inverse a.bound.bits in

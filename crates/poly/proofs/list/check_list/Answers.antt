@@ -1,6 +1,7 @@
 -- `poly::list::check_list` meets its contract: no coefficient reaches the bound that it gives.
-use Rattle.poly.specs.List.Check.{tested_without_modulus}
+use Rattle.field.specs.Numbers.{FIRST_COUNT, FIRST_TERM}
+use Rattle.poly.specs.List.Check.{checked_without_modulus}
 use Rattle.poly.proofs.list.check_list.Goals as goal
 
 pub returns : goal.returns
-returns c = tested_without_modulus c.args.terms.now c.list_fault.ensures
+returns c = checked_without_modulus c.args.terms.now FIRST_COUNT FIRST_TERM _ c.check_terms.ensures
