@@ -16,9 +16,7 @@ fn first_wrong(bound: u32, terms: &[Term]) -> usize
     ensures { Searched (WrongModulo bound terms.now) (length terms.now) result }
 {
     let mut before = Key::LIMIT;
-    let mut i: usize = 0;
-    while i < terms.len() {
-        let t = terms[i];
+    for (i, &t) in terms.iter().enumerate() {
         let key = Key::of(t).bits;
         let coefficient = crate::key::coefficient_of(t) as u32;
         let right = (key < before) & ((0 < coefficient) & (coefficient < bound));
@@ -26,9 +24,8 @@ fn first_wrong(bound: u32, terms: &[Term]) -> usize
             return i;
         }
         before = key;
-        i += 1;
     }
-    i
+    terms.len()
 }
 
 // The check of one list, whose two refusal numbers are given.
@@ -80,14 +77,7 @@ fn leading_length(terms: &[Term]) -> usize
     ensures { Searched (Lower terms.now) (length terms.now) result }
 {
     let top = Key::of(terms[0]).x();
-    let mut i: usize = 0;
-    while i < terms.len() {
-        if Key::of(terms[i]).x() < top {
-            return i;
-        }
-        i += 1;
-    }
-    i
+    terms.iter().position(|&t| Key::of(t).x() < top).unwrap_or(terms.len())
 }
 
 // The leading part: all terms with the highest power of x, as a part of the caller's list; on refusal its empty head.

@@ -16,10 +16,8 @@ fn gather(cells: &[Residue], out: &mut [Term]) -> usize
     requires { CanGather cells.now out.old }
     ensures { Gathered cells.now out.old out.new result }
 {
-    let mut k = cells.len();
     let mut n: usize = 0;
-    while 0 < k {
-        k -= 1;
+    for k in (0..cells.len()).rev() {
         let c = cells[k];
         if c != 0 {
             out[n] = crate::key::term(k as KeyBits, c);

@@ -29,10 +29,6 @@ pub fn rooms_fault(output: usize, needed: usize, work: usize) -> Fault
 pub fn clear(n: usize, numbers: &mut [Residue])
     ensures { numbers.new ≡ zeroed (min n (length numbers.old)) numbers.old }
 {
-    let end = if n < numbers.len() { n } else { numbers.len() };
-    let mut i: usize = 0;
-    while i < end {
-        numbers[i] = 0;
-        i += 1;
-    }
+    let end = n.min(numbers.len());
+    numbers[..end].fill(0);
 }

@@ -1,11 +1,9 @@
--- The check of the rooms settles its fault; the first n numbers of a list set to 0, one after the other, and what stands where then.
+-- The check of the rooms settles its fault; the first n numbers of a list set to 0, and what stands where then.
 use Rattle.std.specs.Prelude.{◌≡◌, refl, List, ◌∷◌, ◌++◌, ℕ, zero, suc, ◌+◌, ◌-◌, ◌≤◌, ◌<◌, min, length, get_or, drop, replicate}
 use Rattle.std.proofs.Common.{sym, ◌∙◌, ap, arith, length-append, length-drop, drop_at, drop-drop}
 use Rattle.std.proofs.lemmas.List.{length-replicate, get_or-replicate}
 use Rattle.std.proofs.Math.ListN.{get_or-append}
 use Rattle.field.specs.Refusal.{Tested}
-use Rattle.field.specs.Loops.Filled.{cells, Filled}
-use Rattle.field.specs.Loops.Cells.{filled_first}
 use Rattle.field.specs.Faults.Laws.{whole_one_place, tested_determined}
 use Rattle.field.specs.declared.faults.Fault.{Fault}
 use Rattle.poly.specs.Room.{of_rooms, work_room, zeroed, cleared}
@@ -13,16 +11,6 @@ use Rattle.poly.specs.Room.{of_rooms, work_room, zeroed, cleared}
 pub rooms_check_determined : (output needed work : ℕ) (f g : Fault) → Tested (of_rooms output needed work) f → Tested (of_rooms output needed work) g → f ≡ g
 rooms_check_determined output needed work =
     tested_determined (of_rooms output needed work) (whole_one_place _, (whole_one_place _, tt))
-
-cells_zero : (n : ℕ) → cells (λ i. 0) n ≡ replicate n 0
-unfolding cells
-cells_zero zero = refl
-cells_zero (suc n) = ap (λ l. 0 ∷ l) (cells_zero n)
-
--- filled with 0 up to i
-pub filled_zeroed : {old l : List ℕ} {i : ℕ} → Filled (λ j. 0) (length old) old i l → l ≡ zeroed i old
-unfolding zeroed
-filled_zeroed {old} {l} {i} f = filled_first f refl ∙ ap (λ z. z ++ drop i old) (cells_zero i)
 
 -- where there are n numbers, all n are set
 pub zeroed_all : (n : ℕ) (l : List ℕ) {m : List ℕ} → n ≤ length l → m ≡ zeroed (min n (length l)) l → m ≡ zeroed n l
