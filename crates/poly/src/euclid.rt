@@ -11,7 +11,10 @@ use field::{Element, Residue};
 fn size(f: &Eight) -> Size
     ensures { result ≡ size_of f.now }
 {
-    f.iter().rposition(|&c| c != 0).map_or(0, |i| i as Size + 1)
+    match f.iter().rposition(|&c| c != 0) {
+        Some(i) => i as Size + 1,
+        None => 0,
+    }
 }
 
 // Each number times c.

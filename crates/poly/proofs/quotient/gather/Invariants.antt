@@ -10,4 +10,3 @@ pub record Gathering (cells before out : List ℕ) (k n : ℕ) : Type 0 where
 
 abbrev pub invariant-loop-k : goal.invariant-loop-k
 invariant-loop-k l = Gathering l.cells l.initial.out l.out l.k l.n
-
