@@ -3,7 +3,7 @@ ghost use Rattle.std.specs.Prelude.{◌<◌, length};
 ghost use Rattle.field.specs.Refusal.{Tested};
 ghost use Rattle.poly.specs.Lists.{WrongModulo, of_terms, of_lists};
 ghost use Rattle.poly.specs.LeadingPart.{of_list, LeadingPart};
-ghost use Rattle.poly.specs.ShorterPart.{of_two_lists, ShorterHead, ShorterPart};
+ghost use Rattle.poly.specs.ShorterPart.{of_two_lists, head_of, ShorterHead, ShorterPart};
 ghost use Rattle.poly.specs.Search.{Searched};
 ghost use Rattle.poly.specs.List.Model.{Lower};
 
@@ -109,27 +109,26 @@ pub fn check_lists(first: &[Term], second: &[Term]) -> Fault
 
 // Which of two lists has the shorter leading part, the first on a tie, and how many terms that has; on refusal the first, and none.
 pub fn shorter_head(first: &[Term], second: &[Term]) -> Picked
-    ensures { ShorterHead first.now second.now result }
+    ensures { ShorterHead first.now second.now (head_of result) }
 {
     let fault = check_lists(first, second);
     if fault.number != 0 {
-        return Picked { list: 1, terms: 0 };
+        return Picked::First(0);
     }
     let n = leading_length(first);
     let m = leading_length(second);
     if m < n {
-        return Picked { list: 2, terms: m };
+        return Picked::Second(m);
     }
-    Picked { list: 1, terms: n }
+    Picked::First(n)
 }
 
 // The shorter leading part of two lists, as a part of whichever of the two it belongs to: one lifetime for both.
 pub fn shorter_part<'a>(first: &'a [Term], second: &'a [Term]) -> &'a [Term]
     ensures { ShorterPart first.entry second.entry result }
 {
-    let picked = shorter_head(first, second);
-    if picked.list == 2 {
-        return &second[..picked.terms];
+    match shorter_head(first, second) {
+        Picked::First(n) => &first[..n],
+        Picked::Second(m) => &second[..m],
     }
-    &first[..picked.terms]
 }
