@@ -5,6 +5,7 @@ use Rattle.field.specs.Numbers.{SECOND_COUNT, SECOND_TERM}
 use Rattle.field.specs.Refusal.{Line, Refuses, Passes}
 use Rattle.field.specs.declared.faults.Fault.{Fault}
 use Rattle.poly.specs.declared.Picked.{Picked}
+use Rattle.poly.specs.declared.Picked.TheVariants.{First, Second}
 use Rattle.poly.specs.Lists.{WrongTerm, of_terms}
 use Rattle.poly.specs.LeadingPart.{of_list, IsLeading}
 
@@ -21,8 +22,17 @@ pub data Shorter (first second : List ℕ) : ℕ → List ℕ → Type 0 where
   of_second : (head other : List ℕ) → Passes (of_two_lists first second) → IsLeading second head → IsLeading first other
       → length head < length other → Shorter first second 2 head
 
--- the promise where the part is told by its list and its number of terms
-pub data ShorterHead (first second : List ℕ) : Picked → Type 0 where
+-- a part that is told by its list, 1 or 2, and its number of terms
+pub record Head : Type 0 where
+  pub list : ℕ
+  pub terms : ℕ
+
+abbrev pub head_of : Picked → Head
+head_of (First n) = record { list = 1; terms = n }
+head_of (Second n) = record { list = 2; terms = n }
+
+-- the promise where the part is told so
+pub data ShorterHead (first second : List ℕ) : Head → Type 0 where
   picked : (list : ℕ) (head : List ℕ) → Shorter first second list head → ShorterHead first second (record { list = list; terms = length head })
 
 -- the promise where the part itself is handed back: its terms, and that it is the head of the caller's own list, also on refusal

@@ -1,5 +1,5 @@
 // Division by leading terms in a lent work room: one number for each key holds the remainder, the next as many hold the quotient's coefficients.
-ghost use Rattle.std.specs.Prelude.{◌≡◌, ◌<◌, max, length, IfErr};
+ghost use Rattle.std.specs.Prelude.{◌≡◌, ◌<◌, length, IfErr};
 ghost use Rattle.poly.specs.Keys.{keys};
 ghost use Rattle.poly.specs.TrialDivision.{CanDivide, TrialDivision, trial};
 ghost use Rattle.poly.specs.Division.SpreadModel.{spread as spread_over};
@@ -7,15 +7,9 @@ ghost use Rattle.poly.specs.Division.Model.{KeysBelow, most_key, at_most, fits_i
 ghost use Rattle.poly.specs.Division.WorkRoomModel.{CanSubtract, CanStep, Stepped, CanBegin, Divided};
 
 use crate::Stopped;
-use crate::key::Key;
+use crate::key::{Key, coefficient_of};
 use crate::rooms::{CELLS, WORK_ROOM, clear};
-use field::{Element, Fault, KeyBits, RefusalNumber, Residue, Term};
-
-fn larger(a: KeyBits, b: KeyBits) -> KeyBits
-    ensures { result ≡ max a b }
-{
-    if a < b { b } else { a }
-}
+use field::{Element, Fault, KeyBits, Residue, Term};
 
 // The key of the greatest exponents of a list.
 fn most(terms: &[Term]) -> Key
@@ -26,14 +20,12 @@ fn most(terms: &[Term]) -> Key
     let mut y: KeyBits = 0;
     let mut z: KeyBits = 0;
     let mut w: KeyBits = 0;
-    let mut i: usize = 0;
-    while i < terms.len() {
-        let key = Key::of(terms[i]);
-        x = larger(x, key.x());
-        y = larger(y, key.y());
-        z = larger(z, key.z());
-        w = larger(w, key.w());
-        i += 1;
+    for &t in terms {
+        let key = Key::of(t);
+        x = x.max(key.x());
+        y = y.max(key.y());
+        z = z.max(key.z());
+        w = w.max(key.w());
     }
     Key::pack(x, y, z, w)
 }
@@ -60,13 +52,9 @@ fn spread(terms: &[Term], cells: &mut [Residue])
     requires { KeysBelow 0 (length cells.old) terms.now }
     ensures { cells.new ≡ spread_over terms.now cells.old }
 {
-    let mut i: usize = 0;
-    while i < terms.len() {
-        let t = terms[i];
-        let key = Key::of(t);
-        let at = key.bits as usize;
-        cells[at] = crate::key::coefficient_of(t);
-        i += 1;
+    for &t in terms {
+        let at = Key::of(t).bits as usize;
+        cells[at] = coefficient_of(t);
     }
 }
 
@@ -75,14 +63,10 @@ fn subtract(q: Element, shift: usize, divisor: &[Term], cells: &mut [Residue])
     requires { CanSubtract q.modulus q.value shift divisor.now cells.old }
     ensures { cells.new ≡ less_product q.modulus shift q.value divisor.now cells.old }
 {
-    let mut i: usize = 0;
-    while i < divisor.len() {
-        let t = divisor[i];
-        let key = Key::of(t);
-        let at = key.bits as usize + shift;
-        let c = Element::of(q.modulus, crate::key::coefficient_of(t));
+    for &t in divisor {
+        let at = Key::of(t).bits as usize + shift;
+        let c = Element::of(q.modulus, coefficient_of(t));
         cells[at] = Element::of(q.modulus, cells[at]).minus_product(q, c).value;
-        i += 1;
     }
 }
 
@@ -166,7 +150,7 @@ pub(crate) fn divide(
         bits: above.bits - below.bits,
     };
     let first = divisor[0];
-    let coefficient = Element::of(p, crate::key::coefficient_of(first));
+    let coefficient = Element::of(p, coefficient_of(first));
     let inverse = coefficient.inverse();
     let lead = Key::of(first);
     let highest = Key::of(dividend[0]);

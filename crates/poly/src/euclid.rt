@@ -11,14 +11,10 @@ use field::{Element, Residue};
 fn size(f: &Eight) -> Size
     ensures { result ≡ size_of f.now }
 {
-    let mut place = POWERS as Size;
-    while place > 0 {
-        if f[place as usize - 1] != 0 {
-            return place;
-        }
-        place -= 1;
+    match f.iter().rposition(|&c| c != 0) {
+        Some(i) => i as Size + 1,
+        None => 0,
     }
-    0
 }
 
 // Each number times c.
@@ -26,10 +22,8 @@ fn scale(c: Element, f: &mut Eight)
     requires { Scalable c.modulus f.old }
     ensures { f.new ≡ scaled_of c.modulus c.value f.old }
 {
-    let mut i: usize = 0;
-    while i < POWERS {
-        f[i] = c.product(Element::of(c.modulus, f[i])).value;
-        i += 1;
+    for n in f.iter_mut() {
+        *n = c.product(Element::of(c.modulus, *n)).value;
     }
 }
 
@@ -48,11 +42,9 @@ fn subtract(c: Element, k: usize, f: &mut Eight, g: &Eight)
     requires { Step c.modulus c.value k f.old }
     ensures { f.new ≡ subtract_of c.modulus c.value k f.old g.now }
 {
-    let mut i = k;
-    while i < POWERS {
+    for i in k..POWERS {
         let a = Element::of(c.modulus, f[i]);
         f[i] = a.minus_product(c, Element::of(c.modulus, g[i - k])).value;
-        i += 1;
     }
 }
 
@@ -61,9 +53,7 @@ fn reduce(p: Residue, m: usize, f: &mut Eight, g: &Eight)
     requires { Reducible p m f.old }
     ensures { f.new ≡ remainder_of p m g.now (8 - m) f.old }
 {
-    let mut k = POWERS - m;
-    while k > 0 {
-        k -= 1;
+    for k in (0..POWERS - m).rev() {
         let c = Element::of(p, f[k + m]);
         subtract(c, k, f, g);
     }
@@ -75,9 +65,7 @@ pub(crate) fn divide(p: Residue, m: usize, f: &mut Eight, g: &Eight, q: &mut Eig
     ensures { q.new ≡ quotient_of p m g.now f.old }
 {
     *q = [Element::ZERO; POWERS];
-    let mut k = POWERS - m;
-    while k > 0 {
-        k -= 1;
+    for k in (0..POWERS - m).rev() {
         let c = Element::of(p, f[k + m]);
         q[k] = c.value;
         subtract(c, k, f, g);

@@ -42,12 +42,7 @@ pub fn image_at(p: Residue, first: &[Term], second: &[Term], point: &[Residue]) 
 }
 
 // The refusals of the image's inputs.
-fn check_call(
-    p: Residue,
-    first: &[Term],
-    second: &[Term],
-    point: &[Residue],
-) -> Result<(), Fault>
+fn check_call(p: Residue, first: &[Term], second: &[Term], point: &[Residue]) -> Result<(), Fault>
     ensures { Checked (image_table (image_call p first.now second.now point.now)) result }
 {
     list::check_modulo(p, first, second)?;

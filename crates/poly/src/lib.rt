@@ -36,11 +36,11 @@ pub struct MonicImage {
     pub degree: usize,
 }
 
-// The leading part that is picked from two lists: which list it is the head of, 1 or 2, and how many terms it has.
+// The leading part that is picked from two lists: which list it is the head of, and how many terms it has.
 #[derive(Clone, Copy)]
-pub struct Picked {
-    pub list: usize,
-    pub terms: usize,
+pub enum Picked {
+    First(usize),
+    Second(usize),
 }
 
 // What a division under a ceiling on its steps stops with, where the divisor is not found to divide: 15 or 18, and the steps taken.

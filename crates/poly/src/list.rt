@@ -3,7 +3,7 @@ ghost use Rattle.std.specs.Prelude.{◌<◌, length};
 ghost use Rattle.field.specs.Refusal.{Checked};
 ghost use Rattle.poly.specs.Lists.{WrongModulo, of_terms, of_lists};
 ghost use Rattle.poly.specs.LeadingPart.{of_list, LeadingPart};
-ghost use Rattle.poly.specs.ShorterPart.{of_two_lists, ShorterHead, ShorterPart};
+ghost use Rattle.poly.specs.ShorterPart.{of_two_lists, head_of, ShorterHead, ShorterPart};
 ghost use Rattle.poly.specs.Search.{Searched};
 ghost use Rattle.poly.specs.List.Model.{Lower};
 
@@ -16,9 +16,7 @@ fn first_wrong(bound: u32, terms: &[Term]) -> usize
     ensures { Searched (WrongModulo bound terms.now) (length terms.now) result }
 {
     let mut before = Key::LIMIT;
-    let mut i: usize = 0;
-    while i < terms.len() {
-        let t = terms[i];
+    for (i, &t) in terms.iter().enumerate() {
         let key = Key::of(t).bits;
         let coefficient = crate::key::coefficient_of(t) as u32;
         let right = (key < before) & ((0 < coefficient) & (coefficient < bound));
@@ -26,9 +24,8 @@ fn first_wrong(bound: u32, terms: &[Term]) -> usize
             return i;
         }
         before = key;
-        i += 1;
     }
-    i
+    terms.len()
 }
 
 // The check of one list, whose two refusal numbers are given.
@@ -82,14 +79,10 @@ fn leading_length(terms: &[Term]) -> usize
     ensures { Searched (Lower terms.now) (length terms.now) result }
 {
     let top = Key::of(terms[0]).x();
-    let mut i: usize = 0;
-    while i < terms.len() {
-        if Key::of(terms[i]).x() < top {
-            return i;
-        }
-        i += 1;
-    }
-    i
+    terms
+        .iter()
+        .position(|&t| Key::of(t).x() < top)
+        .unwrap_or(terms.len())
 }
 
 // The leading part: all terms with the highest power of x, as a part of the caller's list; on refusal its empty head.
@@ -113,17 +106,17 @@ pub fn check_lists(first: &[Term], second: &[Term]) -> Result<(), Fault>
 
 // Which of two lists has the shorter leading part, the first on a tie, and how many terms that has; on refusal the first, and none.
 pub fn shorter_head(first: &[Term], second: &[Term]) -> Picked
-    ensures { ShorterHead first.now second.now result }
+    ensures { ShorterHead first.now second.now (head_of result) }
 {
     match check_lists(first, second) {
-        Err(_) => Picked { list: 1, terms: 0 },
+        Err(_) => Picked::First(0),
         Ok(()) => {
             let n = leading_length(first);
             let m = leading_length(second);
             if m < n {
-                return Picked { list: 2, terms: m };
+                return Picked::Second(m);
             }
-            Picked { list: 1, terms: n }
+            Picked::First(n)
         }
     }
 }
@@ -132,9 +125,8 @@ pub fn shorter_head(first: &[Term], second: &[Term]) -> Picked
 pub fn shorter_part<'a>(first: &'a [Term], second: &'a [Term]) -> &'a [Term]
     ensures { ShorterPart first.entry second.entry result }
 {
-    let picked = shorter_head(first, second);
-    if picked.list == 2 {
-        return &second[..picked.terms];
+    match shorter_head(first, second) {
+        Picked::First(n) => &first[..n],
+        Picked::Second(m) => &second[..m],
     }
-    &first[..picked.terms]
 }

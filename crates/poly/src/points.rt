@@ -11,14 +11,10 @@ use field::{COORDINATES, Fault, Residue};
 pub fn first_large(p: Residue, numbers: &[Residue]) -> usize
     ensures { Searched (WrongNumber p numbers.now) (length numbers.now) result }
 {
-    let mut i: usize = 0;
-    while i < numbers.len() {
-        if numbers[i] >= p {
-            return i;
-        }
-        i += 1;
-    }
-    i
+    numbers
+        .iter()
+        .position(|&n| n >= p)
+        .unwrap_or(numbers.len())
 }
 
 // The refusals 8 and 9, of one point.

@@ -7,8 +7,8 @@ ghost use Rattle.poly.specs.Room.{of_rooms};
 ghost use Rattle.poly.specs.QuotientCall.{quotient_call, quotient_result, refused_quotient, found_quotient, quotient_table, Quotient};
 ghost use Rattle.poly.specs.Division.WorkRoomModel.{CanGather, Gathered};
 
-use crate::rooms::{CELLS, WORK_ROOM};
 use crate::rooms;
+use crate::rooms::{CELLS, WORK_ROOM};
 use field::{Fault, KeyBits, Residue, Term};
 
 // The terms of the cells that are not 0, the highest key first, written first in the output; how many there are.
@@ -16,10 +16,8 @@ fn gather(cells: &[Residue], out: &mut [Term]) -> usize
     requires { CanGather cells.now out.old }
     ensures { Gathered cells.now out.old out.new result }
 {
-    let mut k = cells.len();
     let mut n: usize = 0;
-    while 0 < k {
-        k -= 1;
+    for k in (0..cells.len()).rev() {
         let c = cells[k];
         if c != 0 {
             out[n] = crate::key::term(k as KeyBits, c);

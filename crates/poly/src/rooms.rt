@@ -29,10 +29,6 @@ pub fn check_rooms(output: usize, needed: usize, work: usize) -> Result<(), Faul
 pub fn clear(n: usize, numbers: &mut [Residue])
     ensures { numbers.new ≡ zeroed (min n (length numbers.old)) numbers.old }
 {
-    let end = if n < numbers.len() { n } else { numbers.len() };
-    let mut i: usize = 0;
-    while i < end {
-        numbers[i] = 0;
-        i += 1;
-    }
+    let end = n.min(numbers.len());
+    numbers[..end].fill(0);
 }

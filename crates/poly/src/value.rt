@@ -14,11 +14,7 @@ fn times_bit(a: Element, y: Element, n: KeyBits) -> Element
     requires { BitReady a y n }
     ensures { result ≡ times_power_of a y n }
 {
-    let mut r = a;
-    if n != 0 {
-        r = r.product(y);
-    }
-    r
+    if n == 0 { a } else { a.product(y) }
 }
 
 // a y^n, by the three bits of n. Where a loop calls it with one y, the compiler works the squares before the loop.
@@ -39,10 +35,8 @@ fn raised(a: Element, y: Element, n: KeyBits) -> Element
     ensures { result ≡ times_power_of a y n }
 {
     let mut r = a;
-    let mut i = n;
-    while i > 0 {
+    for _ in 0..n {
         r = r.product(y);
-        i -= 1;
     }
     r
 }
@@ -75,7 +69,7 @@ fn risen(yz: Element, y: Element, z: Element, before: Key, k: Key) -> Element
 }
 
 // r becomes the value, eight coefficients in x. What it has at the list's highest power of x, the x-leading coefficient, is handed back.
-// It goes from the last term to the first, so that keys rise, and counts the terms in 16 bits, which is one register of the handheld's core.
+// It goes from the last term to the first, so that keys rise.
 pub(crate) fn value(p: Residue, point: &[Residue], terms: &[Term], r: &mut Eight) -> Residue
     requires { CanEvaluate p point.now terms.now }
     ensures { Valued p point.now terms.now r.new result }
@@ -86,10 +80,7 @@ pub(crate) fn value(p: Residue, point: &[Residue], terms: &[Term], r: &mut Eight
     *r = [Element::ZERO; POWERS];
     let mut yz = Element::one(p);
     let mut before = Key { bits: 0 };
-    let mut i = terms.len() as u16;
-    while i > 0 {
-        i -= 1;
-        let t = terms[i as usize];
+    for &t in terms.iter().rev() {
         let k = Key::of(t);
         let v = times_power(Element::of(p, crate::key::coefficient_of(t)), w, k.w());
         yz = risen(yz, y, z, before, k);

@@ -28,8 +28,8 @@ module _ (bound : ℕ) (ts : List ℕ) where
   unfolding key_before
   walk_begins = record { searching = search_begins; key = refl; in_range = omega arith }
 
-  pub walk_ends : (before i : ℕ) → Walked bound ts before i → length ts ≤ i → Searched (WrongModulo bound ts) (length ts) i
-  walk_ends before i h l = search_ends h.searching l
+  pub walk_ends : (before i : ℕ) → Walked bound ts before i → length ts ≤ i → Searched (WrongModulo bound ts) (length ts) (length ts)
+  walk_ends before i h l = search_ends (record { within = omega arith; before = λ k m. h.searching.before k (omega arith) }) (omega arith)
 
   -- at the term with the key k and the coefficient c
   module _ (before i : ℕ) (h : Walked bound ts before i) (l : i < length ts) (k c : ℕ) (ek : k ≡ key_of (get_or ts i 0))

@@ -8,7 +8,6 @@ use Rattle.std.proofs.Math.Seq.{take-append_seam}
 use Rattle.std.specs.Borrow.{Bor}
 use Rattle.field.specs.Refusal.{Passes}
 use Rattle.field.specs.Faults.Laws.{never_placed, not_passes_and_refuses}
-use Rattle.field.specs.declared.faults.Fault.{Fault}
 use Rattle.poly.specs.Keys.{keys}
 use Rattle.poly.specs.Terms.{key_of}
 use Rattle.poly.specs.Lists.{WrongTerm, wrong_key}

@@ -5,16 +5,15 @@ use Rattle.std.specs.Borrow.{Bor}
 use Rattle.field.specs.Refusal.{Refuses, Passes}
 use Rattle.field.specs.Faults.Laws.{not_passes_and_refuses}
 use Rattle.field.specs.declared.faults.Fault.{Fault}
-use Rattle.poly.specs.declared.Picked.{Picked}
 use Rattle.poly.specs.LeadingPart.{of_list, IsLeading, LeadingTerms, LeadingPart}
 use Rattle.poly.specs.LeadingPart as one
-use Rattle.poly.specs.ShorterPart.{of_two_lists, Shorter, refused, of_first, of_second, ShorterHead, picked}
+use Rattle.poly.specs.ShorterPart.{of_two_lists, Shorter, refused, of_first, of_second, Head, ShorterHead, picked}
 use Rattle.poly.specs.ShorterPart.{ShorterPart, part_of_first, part_of_second}
 use Rattle.poly.specs.Search.{Searched}
 use Rattle.poly.specs.List.Model.{Lower}
 use Rattle.poly.specs.List.Leading.{list_has_terms, leading_found, leading_within, leading_taken, leading_part_unique}
 
-abbrev pick : ℕ → ℕ → Picked
+abbrev pick : ℕ → ℕ → Head
 pick list terms = record { list = list; terms = terms }
 
 -- a part that is told by its number of terms
@@ -61,13 +60,13 @@ module _ (A B : List ℕ) (pass : Passes (of_two_lists A B)) where
         picked_length (take n A) n a (of_first (take n A) (take m B) pass part_of_A part_of_B (omega arith))
 
 -- the part of the list that is named, as a part of it
-pub picked_of_second : {A B : List ℕ} {r : Picked} → ShorterHead A B r → r.list ≡ 2 → (r.terms ≤ length B) × Shorter A B 2 (take r.terms B)
+pub picked_of_second : {A B : List ℕ} {r : Head} → ShorterHead A B r → r.list ≡ 2 → (r.terms ≤ length B) × Shorter A B 2 (take r.terms B)
 picked_of_second (picked _ _ (refused f h)) e = absurd (omega arith)
 picked_of_second (picked _ _ (of_first head other h p q l)) e = absurd (omega arith)
 picked_of_second {A} {B} (picked _ _ (of_second head other h p q l)) e =
     (leading_within B head p, subst (Shorter A B 2) (sym (leading_taken B head p)) (of_second head other h p q l))
 
-pub picked_of_first : {A B : List ℕ} {r : Picked} → ShorterHead A B r → ¬ (r.list ≡ 2) → (r.terms ≤ length A) × Shorter A B 1 (take r.terms A)
+pub picked_of_first : {A B : List ℕ} {r : Head} → ShorterHead A B r → ¬ (r.list ≡ 2) → (r.terms ≤ length A) × Shorter A B 1 (take r.terms A)
 picked_of_first {A} {B} (picked _ _ (refused f h)) n = (omega arith, refused f h)
 picked_of_first {A} {B} (picked _ _ (of_first head other h p q l)) n =
     (leading_within A head p, subst (Shorter A B 1) (sym (leading_taken A head p)) (of_first head other h p q l))
@@ -88,7 +87,7 @@ shorter_settled {A} {B} (of_second s t h a b m) (of_first u w k p q l) =
 shorter_settled {A} {B} (of_second s t h a b m) (of_second u w k p q l) = (refl, leading_part_unique B s u a p)
 
 -- so the promises settle what comes back: the record, and the place and the terms of the part
-pub shorter_head_determined : {A B : List ℕ} {r q : Picked} → ShorterHead A B r → ShorterHead A B q → r ≡ q
+pub shorter_head_determined : {A B : List ℕ} {r q : Head} → ShorterHead A B r → ShorterHead A B q → r ≡ q
 shorter_head_determined (picked i head s) (picked j other u) =
     let e = shorter_settled s u in
     ap₂ pick e.0 (ap length e.1)

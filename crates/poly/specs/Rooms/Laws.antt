@@ -1,11 +1,9 @@
--- The check of the rooms settles its fault; the first n numbers of a list set to 0, one after the other, and what stands where then.
-use Rattle.std.specs.Prelude.{◌≡◌, refl, Result, List, ◌∷◌, ◌++◌, ℕ, zero, suc, ◌+◌, ◌-◌, ◌≤◌, ◌<◌, min, length, get_or, drop, replicate}
+-- The check of the rooms settles its fault; the first n numbers of a list set to 0, and what stands where then.
+use Rattle.std.specs.Prelude.{◌≡◌, Result, List, ◌++◌, ℕ, ◌+◌, ◌-◌, ◌≤◌, ◌<◌, min, length, get_or, drop, replicate}
 use Rattle.std.proofs.Common.{sym, ◌∙◌, ap, arith, length-append, length-drop, drop_at, drop-drop}
 use Rattle.std.proofs.lemmas.List.{length-replicate, get_or-replicate}
 use Rattle.std.proofs.Math.ListN.{get_or-append}
 use Rattle.field.specs.Refusal.{Tested, Checked}
-use Rattle.field.specs.Loops.Filled.{cells, Filled}
-use Rattle.field.specs.Loops.Cells.{filled_first}
 use Rattle.field.specs.Faults.Laws.{whole_one_place, tested_determined, checked_determined}
 use Rattle.field.specs.declared.faults.Fault.{Fault}
 use Rattle.poly.specs.Room.{of_rooms, work_room, zeroed, cleared}
@@ -18,16 +16,6 @@ pub rooms_checked_determined : (output needed work : ℕ) (r q : Result Unit Fau
     → Checked (of_rooms output needed work) q → r ≡ q
 rooms_checked_determined output needed work =
     checked_determined (of_rooms output needed work) (whole_one_place _, (whole_one_place _, tt))
-
-cells_zero : (n : ℕ) → cells (λ i. 0) n ≡ replicate n 0
-unfolding cells
-cells_zero zero = refl
-cells_zero (suc n) = ap (λ l. 0 ∷ l) (cells_zero n)
-
--- filled with 0 up to i
-pub filled_zeroed : {old l : List ℕ} {i : ℕ} → Filled (λ j. 0) (length old) old i l → l ≡ zeroed i old
-unfolding zeroed
-filled_zeroed {old} {l} {i} f = filled_first f refl ∙ ap (λ z. z ++ drop i old) (cells_zero i)
 
 -- where there are n numbers, all n are set
 pub zeroed_all : (n : ℕ) (l : List ℕ) {m : List ℕ} → n ≤ length l → m ≡ zeroed (min n (length l)) l → m ≡ zeroed n l

@@ -10,17 +10,17 @@ use Rattle.poly.specs.Division.GreatestExponents.{most_small}
 use Rattle.poly.specs.Division.Turns.{raised_most}
 use Rattle.poly.proofs.division.most.Goals as goal
 
-pub loop-i-preserved : goal.loop-i-preserved
-loop-i-preserved c = folding_next c.loop-i.invariant c.loop-i-test.true (cc)
+pub loop-t-preserved : goal.loop-t-preserved
+loop-t-preserved c = folding_next c.loop-t.invariant c.loop-t-test.true (cc)
 
 pub pack-requires : goal.pack-requires
 pack-requires c =
-    let l = c.loop-i in
+    let l = c.loop-t in
     let small : (v : Variable) → most v c.args.terms.now ≤ 7 = λ v. omega (arith, most_small v c.args.terms.now c.requires) in
     let all : record { x = l.x; y = l.y; z = l.z; w = l.w } ≡ most_of c.args.terms.now =
-    folding_end l.invariant c.loop-i-test.false ∙ raised_most c.args.terms.now in
+    folding_end l.invariant c.loop-t-test.false ∙ raised_most c.args.terms.now in
     subst (λ (e : Exponents). Packable e.x e.y e.z e.w) (sym all)
     (record { x_small = small in_x; y_small = small in_y; z_small = small in_z; w_small = small in_w })
 
 pub returns : goal.returns
-returns c = c.pack.ensures ∙ ap key (folding_end c.loop-i.invariant c.loop-i-test.false ∙ raised_most c.args.terms.now)
+returns c = c.pack.ensures ∙ ap key (folding_end c.loop-t.invariant c.loop-t-test.false ∙ raised_most c.args.terms.now)

@@ -6,12 +6,12 @@ use Rattle.field.specs.Loops.Fold.{folding_cells_next, folding_end}
 use Rattle.poly.specs.Division.Turns.{less_is}
 use Rattle.poly.proofs.division.subtract.Goals as goal
 
-pub loop-i-preserved : goal.loop-i-preserved
-loop-i-preserved c =
+pub loop-t-preserved : goal.loop-t-preserved
+loop-t-preserved c =
     let q = c.args.q in
-    folding_cells_next c.loop-i.invariant c.loop-i-test.true (simp length-set)
-    (less_is q.modulus c.args.shift q.value c.loop-i.cells (get_or c.args.divisor.now c.loop-i.i 0) c.of-key.ensures c.coefficient_of.ensures
-    (ap (λ (v : Element). v.value) (minus_product_is {x = q} refl c.of-c.ensures c.of.ensures c.minus_product.ensures)))
+    folding_cells_next c.loop-t.invariant c.loop-t-test.true (simp length-set)
+    (less_is q.modulus c.args.shift q.value c.loop-t.cells (get_or c.args.divisor.now c.loop-t.t-index 0) c.of.ensures c.coefficient_of.ensures
+    (ap (λ (v : Element). v.value) (minus_product_is {x = q} refl c.of-c.ensures c.of-in-loop-t.ensures c.minus_product.ensures)))
 
 pub returns : goal.returns
-returns c = folding_end c.loop-i.invariant.folding c.loop-i-test.false
+returns c = folding_end c.loop-t.invariant.folding c.loop-t-test.false

@@ -12,6 +12,3 @@ pub record Dividing (p m : ℕ) (g f₀ : List ℕ) (k : ℕ) (f q : List ℕ) :
 
 abbrev pub invariant-loop-k : goal.invariant-loop-k
 invariant-loop-k l = Dividing l.p l.m l.g l.fn.f l.k l.f l.q
-
-abbrev pub decreases-loop-k : goal.decreases-loop-k
-decreases-loop-k l = l.k

@@ -11,6 +11,3 @@ pub record Reducing (p m : ℕ) (g : List ℕ) (k₀ : ℕ) (f₀ : List ℕ) (k
 
 abbrev pub invariant-loop-k : goal.invariant-loop-k
 invariant-loop-k l = Reducing l.p l.m l.g (8 - l.m) l.fn.f l.k l.f
-
-abbrev pub decreases-loop-k : goal.decreases-loop-k
-decreases-loop-k l = l.k

@@ -1,5 +1,5 @@
--- `poly::list::first_wrong` meets its contract: how `Walked` begins, goes on and stops.
-use Rattle.poly.proofs.list.Walk.{walk_begins, walk_stops, walk_goes_on}
+-- `poly::list::first_wrong` meets its contract: how `Walked` begins, goes on, stops and ends.
+use Rattle.poly.proofs.list.Walk.{walk_begins, walk_stops, walk_goes_on, walk_ends}
 use Rattle.poly.proofs.list.first_wrong.Goals as goal
 
 pub loop-i-init : goal.loop-i-init
@@ -12,3 +12,6 @@ returns-then-not-right c =
 pub loop-i-preserved : goal.loop-i-preserved
 loop-i-preserved c =
     walk_goes_on _ _ _ _ c.loop-i.invariant c.loop-i-test.true _ _ c.of-key.ensures c.coefficient_of-coefficient.ensures c.if-not-right.false
+
+pub returns : goal.returns
+returns c = walk_ends _ _ _ _ c.loop-i.invariant c.loop-i-test.false

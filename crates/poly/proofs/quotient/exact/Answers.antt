@@ -23,10 +23,11 @@ returns-in-Err c =
     let call : QuotientCall = quotient_call a.p a.first.now a.second.now a.out.now a.work.now in
     let room = (passed_lists call c.requires).room in
     let long : work_room ≤ length c.divide.new.work = omega arith in
-    rw c.at.ensures
-    (omega arith,
-    exact_none call c.requires _ _ _ (trial c.divide.result) (zeroed_all work_room a.work.now room c.clear.ensures) c.divide.ensures.division
-    (zeroed_all work_room _ long c.clear-in-Err.ensures) (stopped_number c.in-Err.is c.divide.ensures.numbered))
+    rw c.at.ensures (
+      omega arith,
+      exact_none call c.requires _ _ _ (trial c.divide.result) (zeroed_all work_room a.work.now room c.clear.ensures) c.divide.ensures.division
+          (zeroed_all work_room _ long c.clear-in-Err.ensures) (stopped_number c.in-Err.is c.divide.ensures.numbered),
+    )
 
 pub slice_bounds-gather-end : goal.slice_bounds-gather-end
 slice_bounds-gather-end c =

@@ -1,4 +1,4 @@
--- The terms of the cells from k on are put, and those of the cells below k are left; the measure is k.
+-- The terms of the cells from k on are put, and those of the cells below k are left.
 use Rattle.std.proofs.Common.{List, ℕ, ◌+◌, ◌≤◌, length}
 use Rattle.field.specs.Loops.Putting.{Putting}
 use Rattle.poly.specs.Division.SpreadModel.{gathered}
@@ -10,6 +10,3 @@ pub record Gathering (cells before out : List ℕ) (k n : ℕ) : Type 0 where
 
 abbrev pub invariant-loop-k : goal.invariant-loop-k
 invariant-loop-k l = Gathering l.cells l.initial.out l.out l.k l.n
-
-abbrev pub decreases-loop-k : goal.decreases-loop-k
-decreases-loop-k l = l.k

@@ -1,10 +1,10 @@
 -- `poly::rooms::clear` meets its contract: filled with 0 up to the end, the numbers are those that it promises.
-use Rattle.std.proofs.Common.{◌≡◌, ◌∙◌, ap, ℕ, min, length, arith}
+use Rattle.std.proofs.Common.{◌≤◌, length, length-take-le, arith}
 use Rattle.poly.specs.Room.{zeroed}
-use Rattle.poly.specs.Rooms.Laws.{filled_zeroed}
 use Rattle.poly.proofs.rooms.clear.Goals as goal
 
 pub returns : goal.returns
+unfolding zeroed
 returns c =
-    let e : c.loop-i.i ≡ min c.args.n (length c.args.numbers.now) = omega arith in
-    filled_zeroed c.loop-i.invariant.filled ∙ ap (λ (i : ℕ). zeroed i c.args.numbers.now) e
+    let within : c.min-end.result ≤ length c.args.numbers.now = omega arith in
+    rw (c.fill.ensures.after (λ y e. e), length-take-le, c.min-end.ensures, zeroed)
