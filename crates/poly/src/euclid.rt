@@ -96,7 +96,6 @@ pub(crate) fn gcd(p: Residue, f: &mut Eight, g: &mut Eight) -> Size
         }
         n = turn(p, m, g, f);
     }
-    let u = *f;
-    *g = u;
+    *g = *f;
     size(g)
 }

@@ -6,6 +6,7 @@ ghost use Rattle.poly.specs.Key.Model.{Packable};
 
 use field::{KeyBits, Residue, Term};
 
+// A key is written out by its bits, `Key { bits: k }`: a `From` would say that all 16 bits are a key, and would read no plainer.
 #[derive(Clone, Copy)]
 pub struct Key {
     pub bits: KeyBits,

@@ -2,12 +2,9 @@
 use Rattle.std.proofs.Common.{refl, ap, ◌∙◌, ℕ, ◌*◌, ◌%◌, arith}
 use Rattle.field.specs.declared.elements.Element.{Element}
 use Rattle.field.specs.Elements.Plain.{product_is}
-use Rattle.field.specs.Loops.Cells.{filled_start, filled_next, filled_end}
+use Rattle.field.specs.Loops.Cells.{filled_next, filled_end}
 use Rattle.poly.specs.Euclid.Model.{scaled}
 use Rattle.poly.proofs.euclid.scale.Goals as goal
-
-pub loop-n-init : goal.loop-n-init
-loop-n-init c = filled_start (omega arith) c.requires.eight (λ j l. absurd (omega arith))
 
 pub loop-n-preserved : goal.loop-n-preserved
 loop-n-preserved c =
