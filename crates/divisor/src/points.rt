@@ -12,11 +12,7 @@ fn store(coefficients: Eight, at: usize, work: &mut [Residue])
     requires { StoreReady at work.old }
     ensures { work.new ≡ stored 8 coefficients at work.old }
 {
-    let mut j: usize = 0;
-    while j < POWERS {
-        work[at + j] = coefficients[j];
-        j += 1;
-    }
+    work[at..at + POWERS].copy_from_slice(&coefficients);
 }
 
 // The image at each point into the work room, and the sizes.

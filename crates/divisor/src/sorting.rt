@@ -34,13 +34,11 @@ pub(crate) fn least_size(sizes: Sizes, n: usize) -> Size
     requires { Within most_points n sizes }
     ensures { result ≡ least (take n sizes) }
 {
-    let mut m: Size = 0;
-    let mut i: usize = 0;
-    while i < n {
-        m = lesser(m, sizes[i]);
-        i += 1;
+    let mut least: Size = 0;
+    for size in &sizes[..n] {
+        least = lesser(least, *size);
     }
-    m
+    least
 }
 
 // How many of the first n sizes are m.
@@ -48,15 +46,7 @@ pub(crate) fn alike(sizes: Sizes, n: usize, m: Size) -> usize
     requires { Within most_points n sizes }
     ensures { result ≡ alike_of m (take n sizes) }
 {
-    let mut count: usize = 0;
-    let mut i: usize = 0;
-    while i < n {
-        if sizes[i] == m {
-            count += 1;
-        }
-        i += 1;
-    }
-    count
+    sizes[..n].iter().filter(|size| **size == m).count()
 }
 
 // The places of the first n sizes that are m, in the order lent.
@@ -66,13 +56,11 @@ pub(crate) fn places_of(sizes: Sizes, n: usize, m: Size) -> Places
 {
     let mut places: Places = [0; MOST_POINTS];
     let mut count: usize = 0;
-    let mut i: usize = 0;
-    while i < n {
+    for i in 0..n {
         if sizes[i] == m {
             places[count] = i as Place;
             count += 1;
         }
-        i += 1;
     }
     places
 }

@@ -73,12 +73,10 @@ fn subtract(row: &mut Cells, cells: &TableCells, j: Column, columns: Column, p: 
 {
     let at = MOST_COLUMNS * j as usize;
     let factor = Element::of(p, row[j as usize]);
-    let mut i = j;
-    while i < columns {
+    for i in j..columns {
         let cell = Element::of(p, row[i as usize]);
         let next = cell.minus_product(factor, Element::of(p, cells[at + i as usize]));
         row[i as usize] = next.value;
-        i += 1;
     }
 }
 
@@ -89,11 +87,9 @@ fn scale(row: &mut Cells, j: Column, columns: Column, p: Residue)
 {
     let first = Element::of(p, row[j as usize]);
     let inverse = first.inverse();
-    let mut i = j;
-    while i < columns {
+    for i in j..columns {
         let next = inverse.product(Element::of(p, row[i as usize]));
         row[i as usize] = next.value;
-        i += 1;
     }
 }
 
@@ -103,8 +99,7 @@ fn reduce(cells: &TableCells, columns: Column, e: Row, p: Residue) -> Reduced
     ensures { Reduces p (table_of_cells cells.now columns) e result }
 {
     let mut row = e;
-    let mut j: Column = 0;
-    while j < columns {
+    for j in 0..columns {
         if row.cells[j as usize] != 0 {
             if cells[MOST_COLUMNS * j as usize + j as usize] == 0 {
                 scale(&mut row.cells, j, columns, p);
@@ -112,9 +107,11 @@ fn reduce(cells: &TableCells, columns: Column, e: Row, p: Residue) -> Reduced
             }
             subtract(&mut row.cells, cells, j, columns, p);
         }
-        j += 1;
     }
-    Reduced { row, column: j }
+    Reduced {
+        row,
+        column: columns,
+    }
 }
 
 // The row that a step hands back among the others, if there is one to keep.
@@ -124,12 +121,7 @@ fn keep(cells: &mut TableCells, columns: Column, left: Reduced)
 {
     if left.column < columns {
         let at = MOST_COLUMNS * left.column as usize;
-        let row = left.row;
-        let mut i: usize = 0;
-        while i < MOST_COLUMNS {
-            cells[at + i] = row.cells[i];
-            i += 1;
-        }
+        cells[at..at + MOST_COLUMNS].copy_from_slice(&left.row.cells);
     }
 }
 
@@ -152,12 +144,10 @@ fn kind_of(cells: &TableCells, columns: Column) -> Kind
     if cells[MOST_COLUMNS * last as usize + last as usize] != 0 {
         return Kind::None;
     }
-    let mut j: Column = 0;
-    while j < last {
+    for j in 0..last {
         if cells[MOST_COLUMNS * j as usize + j as usize] == 0 {
             return Kind::Several;
         }
-        j += 1;
     }
     Kind::One
 }
@@ -169,13 +159,11 @@ fn value_at(cells: &TableCells, values: &Cells, j: Column, last: Column, p: Resi
 {
     let at = MOST_COLUMNS * j as usize;
     let mut sum = Element::of(p, cells[at + last as usize]);
-    let mut k = j + 1;
-    while k < last {
+    for k in j + 1..last {
         sum = sum.plus_product(
             Element::of(p, cells[at + k as usize]),
             Element::of(p, values[k as usize]),
         );
-        k += 1;
     }
     let zero = Element::zero(p);
     zero.difference(sum)
@@ -188,9 +176,7 @@ fn values_of(cells: &TableCells, columns: Column, p: Residue) -> Cells
 {
     let last = columns - 1;
     let mut values: Cells = [0; MOST_COLUMNS];
-    let mut j = last;
-    while j > 0 {
-        j -= 1;
+    for j in (0..last).rev() {
         let value = value_at(cells, &values, j, last, p);
         values[j as usize] = value.value;
     }

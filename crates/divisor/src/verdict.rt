@@ -46,11 +46,7 @@ fn write(terms: &[Term], output: &mut [Term])
     requires { length terms.now ≤ length output.old }
     ensures { output.new ≡ written terms.now output.old }
 {
-    let mut i: usize = 0;
-    while i < terms.len() {
-        output[i] = terms[i];
-        i += 1;
-    }
+    output[..terms.len()].copy_from_slice(terms);
 }
 
 // A refusal: nothing is written, and the work room is cleared.
