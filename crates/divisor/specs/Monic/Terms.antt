@@ -1,5 +1,5 @@
 -- The numbers that the code makes of a solution are the terms of its divisor.
-use Rattle.std.specs.Prelude.{◌≡◌, refl, ℕ, zero, suc, ◌*◌, ◌%◌, ◌<◌, length, get_or, take}
+use Rattle.std.specs.Prelude.{◌≡◌, refl, ℕ, zero, suc, ◌*◌, ◌%◌, ◌<◌, ◌≤◌, length, get_or, take}
 use Rattle.std.proofs.Math.Path.{sym, ap}
 use Rattle.std.proofs.Common.{◌∙◌, ap₂, subst, arith, eq-eqb, ne_eqb}
 use mathlib.Core.List.{List, [], ◌∷◌, map}
@@ -66,6 +66,21 @@ scaled_zero p f k c ks cs e = rw (eq-eqb c 0 e, scaled_terms)
 pub scaled_here : (p f k c : ℕ) (ks cs : List ℕ) → ¬ (c ≡ 0) → scaled_terms p f (k ∷ ks) (c ∷ cs) ≡ keyed k ((c * f) % p) ∷ scaled_terms p f ks cs
 unfolding scaled_terms
 scaled_here p f k c ks cs n = rw (ne_eqb c 0 n, scaled_terms)
+
+-- not more terms than keys
+scaled_count : (p f : ℕ) (ks cs : List ℕ) → length (scaled_terms p f ks cs) ≤ length ks
+unfolding scaled_terms
+scaled_count p f [] cs = omega arith
+scaled_count p f (k ∷ ks) [] = omega arith
+scaled_count p f (k ∷ ks) (c ∷ cs) =
+    let h = scaled_count p f ks cs in
+    elim (ℕ_discrete c 0) [
+      | yes e ↦ rw (scaled_zero p f k c ks cs e) (omega arith)
+      | no n ↦ rw (scaled_here p f k c ks cs n) (omega arith)
+    ]
+
+pub monic_count : (p : ℕ) (ks cs : List ℕ) → length (monic_terms p ks cs) ≤ length ks
+monic_count p ks cs = scaled_count p _ ks cs
 
 module _ (p : ℕ) (P : Prime p) where
   abbrev K : Field
