@@ -17,16 +17,15 @@ type Place = u16;
 pub(crate) type Places = [Place; MOST_POINTS];
 
 // The less of two sizes, of which 0 is none.
+#[tactic(auto, unfolding(crate::specs::Sorting::Model::lesser))]
 fn lesser(a: Size, b: Size) -> Size
     ensures { result ≡ lesser_of a b }
 {
-    if b == 0 {
-        return a;
+    match (a, b) {
+        (_, 0) => a,
+        (0, _) => b,
+        _ => a.min(b),
     }
-    if a == 0 {
-        return b;
-    }
-    if b < a { b } else { a }
 }
 
 // The least size but 0 of the first n, or 0.

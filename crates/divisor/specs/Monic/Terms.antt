@@ -14,7 +14,6 @@ use Rattle.field.specs.Elements.Fp.{el_nonzero, el_val, val_of_el}
 use Rattle.field.specs.Elements.Link.{product_el}
 use Rattle.field.specs.Modulo.{Modulo}
 use Rattle.poly.specs.Keys.{key, exponents}
-use Rattle.poly.specs.Search.{Searched}
 use Rattle.poly.specs.Terms.{Polynomial, numbers_of, keyed}
 use Rattle.poly.specs.Key.Laws.{key_of_exponents}
 use Rattle.divisor.specs.Rule.{without_zeros, divided_by, made_monic}
@@ -39,16 +38,6 @@ leading_zero c cs e = rw (eq-eqb c 0 e, leading)
 pub leading_here : (c : ℕ) (cs : List ℕ) → ¬ (c ≡ 0) → leading (c ∷ cs) ≡ c
 unfolding leading
 leading_here c cs n = rw (ne_eqb c 0 n, leading)
-
--- it is what a search for the first coefficient but 0 finds
-pub leading_searched : (n : ℕ) (cs : List ℕ) (i : ℕ) → Searched (λ k. ¬ (get_or cs k 0 ≡ 0)) n i → leading (take n cs) ≡ get_or (take n cs) i 0
-leading_searched zero cs i s = (unfold leading in refl)
-leading_searched (suc n) [] i s = (unfold leading in refl)
-leading_searched (suc n) (c ∷ cs) zero s = leading_here c (take n cs) (s.here (omega arith))
-leading_searched (suc n) (c ∷ cs) (suc i) s =
-    leading_zero c (take n cs) (elim (ℕ_discrete c 0) [ yes e ↦ e | no q ↦ absurd (s.before 0 (omega arith) q) ])
-    ∙ leading_searched n cs i
-    (record { within = omega (arith, s.within); before = λ k l. s.before (suc k) (omega arith); here = λ l. s.here (omega arith) })
 
 -- the leading coefficient is one of them, or 0
 pub leading_below : (p : ℕ) → 0 < p → (n : ℕ) (cs : List ℕ) → ((i : ℕ) → get_or cs i 0 < p) → leading (take n cs) < p
