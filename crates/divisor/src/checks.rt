@@ -13,15 +13,13 @@ fn first_wrong_key(skeleton: &[KeyBits]) -> usize
     ensures { Searched (WrongKey skeleton.now) (length skeleton.now) result }
 {
     let mut before = Key::LIMIT;
-    let mut i: usize = 0;
-    while i < skeleton.len() {
-        if skeleton[i] >= before {
+    for (i, key) in skeleton.iter().enumerate() {
+        if *key >= before {
             return i;
         }
-        before = skeleton[i];
-        i += 1;
+        before = *key;
     }
-    i
+    skeleton.len()
 }
 
 // The refusals 6 and 7.

@@ -4,7 +4,7 @@ ghost use Rattle.std.specs.Prelude.{◌≡◌, ◌+◌, ◌-◌};
 ghost use Rattle.divisor.specs.Equations.Model.{EquationReady, IsEquation, next_column, ColumnReady, OneOf, IsEquationAt, CanAdd, AddsFirst, CanSolve, Solves};
 
 use crate::sorting::Places;
-use crate::table::{Column, MOST_COLUMNS, Row, Solved, Table};
+use crate::table::{Column, MOST_COLUMNS, Row, Solution, Table};
 use field::{COORDINATES, Element, KeyBits, Residue};
 use poly::POWERS;
 use poly::key::Key;
@@ -28,13 +28,11 @@ fn equation(
     let mut row = Row {
         cells: [0; MOST_COLUMNS],
     };
-    let mut j: usize = 0;
-    while j < skeleton.len() {
-        let key = Key { bits: skeleton[j] };
+    for (j, bits) in skeleton.iter().enumerate() {
+        let key = Key { bits: *bits };
         if key.x() == i {
             row.cells[j] = poly::value::monomial_at(y, z, w, key).value;
         }
-        j += 1;
     }
     row.cells[column] = u.value;
     row
@@ -91,11 +89,9 @@ fn add_equations(
     requires { CanAdd p t.old skeleton.now points.now places work.now n }
     ensures { AddsFirst n p t.old skeleton.now points.now places work.now n t.new }
 {
-    let mut k: Count = 0;
-    while k < n {
+    for k in 0..n {
         let e = equation_at(p, skeleton, points, places, work, n, k);
-        crate::table::add_equation(t, e, p);
-        k += 1;
+        t.add_equation(e, p);
     }
 }
 
@@ -109,11 +105,11 @@ pub(crate) fn solved(
     work: &[Residue],
     n: Count,
     columns: Column,
-) -> Solved
+) -> Solution
     requires { CanSolve p skeleton.now points.now places work.now n columns }
     ensures { Solves p skeleton.now points.now places work.now n columns result }
 {
     let mut t = Table::empty(columns);
     add_equations(&mut t, p, skeleton, points, places, work, n);
-    crate::table::solution(&t.cells, columns, p)
+    t.solution(p)
 }

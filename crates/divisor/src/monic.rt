@@ -1,20 +1,52 @@
 // The divisor of a solution: zero coefficients dropped, the others divided by the leading one, as terms.
-ghost use Rattle.std.specs.Prelude.{◌≡◌, take};
-ghost use Rattle.divisor.specs.Monic.Model.{leading as leading_of, Solvable, IsDivisor};
+ghost use Rattle.std.specs.Prelude.{◌≡◌, ◌≤◌, ◌<◌, List, [], ◌∷◌, ◌++◌, ℕ, length, take};
+ghost use Rattle.divisor.specs.Candidate.{most_keys};
+ghost use Rattle.divisor.specs.Monic.Model.{leading as leading_of, monic_terms, Solvable};
 ghost use Rattle.divisor.specs.Points.PartsModel.{Within};
 ghost use Rattle.divisor.specs.Table.Model.{most_columns};
 
 use crate::table::Cells;
 use field::{Element, KeyBits, MOST_KEYS, Residue, Term};
+use std::marker::Model;
 
-// A term for each key that a skeleton can have.
-pub(crate) type Terms = [Term; MOST_KEYS];
-
-// The terms, of which the first `count` are the divisor's.
-#[derive(Clone, Copy)]
+// The divisor's terms, and behind them room for as many as a skeleton has keys.
+#[derive(Drop)]
 pub(crate) struct Divisor {
-    pub terms: Terms,
-    pub count: usize,
+    terms: [Term; MOST_KEYS],
+    count: usize,
+}
+
+impl Model for Divisor {
+    ghost Value = { List ℕ };
+
+    ghost view = { λ d. take d.count d.terms };
+
+    ghost invariant = { λ d. d.count ≤ most_keys };
+}
+
+impl Divisor {
+    fn none() -> Divisor
+        ensures { result ≡ [] }
+    {
+        Divisor {
+            terms: [0; MOST_KEYS],
+            count: 0,
+        }
+    }
+
+    fn push(&mut self, term: Term)
+        requires { length self.old < most_keys }
+        ensures { self.new ≡ self.old ++ term ∷ [] }
+    {
+        self.terms[self.count] = term;
+        self.count += 1;
+    }
+
+    pub(crate) fn list(&self) -> &[Term]
+        ensures { result.now ≡ self.now }
+    {
+        &self.terms[..self.count]
+    }
 }
 
 // The first of n coefficients that is not 0, or 0.
@@ -22,34 +54,23 @@ fn leading(values: Cells, n: usize) -> Residue
     requires { Within most_columns n values }
     ensures { result ≡ leading_of (take n values) }
 {
-    let mut i: usize = 0;
-    while i < n {
-        if values[i] != 0 {
-            return values[i];
-        }
-        i += 1;
-    }
-    0
+    values[..n].iter().find(|value| **value != 0).copied().unwrap_or(0)
 }
 
 // The terms of the keys whose coefficient is not 0, each coefficient times the inverse of the leading one.
 pub(crate) fn made_monic(p: Residue, skeleton: &[KeyBits], values: Cells) -> Divisor
     requires { Solvable p skeleton.now values }
-    ensures { IsDivisor p skeleton.now values result }
+    ensures { result ≡ monic_terms p skeleton.now (take (length skeleton.now) values) }
 {
     let lead = Element::of(p, leading(values, skeleton.len()));
     let inverse = lead.inverse();
-    let mut terms: Terms = [0; MOST_KEYS];
-    let mut count: usize = 0;
-    let mut i: usize = 0;
-    while i < skeleton.len() {
+    let mut divisor = Divisor::none();
+    for (i, key) in skeleton.iter().enumerate() {
         if values[i] != 0 {
             let value = Element::of(p, values[i]);
             let coefficient = value.product(inverse);
-            terms[count] = poly::key::term(skeleton[i], coefficient.value);
-            count += 1;
+            divisor.push(poly::key::term(*key, coefficient.value));
         }
-        i += 1;
     }
-    Divisor { terms, count }
+    divisor
 }

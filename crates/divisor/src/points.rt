@@ -12,11 +12,7 @@ fn store(coefficients: Eight, at: usize, work: &mut [Residue])
     requires { StoreReady at work.old }
     ensures { work.new ≡ stored 8 coefficients at work.old }
 {
-    let mut j: usize = 0;
-    while j < POWERS {
-        work[at + j] = coefficients[j];
-        j += 1;
-    }
+    work[at..at + POWERS].copy_from_slice(&coefficients);
 }
 
 // The image at each point into the work room, and the sizes.
@@ -32,14 +28,11 @@ pub(crate) fn look(
         work.new result }
 {
     let mut sizes: Sizes = [0; MOST_POINTS];
-    let mut i: usize = 0;
-    while i < points.len() / COORDINATES {
+    for i in 0..points.len() / COORDINATES {
         let at = COORDINATES * i;
         let seen = poly::image::image_at(p, first, second, &points[at..at + COORDINATES]);
         sizes[i] = seen.size;
-        let coefficients = seen.coefficients;
-        store(coefficients, POWERS * i, work);
-        i += 1;
+        store(seen.coefficients, POWERS * i, work);
     }
     sizes
 }

@@ -17,16 +17,15 @@ type Place = u16;
 pub(crate) type Places = [Place; MOST_POINTS];
 
 // The less of two sizes, of which 0 is none.
+#[tactic(auto, unfolding(crate::specs::Sorting::Model::lesser))]
 fn lesser(a: Size, b: Size) -> Size
     ensures { result ≡ lesser_of a b }
 {
-    if b == 0 {
-        return a;
+    match (a, b) {
+        (_, 0) => a,
+        (0, _) => b,
+        _ => a.min(b),
     }
-    if a == 0 {
-        return b;
-    }
-    if b < a { b } else { a }
 }
 
 // The least size but 0 of the first n, or 0.
@@ -34,13 +33,11 @@ pub(crate) fn least_size(sizes: Sizes, n: usize) -> Size
     requires { Within most_points n sizes }
     ensures { result ≡ least (take n sizes) }
 {
-    let mut m: Size = 0;
-    let mut i: usize = 0;
-    while i < n {
-        m = lesser(m, sizes[i]);
-        i += 1;
+    let mut least: Size = 0;
+    for size in &sizes[..n] {
+        least = lesser(least, *size);
     }
-    m
+    least
 }
 
 // How many of the first n sizes are m.
@@ -48,15 +45,7 @@ pub(crate) fn alike(sizes: Sizes, n: usize, m: Size) -> usize
     requires { Within most_points n sizes }
     ensures { result ≡ alike_of m (take n sizes) }
 {
-    let mut count: usize = 0;
-    let mut i: usize = 0;
-    while i < n {
-        if sizes[i] == m {
-            count += 1;
-        }
-        i += 1;
-    }
-    count
+    sizes[..n].iter().filter(|size| **size == m).count()
 }
 
 // The places of the first n sizes that are m, in the order lent.
@@ -66,13 +55,11 @@ pub(crate) fn places_of(sizes: Sizes, n: usize, m: Size) -> Places
 {
     let mut places: Places = [0; MOST_POINTS];
     let mut count: usize = 0;
-    let mut i: usize = 0;
-    while i < n {
+    for i in 0..n {
         if sizes[i] == m {
             places[count] = i as Place;
             count += 1;
         }
-        i += 1;
     }
     places
 }

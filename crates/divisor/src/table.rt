@@ -1,26 +1,21 @@
 // The equation table: a column for each unknown, and a last one for the multiplier that is fixed at 1. A row that is kept stands at the index of
 // its pivot column, where its cell is 1; where no row is kept the cell on the diagonal is 0. A row kept in the last column says 1 = 0: there is
 // no solution.
-ghost use Rattle.std.specs.Prelude.{◌≡◌};
+ghost use Rattle.std.specs.Prelude.{◌≡◌, ◌-◌, ◌<◌};
 ghost use Rattle.field.specs.Contract.{element};
-ghost use Rattle.divisor.specs.Table.Model.{AtColumn, CanSubtract, CanKeep, CellsReady, Back, TableReady, StepReady, Reduces, row_in, table_of_cells, empty_table, minus, scaled_row, with_row, keeping, kind, value, values, solved};
+ghost use Rattle.divisor.specs.Table.Model.{most_columns, AtColumn, Back, TableReady, StepReady, Reduces, row_at, empty_table, minus, scaled_row, with_row, keeping, diagonal, value, values, solved};
 
 use field::{Element, MOST_KEYS, MOST_POINTS, Residue};
 
 // An unknown for each key that a skeleton can have, and a multiplier for each point, of which the first is fixed.
 pub(crate) const MOST_COLUMNS: usize = MOST_KEYS + MOST_POINTS;
 
-const MOST_CELLS: usize = MOST_COLUMNS * MOST_COLUMNS;
-
 // Columns are counted in 16 bits: on a 32-bit core a 64-bit count takes two registers.
 pub(crate) type Column = u16;
 
 pub(crate) type Cells = [Residue; MOST_COLUMNS];
 
-// The cells of the rows, one row after the other.
-type TableCells = [Residue; MOST_CELLS];
-
-#[derive(Drop)]
+#[derive(Clone, Copy)]
 pub(crate) struct Row {
     pub cells: Cells,
 }
@@ -28,30 +23,51 @@ pub(crate) struct Row {
 // The table is lent and changed in place; nothing copies it. `columns` is one more than the number of unknowns.
 #[derive(Drop)]
 pub(crate) struct Table {
-    pub cells: TableCells,
+    pub rows: [Row; MOST_COLUMNS],
     pub columns: Column,
 }
 
-// What is left of an equation: the row to keep, and the column to keep it in; where nothing is left, the number of columns.
-#[derive(Drop)]
+// What is left of an equation: the row to keep, and the column to keep it in.
+#[derive(Clone, Copy)]
 struct Reduced {
     pub row: Row,
     pub column: Column,
 }
 
-// How many solutions the equations have.
-#[derive(Clone, Copy)]
-pub(crate) enum Kind {
+// How many solutions the equations have. Where there is one, it has the values of the unknowns, and zeros behind them.
+#[derive(Drop)]
+pub(crate) enum Solution {
     None,
-    One,
+    One(Cells),
     Several,
 }
 
-// The values of the unknowns where there is one solution, and zeros behind them; zeros otherwise.
-#[derive(Drop)]
-pub(crate) struct Solved {
-    pub kind: Kind,
-    pub values: Cells,
+impl Row {
+    // Less the multiple of the row kept in column j that makes the cell there 0. Before column j both have zeros, and nothing changes there.
+    fn subtract(&mut self, kept: &Row, j: Column, columns: Column, p: Residue)
+        requires { AtColumn p self.old j columns }
+        ensures { self.new ≡ minus p self.old kept.now j columns }
+    {
+        let factor = Element::of(p, self.cells[j as usize]);
+        for i in j..columns {
+            let cell = Element::of(p, self.cells[i as usize]);
+            let next = cell.minus_product(factor, Element::of(p, kept.cells[i as usize]));
+            self.cells[i as usize] = next.value;
+        }
+    }
+
+    // Times the inverse of its cell in column j, which becomes 1.
+    fn scale(&mut self, j: Column, columns: Column, p: Residue)
+        requires { AtColumn p self.old j columns }
+        ensures { self.new ≡ scaled_row p self.old j columns }
+    {
+        let first = Element::of(p, self.cells[j as usize]);
+        let inverse = first.inverse();
+        for i in j..columns {
+            let next = inverse.product(Element::of(p, self.cells[i as usize]));
+            self.cells[i as usize] = next.value;
+        }
+    }
 }
 
 impl Table {
@@ -60,162 +76,102 @@ impl Table {
         ensures { result ≡ empty_table columns }
     {
         Table {
-            cells: [0; MOST_CELLS],
+            rows: [Row {
+                cells: [0; MOST_COLUMNS],
+            }; MOST_COLUMNS],
             columns,
         }
     }
-}
 
-// The row less the multiple of the row kept in column j that makes its cell there 0. Before column j both have zeros, and nothing changes there.
-fn subtract(row: &mut Cells, cells: &TableCells, j: Column, columns: Column, p: Residue)
-    requires { CanSubtract p (record { cells = row.old }) cells.now j columns }
-    ensures { record { cells = row.new } ≡ minus p (record { cells = row.old }) (row_in cells.now j) j columns }
-{
-    let at = MOST_COLUMNS * j as usize;
-    let factor = Element::of(p, row[j as usize]);
-    let mut i = j;
-    while i < columns {
-        let cell = Element::of(p, row[i as usize]);
-        let next = cell.minus_product(factor, Element::of(p, cells[at + i as usize]));
-        row[i as usize] = next.value;
-        i += 1;
+    // The cell of column j that is 0 where no row is kept.
+    fn diagonal(&self, j: Column) -> Residue
+        requires { j < most_columns }
+        ensures { result ≡ diagonal self.now j }
+    {
+        self.rows[j as usize].cells[j as usize]
     }
-}
 
-// The row times the inverse of its cell in column j, which becomes 1.
-fn scale(row: &mut Cells, j: Column, columns: Column, p: Residue)
-    requires { AtColumn p (record { cells = row.old }) j columns }
-    ensures { record { cells = row.new } ≡ scaled_row p (record { cells = row.old }) j columns }
-{
-    let first = Element::of(p, row[j as usize]);
-    let inverse = first.inverse();
-    let mut i = j;
-    while i < columns {
-        let next = inverse.product(Element::of(p, row[i as usize]));
-        row[i as usize] = next.value;
-        i += 1;
-    }
-}
-
-// The step: column after column the kept row is taken off the equation, and it is to be kept in the first column where no row is and its cell is not 0.
-fn reduce(cells: &TableCells, columns: Column, e: Row, p: Residue) -> Reduced
-    requires { StepReady p (table_of_cells cells.now columns) e }
-    ensures { Reduces p (table_of_cells cells.now columns) e result }
-{
-    let mut row = e;
-    let mut j: Column = 0;
-    while j < columns {
-        if row.cells[j as usize] != 0 {
-            if cells[MOST_COLUMNS * j as usize + j as usize] == 0 {
-                scale(&mut row.cells, j, columns, p);
-                return Reduced { row, column: j };
+    // The step: column after column the kept row is taken off the equation, and it is to be kept in the first column where no row is and its cell is not 0.
+    fn reduce(&self, e: Row, p: Residue) -> Option<Reduced>
+        requires { StepReady p self.now e }
+        ensures { Reduces p self.now e result }
+    {
+        let mut row = e;
+        for j in 0..self.columns {
+            if row.cells[j as usize] != 0 {
+                if self.diagonal(j) == 0 {
+                    row.scale(j, self.columns, p);
+                    return Some(Reduced { row, column: j });
+                }
+                row.subtract(&self.rows[j as usize], j, self.columns, p);
             }
-            subtract(&mut row.cells, cells, j, columns, p);
         }
-        j += 1;
+        None
     }
-    Reduced { row, column: j }
-}
 
-// The row that a step hands back among the others, if there is one to keep.
-fn keep(cells: &mut TableCells, columns: Column, left: Reduced)
-    requires { CanKeep cells.old columns left }
-    ensures { cells.new ≡ keeping cells.old columns left }
-{
-    if left.column < columns {
-        let at = MOST_COLUMNS * left.column as usize;
-        let row = left.row;
-        let mut i: usize = 0;
-        while i < MOST_COLUMNS {
-            cells[at + i] = row.cells[i];
-            i += 1;
+    // The row that a step hands back among the others.
+    fn keep(&mut self, left: Reduced)
+        requires { left.column < most_columns }
+        ensures { self.new ≡ keeping self.old left }
+    {
+        self.rows[left.column as usize] = left.row;
+    }
+
+    // One more equation: what the step leaves of it is kept.
+    pub(crate) fn add_equation(&mut self, e: Row, p: Residue)
+        requires { StepReady p self.old e }
+        ensures { self.new ≡ with_row p self.old e }
+    {
+        if let Some(left) = self.reduce(e, p) {
+            self.keep(left);
         }
     }
-}
 
-// One more equation in the table that is lent: what the step leaves of it is kept.
-pub(crate) fn add_equation(t: &mut Table, e: Row, p: Residue)
-    requires { StepReady p t.old e }
-    ensures { t.new ≡ with_row p t.old e }
-{
-    let columns = t.columns;
-    let left = reduce(&t.cells, columns, e, p);
-    keep(&mut t.cells, columns, left);
-}
-
-// None where a row is kept in the last column; several where a column of an unknown has none.
-fn kind_of(cells: &TableCells, columns: Column) -> Kind
-    requires { CellsReady cells.now columns }
-    ensures { result ≡ kind (table_of_cells cells.now columns) }
-{
-    let last = columns - 1;
-    if cells[MOST_COLUMNS * last as usize + last as usize] != 0 {
-        return Kind::None;
-    }
-    let mut j: Column = 0;
-    while j < last {
-        if cells[MOST_COLUMNS * j as usize + j as usize] == 0 {
-            return Kind::Several;
+    // The unknown of column j, by its row, from the values of those behind it; the last one is 1.
+    fn value(&self, values: &Cells, j: Column, p: Residue) -> Element
+        requires { Back p self.now values.now j }
+        ensures { result ≡ element p (value p (row_at self.now j) values.now j (self.now.columns - 1)) }
+    {
+        let row = &self.rows[j as usize];
+        let last = self.columns - 1;
+        let mut sum = Element::of(p, row.cells[last as usize]);
+        for k in j + 1..last {
+            sum = sum.plus_product(
+                Element::of(p, row.cells[k as usize]),
+                Element::of(p, values[k as usize]),
+            );
         }
-        j += 1;
+        let zero = Element::zero(p);
+        zero.difference(sum)
     }
-    Kind::One
-}
 
-// The unknown of column j, by its row, from the values of those behind it; the last one is 1.
-fn value_at(cells: &TableCells, values: &Cells, j: Column, last: Column, p: Residue) -> Element
-    requires { Back p cells.now values.now j last }
-    ensures { result ≡ element p (value p (row_in cells.now j) values.now j last) }
-{
-    let at = MOST_COLUMNS * j as usize;
-    let mut sum = Element::of(p, cells[at + last as usize]);
-    let mut k = j + 1;
-    while k < last {
-        sum = sum.plus_product(
-            Element::of(p, cells[at + k as usize]),
-            Element::of(p, values[k as usize]),
-        );
-        k += 1;
+    // Back substitution, from the last unknown to the first.
+    fn values(&self, p: Residue) -> Cells
+        requires { TableReady p self.now }
+        ensures { result ≡ values p self.now }
+    {
+        let mut values: Cells = [0; MOST_COLUMNS];
+        for j in (0..self.columns - 1).rev() {
+            let value = self.value(&values, j, p);
+            values[j as usize] = value.value;
+        }
+        values
     }
-    let zero = Element::zero(p);
-    zero.difference(sum)
-}
 
-// Back substitution, from the last unknown to the first.
-fn values_of(cells: &TableCells, columns: Column, p: Residue) -> Cells
-    requires { TableReady p (table_of_cells cells.now columns) }
-    ensures { result ≡ values p (table_of_cells cells.now columns) }
-{
-    let last = columns - 1;
-    let mut values: Cells = [0; MOST_COLUMNS];
-    let mut j = last;
-    while j > 0 {
-        j -= 1;
-        let value = value_at(cells, &values, j, last, p);
-        values[j as usize] = value.value;
-    }
-    values
-}
-
-// How many solutions the equations have, and the values of the only one.
-pub(crate) fn solution(cells: &TableCells, columns: Column, p: Residue) -> Solved
-    requires { TableReady p (table_of_cells cells.now columns) }
-    ensures { result ≡ solved p (table_of_cells cells.now columns) }
-{
-    let kind = kind_of(cells, columns);
-    let zeros: Cells = [0; MOST_COLUMNS];
-    match kind {
-        Kind::None => Solved {
-            kind: Kind::None,
-            values: zeros,
-        },
-        Kind::Several => Solved {
-            kind: Kind::Several,
-            values: zeros,
-        },
-        Kind::One => Solved {
-            kind: Kind::One,
-            values: values_of(cells, columns, p),
-        },
+    // None where a row is kept in the last column; several where a column of an unknown has none; else the values of the only one.
+    pub(crate) fn solution(&self, p: Residue) -> Solution
+        requires { TableReady p self.now }
+        ensures { result ≡ solved p self.now }
+    {
+        let last = self.columns - 1;
+        if self.diagonal(last) != 0 {
+            return Solution::None;
+        }
+        for j in 0..last {
+            if self.diagonal(j) == 0 {
+                return Solution::Several;
+            }
+        }
+        Solution::One(self.values(p))
     }
 }

@@ -2,9 +2,9 @@
 ghost use Rattle.std.specs.Prelude.{◌≡◌, ◌≤◌, length};
 ghost use Rattle.field.specs.Lent.{written};
 ghost use Rattle.poly.specs.Room.{work_room};
-ghost use Rattle.divisor.specs.Verdict.Model.{CanDivideBoth, BothDivided, Refused, only, VerdictReady, Settled};
+ghost use Rattle.divisor.specs.Verdict.Model.{CanDivideBoth, BothDivided, Refused, VerdictReady, Settled};
 
-use crate::table::{Cells, Kind, Solved};
+use crate::table::{Cells, Solution};
 use field::{Fault, KeyBits, RefusalNumber, Residue, Term};
 use poly::Trial;
 use poly::rooms::WORK_ROOM;
@@ -46,11 +46,7 @@ fn write(terms: &[Term], output: &mut [Term])
     requires { length terms.now ≤ length output.old }
     ensures { output.new ≡ written terms.now output.old }
 {
-    let mut i: usize = 0;
-    while i < terms.len() {
-        output[i] = terms[i];
-        i += 1;
-    }
+    output[..terms.len()].copy_from_slice(terms);
 }
 
 // A refusal: nothing is written, and the work room is cleared.
@@ -77,14 +73,12 @@ fn divided(
     output: &mut [Term],
     work: &mut [Residue],
 ) -> Ruling
-    requires { VerdictReady p first.now second.now skeleton.now (only values) output.old work.old }
-    ensures { Settled p first.now second.now skeleton.now (only values) ceiling
+    requires { VerdictReady p first.now second.now skeleton.now (Solution.One values) output.old work.old }
+    ensures { Settled p first.now second.now skeleton.now (Solution.One values) ceiling
         output.old output.new work.old work.new result }
 {
     let divisor = crate::monic::made_monic(p, skeleton, values);
-    let terms = divisor.terms;
-    let count = divisor.count;
-    let list = &terms[..count];
+    let list = divisor.list();
     let trial = divides_both(p, first, second, list, ceiling, work);
     if trial.number != 0 {
         return Ruling {
@@ -96,7 +90,7 @@ fn divided(
     write(list, output);
     Ruling {
         number: 0,
-        terms: count,
+        terms: list.len(),
         steps: trial.steps,
     }
 }
@@ -107,7 +101,7 @@ pub(crate) fn settle(
     first: &[Term],
     second: &[Term],
     skeleton: &[KeyBits],
-    solved: Solved,
+    solved: Solution,
     ceiling: usize,
     output: &mut [Term],
     work: &mut [Residue],
@@ -116,11 +110,11 @@ pub(crate) fn settle(
     ensures { Settled p first.now second.now skeleton.now solved ceiling output.old
         output.new work.old work.new result }
 {
-    let kind = solved.kind;
-    let values = solved.values;
-    match kind {
-        Kind::None => refused(Fault::NO_SOLUTION, work),
-        Kind::Several => refused(Fault::SEVERAL_SOLUTIONS, work),
-        Kind::One => divided(p, first, second, skeleton, values, ceiling, output, work),
+    match solved {
+        Solution::None => refused(Fault::NO_SOLUTION, work),
+        Solution::Several => refused(Fault::SEVERAL_SOLUTIONS, work),
+        Solution::One(values) => {
+            divided(p, first, second, skeleton, values, ceiling, output, work)
+        }
     }
 }

@@ -7,9 +7,8 @@ use Rattle.field.specs.Fp.{Fp}
 use Rattle.field.specs.Refusal.{fault, Passes}
 use Rattle.field.specs.declared.faults.Fault.{Fault}
 use Rattle.divisor.specs.declared.CandidateRecord.{CandidateRecord}
-use Rattle.divisor.specs.declared.table.Kind.{Kind}
-use Rattle.divisor.specs.declared.table.Kind.TheVariants.{None, One, Several}
-use Rattle.divisor.specs.declared.table.Solved.{Solved}
+use Rattle.divisor.specs.declared.table.Solution.{Solution}
+use Rattle.divisor.specs.declared.table.Solution.TheVariants.{None, One, Several}
 use Rattle.divisor.specs.declared.table.Table.{Table}
 use Rattle.divisor.specs.declared.verdict.Ruling.{Ruling}
 use Rattle.divisor.specs.Rule.{Kept}
@@ -23,7 +22,7 @@ use Rattle.divisor.specs.Equations.Adding.{rows_ready, table_solvable}
 use Rattle.divisor.specs.Equations.System.{system_rows}
 use Rattle.divisor.specs.Sorting.Model.{sizes_of, least, alike, places_before, HasPlaces}
 use Rattle.divisor.specs.Points.Model.{Looks}
-use Rattle.divisor.specs.Verdict.Model.{NoGoodPoint, VerdictReady, Settles, Settled, MakesDivisor, unsolvable, several, cut_off}
+use Rattle.divisor.specs.Verdict.Model.{NoGoodPoint, VerdictReady, Settles, Settled, OneReady, unsolvable, several, cut_off}
 use Rattle.divisor.specs.Verdict.Model.{rejected, accepted}
 use Rattle.divisor.specs.Checks.Passed.{point_count, looks_of, right_lists, keys_most, output_fits}
 use Rattle.divisor.specs.Sorting.Laws.{least_is}
@@ -85,46 +84,42 @@ module _ {c : Call} {after sizes : List ℕ} {m count : ℕ} (good : SomeGood c 
           (omega (arith, counted_places good places at)) (λ a l. place_is good places at a (omega arith)) made
           ∙ ap (kept_rows (Numbers c listed) (monomials c listed) (length ks)) kept.in_room
 
-      -- what the kind and the values say of the equations of the rule
-      says : Says p P unknowns equations (solved p t).kind (solved p t).values
+      -- what the solution says of the equations of the rule
+      says : Says p P unknowns equations (solved p t)
       says =
           let e = kept.count_is in
           let l = (columns_fit good).most in
           let a : length c.skeleton + count ≡ suc unknowns = omega arith in
-          subst (λ (rs : List (List (Fp p))). Says p P unknowns rs (solved p t).kind (solved p t).values) means
-          (subst (λ (u : Table). Says p P unknowns (rows_of p unknowns made.rows) (solved p u).kind (solved p u).values)
+          subst (λ (rs : List (List (Fp p))). Says p P unknowns rs (solved p t)) means
+          (subst (λ (u : Table). Says p P unknowns (rows_of p unknowns made.rows) (solved p u))
           (sym (made.is ∙ ap (λ (x : ℕ). added p (empty_table x) made.rows) a))
           (table_answers p P unknowns (omega arith) made.rows listed (rows_ready made (ready_system good places at))))
 
-    module _ (s : Solved) (h : Solves c.modulus c.skeleton c.points places after (8 * count) (length c.skeleton + count) s) where
-      says_so : Says p P unknowns equations s.kind s.values
-      says_so = subst (λ (y : Solved). Says p P unknowns equations y.kind y.values) (sym h.is) (says h.table h.made)
+    module _ (s : Solution) (h : Solves c.modulus c.skeleton c.points places after (8 * count) (length c.skeleton + count) s) where
+      says_as : (x : Solution) → s ≡ x → Says p P unknowns equations x
+      says_as x e = subst (Says p P unknowns equations) (sym h.is ∙ e) (says h.table h.made)
 
-      says_as : (x : Kind) → s.kind ≡ x → Says p P unknowns equations x s.values
-      says_as x e = subst (λ (y : Kind). Says p P unknowns equations y s.values) e says_so
+      -- the values of the only solution
+      module _ (values : List ℕ) (e : s ≡ One values) where
+        below : (i : ℕ) → get_or values i 0 < p
+        below = solved_below p h.table values (sym h.is ∙ e) (table_solvable (can_solve good places at) h.made).0
 
-      below : (i : ℕ) → get_or s.values i 0 < p
-      below = subst (λ (y : Solved). (i : ℕ) → get_or y.values i 0 < p) (sym h.is)
-          (solved_below p h.table (table_solvable (can_solve good places at) h.made).0)
+        long : length c.skeleton ≤ length values
+        long = let q = solved_length p h.table values (sym h.is ∙ e) in let l = keys_most c pass in omega arith
 
-      long : length c.skeleton ≤ length s.values
-      long = let e = ap (λ (y : Solved). length y.values) h.is ∙ solved_length p h.table in let l = keys_most c pass in omega arith
+        first_below : AllBelow p (take (length c.skeleton) values)
+        first_below = all_below p (length c.skeleton) values below
 
-      first_below : AllBelow p (take (length c.skeleton) s.values)
-      first_below = all_below p (length c.skeleton) s.values below
-
-      makes : s.kind ≡ One → MakesDivisor p c.skeleton (take (length c.skeleton) s.values)
-      makes e =
-          let g = assembled.list c pass listed d kept.at_least k ks kept.kept_is s.values (says_as One e) long first_below in
-          record { led = let q = g.led in omega arith; some = g.some; falls = g.falls }
+        one_ready : OneReady p c.skeleton values
+        one_ready =
+            let g = assembled.list c pass listed d kept.at_least k ks kept.kept_is values (says_as (One values) e) long first_below in
+            record { long = long; below = below; makes = record { led = let q = g.led in omega arith; some = g.some; falls = g.falls } }
 
       pub ready_verdict : VerdictReady c.modulus c.first_list c.second_list c.skeleton s c.output after
       ready_verdict = record {
         lists = right_lists c pass;
         few = keys_most c pass;
-        long = long;
-        below = below;
-        one = makes;
+        one = one_ready;
         fits = output_fits c pass;
         room = room_after c pass after sizes good.look;
       }
@@ -136,12 +131,12 @@ module _ {c : Call} {after sizes : List ℕ} {m count : ℕ} (good : SomeGood c 
           assembled.answer_none c pass listed d kept.at_least k ks kept.kept_is (says_as None e)
       settles number terms steps (several e) =
           let q = says_as Several e in assembled.answer_several c pass listed d kept.at_least k ks kept.kept_is q.0 q.1 q.2
-      settles number terms steps (cut_off e n t l) =
-          assembled.answer_cut c pass listed d kept.at_least k ks kept.kept_is s.values (says_as One e) long first_below n (t P) l
-      settles number terms steps (rejected e n t l h) =
-          assembled.answer_rejected c pass listed d kept.at_least k ks kept.kept_is s.values (says_as One e) long first_below n (t P) l (h P)
-      settles number terms steps (accepted e n t l h) =
-          assembled.answer_accepted c pass listed d kept.at_least k ks kept.kept_is s.values (says_as One e) long first_below n (t P) l (h P)
+      settles number terms steps (cut_off values e n t l) =
+          assembled.answer_cut c pass listed d kept.at_least k ks kept.kept_is values (says_as (One values) e) (long values e) (first_below values e) n (t P) l
+      settles number terms steps (rejected values e n t l h) =
+          assembled.answer_rejected c pass listed d kept.at_least k ks kept.kept_is values (says_as (One values) e) (long values e) (first_below values e) n (t P) l (h P)
+      settles number terms steps (accepted values e n t l h) =
+          assembled.answer_accepted c pass listed d kept.at_least k ks kept.kept_is values (says_as (One values) e) (long values e) (first_below values e) n (t P) l (h P)
 
       pub answered_so : (bad : ℕ) → bad ≡ alike 0 (take (point_count c) sizes) → {output work : List ℕ} (v : Ruling)
           → Settled c.modulus c.first_list c.second_list c.skeleton s c.ceiling c.output output after work v

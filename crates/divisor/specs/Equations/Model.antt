@@ -10,7 +10,7 @@ use Rattle.poly.specs.ImageCall.{point_of}
 use Rattle.poly.specs.Value.Monomial.{monomial}
 use Rattle.divisor.specs.declared.table.Row.{Row}
 use Rattle.divisor.specs.declared.table.Table.{Table}
-use Rattle.divisor.specs.declared.table.Solved.{Solved}
+use Rattle.divisor.specs.declared.table.Solution.{Solution}
 use Rattle.divisor.specs.Rule.{Kept}
 use Rattle.divisor.specs.Candidate.{point_at}
 use Rattle.divisor.specs.Points.PartsModel.{part}
@@ -104,7 +104,7 @@ pub record CanSolve (p : ℕ) (ks points places work : List ℕ) (n columns : �
   pub columns_are : columns ≡ length ks + n / 8
 
 -- how many solutions they have, and the values of the only one, by a table that was empty before them
-pub record Solves (p : ℕ) (ks points places work : List ℕ) (n columns : ℕ) (r : Solved) : Type 0 where
+pub record Solves (p : ℕ) (ks points places work : List ℕ) (n columns : ℕ) (r : Solution) : Type 0 where
   pub table : Table
   pub made : AddsFirst n p (empty_table columns) ks points places work n table
   pub is : r ≡ solved p table

@@ -1,9 +1,8 @@
 -- The divisor of a solution in plain numbers: zero coefficients dropped, the others times the inverse of the first, as terms.
-use Rattle.std.specs.Prelude.{true, false, List, [], ◌∷◌, ℕ, ◌*◌, ◌%◌, ◌≤◌, ◌<◌, ◌≡◌, eqb, length, get_or, take}
+use Rattle.std.specs.Prelude.{true, false, List, [], ◌∷◌, ℕ, ◌*◌, ◌%◌, ◌≤◌, ◌<◌, eqb, length, get_or, take}
 use Rattle.field.specs.Moduli.{Listed}
 use Rattle.field.specs.Fp.{el, inv}
 use Rattle.poly.specs.Terms.{keyed}
-use Rattle.divisor.specs.declared.monic.Divisor.{Divisor}
 use Rattle.divisor.specs.Candidate.{most_keys}
 
 -- the first coefficient but 0, or 0
@@ -29,9 +28,3 @@ pub record Solvable (p : ℕ) (ks values : List ℕ) : Type 0 where
   pub long : length ks ≤ length values
   pub below : (i : ℕ) → get_or values i 0 < p
   pub led : 0 < leading (take (length ks) values)
-
--- what it promises: the divisor's terms first
-pub record IsDivisor (p : ℕ) (ks values : List ℕ) (r : Divisor) : Type 0 where
-  pub sized : length r.terms ≡ most_keys
-  pub fits : r.count ≤ length ks
-  pub terms : take r.count r.terms ≡ monic_terms p ks (take (length ks) values)

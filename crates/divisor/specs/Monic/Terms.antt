@@ -1,5 +1,5 @@
 -- The numbers that the code makes of a solution are the terms of its divisor.
-use Rattle.std.specs.Prelude.{◌≡◌, refl, ℕ, zero, suc, ◌*◌, ◌%◌, ◌<◌, length, get_or, take}
+use Rattle.std.specs.Prelude.{◌≡◌, refl, ℕ, zero, suc, ◌*◌, ◌%◌, ◌<◌, ◌≤◌, length, get_or, take}
 use Rattle.std.proofs.Math.Path.{sym, ap}
 use Rattle.std.proofs.Common.{◌∙◌, ap₂, subst, arith, eq-eqb, ne_eqb}
 use mathlib.Core.List.{List, [], ◌∷◌, map}
@@ -14,7 +14,6 @@ use Rattle.field.specs.Elements.Fp.{el_nonzero, el_val, val_of_el}
 use Rattle.field.specs.Elements.Link.{product_el}
 use Rattle.field.specs.Modulo.{Modulo}
 use Rattle.poly.specs.Keys.{key, exponents}
-use Rattle.poly.specs.Search.{Searched}
 use Rattle.poly.specs.Terms.{Polynomial, numbers_of, keyed}
 use Rattle.poly.specs.Key.Laws.{key_of_exponents}
 use Rattle.divisor.specs.Rule.{without_zeros, divided_by, made_monic}
@@ -40,16 +39,6 @@ pub leading_here : (c : ℕ) (cs : List ℕ) → ¬ (c ≡ 0) → leading (c ∷
 unfolding leading
 leading_here c cs n = rw (ne_eqb c 0 n, leading)
 
--- it is what a search for the first coefficient but 0 finds
-pub leading_searched : (n : ℕ) (cs : List ℕ) (i : ℕ) → Searched (λ k. ¬ (get_or cs k 0 ≡ 0)) n i → leading (take n cs) ≡ get_or (take n cs) i 0
-leading_searched zero cs i s = (unfold leading in refl)
-leading_searched (suc n) [] i s = (unfold leading in refl)
-leading_searched (suc n) (c ∷ cs) zero s = leading_here c (take n cs) (s.here (omega arith))
-leading_searched (suc n) (c ∷ cs) (suc i) s =
-    leading_zero c (take n cs) (elim (ℕ_discrete c 0) [ yes e ↦ e | no q ↦ absurd (s.before 0 (omega arith) q) ])
-    ∙ leading_searched n cs i
-    (record { within = omega (arith, s.within); before = λ k l. s.before (suc k) (omega arith); here = λ l. s.here (omega arith) })
-
 -- the leading coefficient is one of them, or 0
 pub leading_below : (p : ℕ) → 0 < p → (n : ℕ) (cs : List ℕ) → ((i : ℕ) → get_or cs i 0 < p) → leading (take n cs) < p
 leading_below p pos zero cs h = (unfold leading in pos)
@@ -66,6 +55,21 @@ scaled_zero p f k c ks cs e = rw (eq-eqb c 0 e, scaled_terms)
 pub scaled_here : (p f k c : ℕ) (ks cs : List ℕ) → ¬ (c ≡ 0) → scaled_terms p f (k ∷ ks) (c ∷ cs) ≡ keyed k ((c * f) % p) ∷ scaled_terms p f ks cs
 unfolding scaled_terms
 scaled_here p f k c ks cs n = rw (ne_eqb c 0 n, scaled_terms)
+
+-- not more terms than keys
+scaled_count : (p f : ℕ) (ks cs : List ℕ) → length (scaled_terms p f ks cs) ≤ length ks
+unfolding scaled_terms
+scaled_count p f [] cs = omega arith
+scaled_count p f (k ∷ ks) [] = omega arith
+scaled_count p f (k ∷ ks) (c ∷ cs) =
+    let h = scaled_count p f ks cs in
+    elim (ℕ_discrete c 0) [
+      | yes e ↦ rw (scaled_zero p f k c ks cs e) (omega arith)
+      | no n ↦ rw (scaled_here p f k c ks cs n) (omega arith)
+    ]
+
+pub monic_count : (p : ℕ) (ks cs : List ℕ) → length (monic_terms p ks cs) ≤ length ks
+monic_count p ks cs = scaled_count p _ ks cs
 
 module _ (p : ℕ) (P : Prime p) where
   abbrev K : Field

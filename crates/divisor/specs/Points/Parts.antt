@@ -1,11 +1,13 @@
 -- Parts of a list with as many numbers for each index: the a numbers of index i stand from the place a * i on. Numbers that are stored as the part of
 -- an index are that part, and the other parts stay. A loop stores them one after the other.
-use Rattle.std.specs.Prelude.{◌≡◌, refl, ◌⊎◌, List, ℕ, suc, ◌+◌, ◌-◌, ◌*◌, ◌≤◌, ◌<◌, min, length, get_or, set, take, drop}
-use Rattle.std.proofs.Common.{sym, ◌∙◌, ap, inl, inr, add-zero, mul-suc, mul-le-mul_left, arith, length-take, length-drop, length-take-le, get_or-take, get_or-drop, ext_get_or}
+use Rattle.std.specs.Prelude.{◌≡◌, refl, ◌⊎◌, List, ℕ, suc, ◌+◌, ◌-◌, ◌*◌, ◌≤◌, ◌<◌, min, length, get_or, take, drop}
+use Rattle.std.proofs.Common.{sym, ◌∙◌, ap, inl, inr, mul-suc, mul-le-mul_left, arith, length-take, length-drop, rules, length-take-le, get_or-take, get_or-drop, ext_get_or}
 use Rattle.std.proofs.Math.Decide.{dec_lt}
 use Rattle.std.proofs.Math.Nat.{min-le_left}
-use Rattle.field.specs.Loops.Filled.{FilledPart}
-use Rattle.field.specs.Loops.Cells.{cells_length, cells_at, cells_all, past_end, between_in, between_out, part_start, part_next, part_end}
+use Rattle.std.proofs.lemmas.List.{places}
+use borrow.Rule.Slice.PartMut.{mid_of, put_mid, same_len_mid}
+use Rattle.field.specs.Loops.Filled.{between}
+use Rattle.field.specs.Loops.Cells.{cells_length, cells_at, cells_all, cells_is, past_end, between_in, between_out}
 use Rattle.divisor.specs.Points.PartsModel.{part, stored}
 
 module _ (a i : ℕ) (list : List ℕ) where
@@ -33,9 +35,9 @@ module _ (a i : ℕ) (list : List ℕ) where
     | no l ↦ rw (past_end (length (part a i list)) j (part a i list) refl (omega (arith, part_within))) none
   ]
 
--- the list r, while a loop stores n numbers from a place on: the first i stand
-abbrev pub Storing : ℕ → List ℕ → ℕ → List ℕ → ℕ → List ℕ → Type 0
-Storing n numbers at list i r = FilledPart at (at + n) (λ k. get_or numbers (k - at) 0) (length list) list (at + i) r
+
+
+
 
 -- n numbers stored from a place on
 module _ (n : ℕ) (numbers : List ℕ) (at : ℕ) (list : List ℕ) where
@@ -51,18 +53,25 @@ module _ (n : ℕ) (numbers : List ℕ) (at : ℕ) (list : List ℕ) where
   stored_else k o =
       cells_all (λ x. x ≡ get_or list k 0) _ (length list) k (λ l. between_out at (at + n) _ list k o) (λ l. sym (past_end (length list) k list refl l))
 
-  pub storing_start : at ≤ length list → Storing n numbers at list 0 list
-  storing_start fits = rw (add-zero at) (part_start fits refl)
+  -- as they are copied into a part of the list
+  module _ (as_long : length numbers ≡ length (mid_of at (at + n - at) list)) (fits : at + n ≤ length list) where
+    abbrev copied : List ℕ
+    copied = put_mid at (at + n - at) list numbers
 
-  module _ {i : ℕ} {r : List ℕ} (h : Storing n numbers at list i r) where
-    pub storing_next : i < n → at + n ≤ length list → Storing n numbers at list (i + 1) (set r (at + i) (get_or numbers i 0))
-    storing_next l fits =
-        let e : at + (i + 1) ≡ at + i + 1 = omega arith in
-        let k : i ≡ at + i - at = omega arith in
-        rw e (part_next h (omega arith) fits (ap (λ (m : ℕ). get_or numbers m 0) k))
+    long : length numbers ≡ n
+    long = omega (arith, length-take (at + n - at) (drop at list), length-drop at list)
 
-    pub storing_end : n ≤ i → r ≡ stored n numbers at list
-    storing_end l = part_end h (omega arith)
+    copied_at : (k : ℕ) → get_or copied k 0 ≡ between at (at + n) (λ k. get_or numbers (k - at) 0) list k
+    copied_at k = let e = long in elim (dec_lt k at) [
+      | yes l ↦ rw (between_out at (at + n) (λ k. get_or numbers (k - at) 0) list k (inl l)) (search (rules, places))
+      | no l ↦ elim (dec_lt k (at + n)) [
+        | yes m ↦ rw (between_in at (at + n) (λ k. get_or numbers (k - at) 0) list k (omega arith) m) (search (rules, places))
+        | no m ↦ rw (between_out at (at + n) (λ k. get_or numbers (k - at) 0) list k (inr (omega arith))) (search (rules, places))
+      ]
+    ]
+
+    pub stored_is : copied ≡ stored n numbers at list
+    stored_is = cells_is _ (length list) copied (same_len_mid at (at + n - at) list numbers as_long) (λ k l. copied_at k)
 
 -- the places of one index are not those of another
 elsewhere : (a i k j : ℕ) → ¬ (k ≡ i) → j < a → (a * k + j < a * i) ⊎ (a * i + a ≤ a * k + j)

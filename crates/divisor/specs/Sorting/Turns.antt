@@ -29,21 +29,22 @@ module _ (list : List ℕ) (n i : ℕ) where
   alike_end m l h = ap (alike m) (drop_of_length-le (take n list) {i = i} (let e = length-take-le n list l in omega arith))
 
 -- a loop over keys and their coefficients: the terms of those left
-module _ (p f : ℕ) (ks values : List ℕ) (i : ℕ) (long : length ks ≤ length values) where
-  abbrev pub terms_left : ℕ → List ℕ
-  terms_left i = scaled_terms p f (drop i ks) (drop i (take (length ks) values))
+abbrev pub terms_left : ℕ → ℕ → List ℕ → List ℕ → ℕ → List ℕ
+terms_left p f ks values i = scaled_terms p f (drop i ks) (drop i (take (length ks) values))
 
+module _ (p f : ℕ) (ks values : List ℕ) (i : ℕ) (long : length ks ≤ length values) where
   keys_left : i < length ks → drop i ks ≡ get_or ks i 0 ∷ drop (i + 1) ks
   keys_left h = drop-cons ks i 0 h ∙ ap (λ (k : ℕ). get_or ks i 0 ∷ drop k ks) (sym (add-one i))
 
-  pub left_passed : i < length ks → get_or values i 0 ≡ 0 → terms_left i ≡ terms_left (i + 1)
+  pub left_passed : i < length ks → get_or values i 0 ≡ 0 → terms_left p f ks values i ≡ terms_left p f ks values (i + 1)
   left_passed h e =
       ap₂ (scaled_terms p f) (keys_left h) (next_left values (length ks) i long h) ∙ scaled_zero p f (get_or ks i 0) (get_or values i 0) _ _ e
 
-  pub left_taken : i < length ks → ¬ (get_or values i 0 ≡ 0) → terms_left i ≡ keyed (get_or ks i 0) ((get_or values i 0 * f) % p) ∷ terms_left (i + 1)
+  pub left_taken : i < length ks → ¬ (get_or values i 0 ≡ 0)
+      → terms_left p f ks values i ≡ keyed (get_or ks i 0) ((get_or values i 0 * f) % p) ∷ terms_left p f ks values (i + 1)
   left_taken h e =
       ap₂ (scaled_terms p f) (keys_left h) (next_left values (length ks) i long h) ∙ scaled_here p f (get_or ks i 0) (get_or values i 0) _ _ e
 
-  pub left_none : length ks ≤ i → terms_left i ≡ []
+  pub left_none : length ks ≤ i → terms_left p f ks values i ≡ []
   unfolding scaled_terms
   left_none h = ap (λ (l : List ℕ). scaled_terms p f l (drop i (take (length ks) values))) (drop_of_length-le ks {i = i} h)

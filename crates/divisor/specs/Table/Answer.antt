@@ -1,6 +1,6 @@
 -- The table's answer is right: for equations of n unknowns, taken one after the other into the empty table, `None` says that there is no solution,
 -- `One` that the values are the only one, and `Several` that there are two different ones.
-use Rattle.std.specs.Prelude.{◌≡◌, Bool, true, false, ℕ, suc, ◌-◌, ◌<◌, length, get_or}
+use Rattle.std.specs.Prelude.{◌≡◌, Bool, true, false, not, eqb, ℕ, suc, ◌-◌, ◌<◌, length, get_or}
 use Rattle.std.proofs.Math.Path.{refl, sym, ap}
 use Rattle.std.proofs.Common.{◌∙◌, subst, arith, length-set}
 use mathlib.Core.List.{List, [], ◌∷◌}
@@ -9,19 +9,17 @@ use Rattle.algebra.specs.Linear.{unsolvable, one, several, Meets, OnlySolution}
 use Rattle.algebra.specs.Models.Elimination.{Table as Equations, fresh, has_failed, has_free, steps, solution, answer}
 use Rattle.algebra.specs.Laws.Linear.{solve_meets}
 use Rattle.field.specs.Moduli.{Listed}
-use Rattle.field.specs.Modulus.Laws.{listed_positive}
 use Rattle.field.specs.Prime.{Prime}
 use Rattle.field.specs.Fp.{Fp, el}
 use Rattle.field.specs.Modulo.{Modulo}
-use Rattle.field.specs.Loops.Places.{replicate_all}
 use Rattle.field.specs.Loops.Fold.{fold_always, downwards}
 use Rattle.divisor.specs.declared.table.Row.{Row}
 use Rattle.divisor.specs.declared.table.Table.{Table}
-use Rattle.divisor.specs.declared.table.Kind.TheVariants.{None, One, Several}
-use Rattle.divisor.specs.Table.Model.{most_columns, empty_table, with_row, kind, back, zeros, solved_as, solved, TableReady}
+use Rattle.divisor.specs.declared.table.Solution.TheVariants.{None, One, Several}
+use Rattle.divisor.specs.Table.Model.{most_columns, empty_table, diagonal, with_row, some_free, back, values, zeros, solved_as, solved, TableReady}
 use Rattle.divisor.specs.Table.Meaning.{table_of, added, rows_of, AllReady, Says}
 use Rattle.divisor.specs.Table.Added.{added_ready, added_columns}
-use Rattle.divisor.specs.Table.Columns.{empty_columns, kind_as, full_columns, kind_by_columns}
+use Rattle.divisor.specs.Table.Columns.{empty_columns, full_columns, solved_by_columns}
 use Rattle.divisor.specs.Table.Step.{table_step}
 use Rattle.divisor.specs.Table.Kept.{empty_ready, with_row_ready, with_row_columns}
 use Rattle.divisor.specs.Table.Solution.{values_solve, values_below}
@@ -32,9 +30,9 @@ module _ (p : ℕ) (P : Prime p) where
 
   -- the answer of a ready table that means these equations
   ready_answers : (t : Table) → TableReady p t → (n : ℕ) → suc n ≡ t.columns → (es : List Row)
-      → table_of p n t ≡ steps K (fresh n) (rows_of p n es) → Says p P n (rows_of p n es) (solved p t).kind (solved p t).values
+      → table_of p n t ≡ steps K (fresh n) (rows_of p n es) → Says p P n (rows_of p n es) (solved p t)
   ready_answers t ready n size es means =
-      subst (λ k. Says p P n (rows_of p n es) (solved_as k p t).kind (solved_as k p t).values) (sym (kind_by_columns p t n size))
+      subst (Says p P n (rows_of p n es)) (sym (solved_by_columns p t n size))
       (go (has_failed T) (has_free T) refl (subst (λ u. Meets K n (rows_of p n es) (answer K u)) (sym means) (solve_meets K n (rows_of p n es))))
     where
       T : Equations (Fp p)
@@ -46,7 +44,7 @@ module _ (p : ℕ) (P : Prime p) where
             | true ↦ unsolvable
             | false ↦ elim f [ false ↦ one (solution K (el p 0) T) | true ↦ several (solution K (el p 0) T) (solution K (el p 1) T) ]
           ])
-          → Says p P n (rows_of p n es) (solved_as (kind_as b f) p t).kind (solved_as (kind_as b f) p t).values
+          → Says p P n (rows_of p n es) (solved_as b f p t)
       go true f e m = m
       go false true e m = (solution K (el p 0) T, solution K (el p 1) T, m)
       go false false e m =
@@ -63,27 +61,30 @@ module _ (p : ℕ) (P : Prime p) where
 
   -- equations of n unknowns, one after the other, and the answer
   pub table_answers : (n : ℕ) → n < most_columns → (es : List Row) → Listed p → AllReady p es
-      → let s = solved p (added p (empty_table (suc n)) es) in Says p P n (rows_of p n es) s.kind s.values
+      → Says p P n (rows_of p n es) (solved p (added p (empty_table (suc n)) es))
   table_answers n most es listed ok =
       let ready = empty_ready p (suc n) listed (record { some = omega arith; most = omega arith }) in
       ready_answers (added p (empty_table (suc n)) es) (added_ready p (empty_table (suc n)) es ready ok) n
       (sym (added_columns p (empty_table (suc n)) es ok)) es
       (added_means n (empty_table (suc n)) ready refl es ok ∙ ap (λ u. steps K u (rows_of p n es)) (empty_columns p (suc n) 0 n))
 
--- the values are numbers below p, whatever the kind
-pub solved_below : (p : ℕ) (t : Table) → TableReady p t → (k : ℕ) → get_or (solved p t).values k 0 < p
-solved_below p t ready k =
-    let h = listed_positive ready.listed in
-    let zero_below : get_or zeros k 0 < p = replicate_all (λ a. a < p) most_columns k 0 0 h h in
-    elim (kind t) as (λ x. get_or (solved_as x p t).values k 0 < p) [ None ↦ zero_below | One ↦ values_below p t ready k | Several ↦ zero_below ]
+-- the values of the only solution are those of back substitution
+solved_values : (p : ℕ) (t : Table) (v : List ℕ) → solved p t ≡ One v → v ≡ values p t
+unfolding solved
+solved_values p t v e = go (not (eqb (diagonal t (t.columns - 1)) 0)) (some_free (t.columns - 1) 0 t) e
+  where
+    go : (b f : Bool) → solved_as b f p t ≡ One v → v ≡ values p t
+    go true f q = cc
+    go false true q = cc
+    go false false q = cc
 
--- and as many as a row has cells
 back_length : (p : ℕ) (t : Table) (j : ℕ) (v : List ℕ) → length (back j p t v) ≡ length v
 back_length p t j v = fold_always (λ w. length w ≡ length v) (λ i w e. length-set w i _ ∙ e) (downwards j) v refl
 
-pub solved_length : (p : ℕ) (t : Table) → length (solved p t).values ≡ most_columns
-solved_length p t = elim (kind t) as (λ x. length (solved_as x p t).values ≡ most_columns) [
-  | None ↦ refl
-  | One ↦ back_length p t (t.columns - 1) zeros
-  | Several ↦ refl
-]
+-- they are numbers below p, as many as a row has cells
+module _ (p : ℕ) (t : Table) (v : List ℕ) (e : solved p t ≡ One v) where
+  pub solved_below : TableReady p t → (k : ℕ) → get_or v k 0 < p
+  solved_below ready k = rw (solved_values p t v e) (values_below p t ready k)
+
+  pub solved_length : length v ≡ most_columns
+  solved_length = ap length (solved_values p t v e) ∙ back_length p t (t.columns - 1) zeros

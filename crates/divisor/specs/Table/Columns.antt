@@ -1,4 +1,4 @@
--- The columns of a table, told by its diagonal: which are free, whether the last has failed, and so the kind.
+-- The columns of a table, told by its diagonal: which are free, whether the last has failed, and so how many solutions there are.
 use Rattle.std.specs.Prelude.{◌≡◌, refl, Bool, true, false, not, List, ℕ, zero, suc, ◌+◌, ◌-◌, ◌<◌, ◌≤◌, eqb}
 use Rattle.std.proofs.Common.{sym, ap₂, ◌∙◌, true≢false, arith, eq-eqb, ne_eqb}
 use Rattle.std.proofs.Math.Path.{ap}
@@ -6,12 +6,10 @@ use Rattle.std.proofs.Math.Decide.{ℕ_discrete}
 use Rattle.algebra.specs.Models.Elimination.{Table as Equations, solvable, failed, free, pivot, fresh, has_failed, has_free}
 use Rattle.field.specs.Fp.{Fp}
 use Rattle.divisor.specs.declared.table.Table.{Table}
-use Rattle.divisor.specs.declared.table.Kind.{Kind}
-use Rattle.divisor.specs.declared.table.Kind.TheVariants.{None, One, Several}
-use Rattle.divisor.specs.Table.Model.{row_at, cell, diagonal, empty_table, kind_from, kind}
+use Rattle.divisor.specs.Table.Model.{row_at, cell, diagonal, empty_table, some_free, solved_as, solved}
 use Rattle.divisor.specs.Table.Meaning.{entries, column, last_column, columns_of, table_of}
 use Rattle.divisor.specs.Table.Kept.{empty_cell}
-use Rattle.divisor.specs.Table.Turns.{several_from}
+use Rattle.divisor.specs.Table.Turns.{some_free_from}
 
 -- the columns of a table, by the diagonal
 module _ (p : ℕ) (t : Table) (i : ℕ) where
@@ -58,22 +56,13 @@ empty_columns p columns i zero = last_solvable p (empty_table columns) i (empty_
 empty_columns p columns i (suc n) =
     column_free p (empty_table columns) i n (empty_cell columns i i) ∙ ap free (empty_columns p columns (suc i) n)
 
--- the kind by the columns
-abbrev pub some_kind : Bool → Kind
-some_kind true = Several
-some_kind false = One
-
-abbrev pub kind_as : Bool → Bool → Kind
-kind_as true b = None
-kind_as false b = some_kind b
-
-free_columns : (p : ℕ) (t : Table) (n i : ℕ) → kind_from n i t ≡ some_kind (has_free (columns_of p t i n))
-unfolding kind_from columns_of
+free_columns : (p : ℕ) (t : Table) (n i : ℕ) → some_free n i t ≡ has_free (columns_of p t i n)
+unfolding some_free columns_of
 free_columns p t zero i =
-    elim (eqb (diagonal t i) 0) as (λ b. One ≡ some_kind (has_free (last_column {A = Fp p} b))) [ true ↦ refl | false ↦ refl ]
+    elim (eqb (diagonal t i) 0) as (λ b. false ≡ has_free (last_column {A = Fp p} b)) [ true ↦ refl | false ↦ refl ]
 free_columns p t (suc n) i = elim (ℕ_discrete (diagonal t i) 0) [
-  | yes z ↦ rw (eq-eqb (diagonal t i) 0 z, kind_from, columns_of)
-  | no z ↦ rw (ne_eqb (diagonal t i) 0 z, kind_from, columns_of) (free_columns p t n (suc i))
+  | yes z ↦ rw (eq-eqb (diagonal t i) 0 z, some_free, columns_of)
+  | no z ↦ rw (ne_eqb (diagonal t i) 0 z, some_free, columns_of) (free_columns p t n (suc i))
 ]
 
 failed_columns : (p : ℕ) (t : Table) (last n i : ℕ) → i + n ≡ last → has_failed (columns_of p t i n) ≡ not (eqb (diagonal t last) 0)
@@ -90,19 +79,13 @@ failed_columns p t last (suc n) i h =
 
 -- a row is kept in every column before the last
 pub full_columns : (p : ℕ) (t : Table) (n i : ℕ) → has_free (columns_of p t i n) ≡ false → (k : ℕ) → i ≤ k → k < i + n → ¬ (diagonal t k ≡ 0)
-full_columns p t n i f k h m z =
-    true≢false
-    (ap (λ (x : Kind). elim x [ None ↦ true | One ↦ true | Several ↦ false ])
-    (ap some_kind (sym f) ∙ sym (free_columns p t n i) ∙ several_from t n i k h m z))
+full_columns p t n i f k h m z = true≢false (sym (some_free_from p t n i k h m z) ∙ free_columns p t n i ∙ f)
 
--- the code's kind is that of the field's table
-pub kind_by_columns : (p : ℕ) (t : Table) (n : ℕ) → suc n ≡ t.columns → kind t ≡ kind_as (has_failed (table_of p n t)) (has_free (table_of p n t))
-unfolding kind
-kind_by_columns p t n size =
+-- what the code answers is by the field's table
+pub solved_by_columns : (p : ℕ) (t : Table) (n : ℕ) → suc n ≡ t.columns
+    → solved p t ≡ solved_as (has_failed (table_of p n t)) (has_free (table_of p n t)) p t
+unfolding solved
+solved_by_columns p t n size =
     let last : t.columns - 1 ≡ n = omega arith in
-    ap {B = Kind} (λ m. elim (eqb (diagonal t m) 0) [ true ↦ kind_from m 0 t | false ↦ None ]) last
-    ∙ elim (eqb (diagonal t n) 0) as (λ b. elim b [ true ↦ kind_from n 0 t | false ↦ None ] ≡ kind_as (not b) (has_free (table_of p n t))) [
-      | true ↦ free_columns p t n 0
-      | false ↦ refl
-    ]
-    ∙ ap (λ b. kind_as b (has_free (table_of p n t))) (sym (failed_columns p t n n 0 (omega arith)))
+    ap (λ m. solved_as (not (eqb (diagonal t m) 0)) (some_free m 0 t) p t) last
+    ∙ ap₂ (λ b f. solved_as b f p t) (sym (failed_columns p t n n 0 (omega arith))) (free_columns p t n 0)

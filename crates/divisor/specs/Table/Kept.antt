@@ -1,17 +1,15 @@
 -- The empty table is ready. A row that is kept stands in its column, and the other rows stay. A step keeps the table ready for the next equation,
 -- with as many columns as it had.
-use Rattle.std.specs.Prelude.{◌≡◌, refl, List, ℕ, zero, suc, ◌+◌, ◌*◌, ◌<◌, ◌≤◌, length}
-use Rattle.std.proofs.Common.{sym, ap, ◌∙◌, subst, arith}
+use Rattle.std.specs.Prelude.{◌≡◌, refl, ℕ, zero, suc, ◌+◌, ◌<◌, ◌≤◌, length}
+use Rattle.std.proofs.Common.{◌∙◌, arith, length-set, get_or-set_same, get_or-set_other}
 use Rattle.std.proofs.Math.Decide.{ℕ_discrete}
 use Rattle.std.proofs.lemmas.List.{length-replicate}
 use Rattle.field.specs.Moduli.{Listed}
 use Rattle.field.specs.Modulus.Laws.{listed_positive}
-use Rattle.field.specs.Loops.Cells.{cells_length}
-use Rattle.field.specs.Loops.Places.{replicate_all}
+use Rattle.field.specs.Loops.Places.{replicate_all, set_all}
 use Rattle.divisor.specs.declared.table.Row.{Row}
 use Rattle.divisor.specs.declared.table.Table.{Table}
-use Rattle.divisor.specs.Points.Parts.{part_all, stored_length, part_stored, part_other}
-use Rattle.divisor.specs.Table.Model.{most_columns, most_cells, row_at, cell, diagonal, empty_table, minus, scaled_row, kept, insert}
+use Rattle.divisor.specs.Table.Model.{most_columns, no_row, zero_row, row_at, cell, diagonal, empty_table, minus, scaled_row, kept, insert}
 use Rattle.divisor.specs.Table.Model.{with_row, Columns, RowReady, TableReady}
 use Rattle.divisor.specs.Table.Rows.{minus_ready, scaled_ready}
 use Rattle.divisor.specs.Table.Turns.{insert_at_zero, insert_at_free, insert_at_kept}
@@ -19,13 +17,13 @@ use Rattle.divisor.specs.Table.Turns.{insert_at_zero, insert_at_free, insert_at_
 -- every cell of the empty table is 0
 pub empty_cell : (columns i k : ℕ) → cell (row_at (empty_table columns) i) k ≡ 0
 empty_cell columns i k =
-    part_all most_columns i (empty_table columns).cells (λ a. a ≡ 0) (λ j. replicate_all (λ a. a ≡ 0) most_cells j 0 0 refl refl) refl k
+    replicate_all (λ (r : Row). cell r k ≡ 0) most_columns i zero_row no_row (replicate_all (λ a. a ≡ 0) most_columns k 0 0 refl refl) refl
 
 pub empty_ready : (p columns : ℕ) → Listed p → Columns columns → TableReady p (empty_table columns)
 empty_ready p columns listed fit = record {
   listed = listed;
   columns = fit;
-  size = length-replicate {A = ℕ} most_cells 0;
+  size = length-replicate most_columns zero_row;
   below = λ i k. omega (arith, empty_cell columns i k, listed_positive listed);
 }
 
@@ -34,25 +32,18 @@ module _ (p : ℕ) (t : Table) (j : ℕ) (e : Row) where
   abbrev new : Row
   new = scaled_row p e j t.columns
 
-  pub kept_here : length t.cells ≡ most_cells → j < most_columns → row_at (kept p t j e) j ≡ new
-  kept_here size h =
-      ap (λ (l : List ℕ). record { cells = l }) (part_stored most_columns j new.cells t.cells (cells_length _ most_columns) (omega arith))
+  pub kept_here : length t.rows ≡ most_columns → j < most_columns → row_at (kept p t j e) j ≡ new
+  kept_here size h = get_or-set_same t.rows j new no_row (omega arith)
 
   pub kept_other : (k : ℕ) → ¬ (k ≡ j) → row_at (kept p t j e) k ≡ row_at t k
-  kept_other k other = ap (λ (l : List ℕ). record { cells = l }) (part_other most_columns j new.cells t.cells k other)
+  kept_other k other = get_or-set_other t.rows j k new no_row other
 
   kept_ready : TableReady p t → RowReady p e → j < t.columns → TableReady p (kept p t j e)
   kept_ready ready ok h = record {
     listed = ready.listed;
     columns = ready.columns;
-    size = stored_length most_columns new.cells (most_columns * j) t.cells ∙ ready.size;
-    below = λ i k. elim (ℕ_discrete i j) [
-      | yes q ↦
-          subst (λ (m : ℕ). cell (row_at (kept p t j e) m) k < p) (sym q)
-          (subst (λ (r : Row). cell r k < p) (sym (kept_here ready.size (omega (arith, ready.columns.most))))
-          ((scaled_ready p e j t.columns ok).below k))
-      | no q ↦ subst (λ (r : Row). cell r k < p) (sym (kept_other i q)) (ready.below i k)
-    ];
+    size = length-set t.rows j new ∙ ready.size;
+    below = λ i k. set_all (λ (r : Row). cell r k < p) t.rows j i new no_row ((scaled_ready p e j t.columns ok).below k) (ready.below i k);
   }
 
 -- What the table has, and has with each row kept that the step can reach, it has after the step. R is what is known of the rows on the way.

@@ -1,5 +1,5 @@
 -- What the equation table means: the numbers of a row are its entries in the field, the rows on the diagonal are algebra's table, column by column,
--- and a kind with its values says how many solutions the equations have.
+-- and a solution says how many solutions the equations have.
 use Rattle.std.specs.Prelude.{Bool, true, false, List, [], ◌∷◌, map, ℕ, zero, suc, eqb, get_or}
 use Rattle.algebra.specs.Linear.{NoSolution, OnlySolution, DifferentSolutions}
 use Rattle.algebra.specs.Models.Elimination.{Table as Equations, solvable, failed, free, pivot}
@@ -8,8 +8,8 @@ use Rattle.field.specs.Fp.{Fp, el}
 use Rattle.field.specs.Modulo.{Modulo}
 use Rattle.divisor.specs.declared.table.Row.{Row}
 use Rattle.divisor.specs.declared.table.Table.{Table}
-use Rattle.divisor.specs.declared.table.Kind.{Kind}
-use Rattle.divisor.specs.declared.table.Kind.TheVariants.{None, One, Several}
+use Rattle.divisor.specs.declared.table.Solution.{Solution}
+use Rattle.divisor.specs.declared.table.Solution.TheVariants.{None, One, Several}
 use Rattle.divisor.specs.Table.Model.{row_at, diagonal, with_row, RowReady}
 
 -- n numbers from place i on
@@ -51,8 +51,8 @@ abbrev pub AllReady : ℕ → List Row → Type 0
 AllReady p [] = Unit {0}
 AllReady p (e ∷ es) = RowReady p e × AllReady p es
 
--- what a kind and values say of equations of n unknowns modulo a prime
-abbrev pub Says : (p : ℕ) → Prime p → (n : ℕ) → List (List (Fp p)) → Kind → List ℕ → Type 0
-Says p P n rows None values = NoSolution (Modulo p P) n rows
-Says p P n rows One values = OnlySolution (Modulo p P) n rows (entries p values 0 n)
-Says p P n rows Several values = (v w : List (Fp p)) × DifferentSolutions (Modulo p P) n rows v w
+-- what a solution says of equations of n unknowns modulo a prime
+abbrev pub Says : (p : ℕ) → Prime p → (n : ℕ) → List (List (Fp p)) → Solution → Type 0
+Says p P n rows None = NoSolution (Modulo p P) n rows
+Says p P n rows (One values) = OnlySolution (Modulo p P) n rows (entries p values 0 n)
+Says p P n rows Several = (v w : List (Fp p)) × DifferentSolutions (Modulo p P) n rows v w

@@ -1,15 +1,10 @@
--- The cells of a row, in the list of all; and rows that are altered from a column on: each altered place has its new number, and all numbers stay
--- below p.
-use Rattle.std.specs.Prelude.{◌≡◌, List, ℕ, ◌+◌, ◌*◌, ◌<◌, ◌≤◌, get_or}
+-- Rows that are altered from a column on: each altered place has its new number, and all numbers stay below p.
+use Rattle.std.specs.Prelude.{◌≡◌, ℕ, ◌<◌, ◌≤◌}
 use Rattle.std.proofs.Common.{◌∙◌, mod-lt, arith}
 use Rattle.field.specs.Loops.Filled.{between}
 use Rattle.field.specs.Loops.Cells.{cells_length, cells_at, cells_all, between_in, between_all}
 use Rattle.divisor.specs.declared.table.Row.{Row}
-use Rattle.divisor.specs.Points.Parts.{part_at}
-use Rattle.divisor.specs.Table.Model.{most_columns, cell, row_in, altered, minus, scaled_row, RowReady}
-
-pub cell_in : (cells : List ℕ) (j k : ℕ) → k < most_columns → cell (row_in cells j) k ≡ get_or cells (most_columns * j + k) 0
-cell_in cells j = part_at most_columns j cells
+use Rattle.divisor.specs.Table.Model.{most_columns, cell, altered, minus, scaled_row, RowReady}
 
 pub altered_at : (j n : ℕ) (h : ℕ → ℕ) (e : Row) (k : ℕ) → j ≤ k → k < n → k < most_columns → cell (altered j n h e) k ≡ h k
 altered_at j n h e k from to small =

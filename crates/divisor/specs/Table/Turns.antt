@@ -1,16 +1,15 @@
 -- The table's models one turn at a time, as the loops of the code move.
-use Rattle.std.specs.Prelude.{◌≡◌, List}
+use Rattle.std.specs.Prelude.{◌≡◌, Bool, true, false}
 use Rattle.std.proofs.Math.Path.{refl, ap}
 use Rattle.std.proofs.Common.{sym, ◌∙◌, subst, add-one}
 use Prim.Native.Nat.{ℕ, zero, suc, ◌+◌, ◌-◌, ◌<◌, ◌≤◌}
 use Rattle.std.proofs.Math.Decide.{ℕ_discrete}
 use native.Mathlib.Omega.{arith}
-use borrow.Author.Tests.{eq-eqb, ne_eqb, lt-ltb, le-ltb}
+use borrow.Author.Tests.{eq-eqb, ne_eqb}
 use Rattle.divisor.specs.declared.table.Row.{Row}
 use Rattle.divisor.specs.declared.table.Table.{Table}
-use Rattle.divisor.specs.declared.table.Reduced.{Reduced}
-use Rattle.divisor.specs.declared.table.Kind.TheVariants.{None, One, Several}
-use Rattle.divisor.specs.Table.Model.{row_at, cell, diagonal, minus, with_cells, kept, insert, keeping, kind_from, kind}
+use Rattle.divisor.specs.declared.table.Solution.TheVariants.{None, One, Several}
+use Rattle.divisor.specs.Table.Model.{row_at, cell, diagonal, minus, kept, insert, some_free, values, solved_as, solved}
 
 -- a step at one column
 module _ (p : ℕ) (t : Table) (e : Row) (j n : ℕ) where
@@ -53,45 +52,36 @@ module _ (p : ℕ) (t : Table) (e : Row) (j : ℕ) where
   unfolding insert
   insert_end h = let q : t.columns - j ≡ 0 = omega arith in ap (λ n. insert n j p t e) q
 
--- what a step hands back
-module _ (cells : List ℕ) (columns : ℕ) (r : Reduced) where
-  pub keeping_kept : r.column < columns → keeping cells columns r ≡ with_cells cells r.column r.row
-  unfolding keeping
-  keeping_kept h = rw (lt-ltb r.column columns h, keeping)
-
-  pub keeping_none : columns ≤ r.column → keeping cells columns r ≡ cells
-  unfolding keeping
-  keeping_none h = rw (le-ltb r.column columns h, keeping)
-
-module _ (t : Table) where
-  pub kind_none : ¬ (diagonal t (t.columns - 1) ≡ 0) → kind t ≡ None
-  unfolding kind
-  kind_none z = rw (ne_eqb (diagonal t (t.columns - 1)) 0 z, kind)
+-- how many solutions there are
+module _ (p : ℕ) (t : Table) where
+  pub solved_none : ¬ (diagonal t (t.columns - 1) ≡ 0) → solved p t ≡ None
+  unfolding solved
+  solved_none z = rw (ne_eqb (diagonal t (t.columns - 1)) 0 z, solved)
 
   -- a column without a row makes several solutions
-  pub several_from : (n i k : ℕ) → i ≤ k → k < i + n → diagonal t k ≡ 0 → kind_from n i t ≡ Several
-  unfolding kind_from
-  several_from zero i k h l z = absurd (omega arith)
-  several_from (suc n) i k h l z = elim (ℕ_discrete (diagonal t i) 0) [
-    | yes y ↦ rw (eq-eqb (diagonal t i) 0 y, kind_from)
+  pub some_free_from : (n i k : ℕ) → i ≤ k → k < i + n → diagonal t k ≡ 0 → some_free n i t ≡ true
+  unfolding some_free
+  some_free_from zero i k h l z = absurd (omega arith)
+  some_free_from (suc n) i k h l z = elim (ℕ_discrete (diagonal t i) 0) [
+    | yes y ↦ rw (eq-eqb (diagonal t i) 0 y, some_free)
     | no y ↦
         let other : ¬ (k ≡ i) = λ e. y (subst (λ j. diagonal t j ≡ 0) e z) in
-        rw (ne_eqb (diagonal t i) 0 y, kind_from) (several_from n (suc i) k (omega arith) (omega arith) z)
+        rw (ne_eqb (diagonal t i) 0 y, some_free) (some_free_from n (suc i) k (omega arith) (omega arith) z)
   ]
 
-  one_from : (n i : ℕ) → ((k : ℕ) → k < i + n → ¬ (diagonal t k ≡ 0)) → kind_from n i t ≡ One
-  unfolding kind_from
-  one_from zero i h = refl
-  one_from (suc n) i h =
-      rw (ne_eqb (diagonal t i) 0 (h i (omega arith)), kind_from) (one_from n (suc i) (λ k l. h k (omega arith)))
+  none_free_from : (n i : ℕ) → ((k : ℕ) → k < i + n → ¬ (diagonal t k ≡ 0)) → some_free n i t ≡ false
+  unfolding some_free
+  none_free_from zero i h = refl
+  none_free_from (suc n) i h =
+      rw (ne_eqb (diagonal t i) 0 (h i (omega arith)), some_free) (none_free_from n (suc i) (λ k l. h k (omega arith)))
 
   module _ (z : diagonal t (t.columns - 1) ≡ 0) where
-    pub kind_several : (k : ℕ) → k < t.columns - 1 → diagonal t k ≡ 0 → kind t ≡ Several
-    unfolding kind
-    kind_several k l y =
-        rw (eq-eqb (diagonal t (t.columns - 1)) 0 z, kind) (several_from (t.columns - 1) 0 k (omega arith) (omega arith) y)
+    by_free : (b : Bool) → some_free (t.columns - 1) 0 t ≡ b → solved p t ≡ solved_as false b p t
+    unfolding solved
+    by_free b e = rw (eq-eqb (diagonal t (t.columns - 1)) 0 z, e, solved)
 
-    pub kind_one : ((k : ℕ) → k < t.columns - 1 → ¬ (diagonal t k ≡ 0)) → kind t ≡ One
-    unfolding kind
-    kind_one h =
-        rw (eq-eqb (diagonal t (t.columns - 1)) 0 z, kind) (one_from (t.columns - 1) 0 (λ k l. h k (omega arith)))
+    pub solved_several : (k : ℕ) → k < t.columns - 1 → diagonal t k ≡ 0 → solved p t ≡ Several
+    solved_several k l y = by_free true (some_free_from (t.columns - 1) 0 k (omega arith) (omega arith) y)
+
+    pub solved_one : ((k : ℕ) → k < t.columns - 1 → ¬ (diagonal t k ≡ 0)) → solved p t ≡ One (values p t)
+    solved_one h = by_free false (none_free_from (t.columns - 1) 0 (λ k l. h k (omega arith)))

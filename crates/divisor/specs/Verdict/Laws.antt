@@ -17,12 +17,11 @@ use Rattle.poly.specs.Division.Trial.{rule_says, told_ended, told_cut, told_yes}
 use Rattle.poly.specs.List.Right.{RightList}
 use Rattle.poly.specs.Rooms.Laws.{zeroed_length, cleared_again}
 use Rattle.divisor.specs.Rule.{Steps, of_first, of_both}
-use Rattle.divisor.specs.declared.monic.Divisor.{Divisor}
-use Rattle.divisor.specs.declared.table.Kind.TheVariants.{One}
-use Rattle.divisor.specs.declared.table.Solved.{Solved}
+use Rattle.divisor.specs.declared.table.Solution.{Solution}
+use Rattle.divisor.specs.declared.table.Solution.TheVariants.{One}
 use Rattle.divisor.specs.declared.verdict.Ruling.{Ruling}
-use Rattle.divisor.specs.Monic.Model.{monic_terms, IsDivisor}
-use Rattle.divisor.specs.Verdict.Model.{Both, CanDivideBoth, Takes, BothDivided, VerdictReady, Settles, Settled, Refused, only}
+use Rattle.divisor.specs.Monic.Terms.{monic_count}
+use Rattle.divisor.specs.Verdict.Model.{Both, CanDivideBoth, Takes, BothDivided, VerdictReady, divisor_terms, Settles, Settled, Refused}
 use Rattle.divisor.specs.Verdict.Model.{cut_off as settled_cut_off, rejected, accepted}
 
 -- the second division can follow the first
@@ -126,20 +125,9 @@ module _ {p : ℕ} {A B G work after : List ℕ} {ceiling : ℕ} {r : Trial} (t 
       }
 
 -- the only solution makes a divisor, which is divided into both lists
-module _ {p : ℕ} {A B ks values output work : List ℕ} (ready : VerdictReady p A B ks (only values) output work) {r : Divisor} (made : IsDivisor p ks values r)
-    {G : List ℕ} (list : G ≡ take r.count r.terms) where
+module _ {p : ℕ} {A B ks values output work : List ℕ} (ready : VerdictReady p A B ks (One values) output work) {G : List ℕ} (same : G ≡ divisor_terms p ks values) where
   abbrev terms : List ℕ
-  terms = monic_terms p ks (take (length ks) values)
-
-  same : G ≡ terms
-  same = list ∙ made.terms
-
-  counted : r.count ≡ length terms
-  counted =
-      let l = made.fits in
-      let few = ready.few in
-      let e = made.sized in
-      sym (length-take-le r.count r.terms (omega arith)) ∙ ap length made.terms
+  terms = divisor_terms p ks values
 
   pub can_divide : CanDivideBoth p A B G work
   can_divide =
@@ -150,13 +138,13 @@ module _ {p : ℕ} {A B ks values output work : List ℕ} (ready : VerdictReady 
         is_listed = ready.lists.is_listed;
         some_dividend = right.some;
         dividend_falls = right.falls;
-        some_divisor = (ready.one refl).some;
-        divisor_falls = (ready.one refl).falls;
+        some_divisor = (ready.one values refl).makes.some;
+        divisor_falls = (ready.one values refl).makes.falls;
         room = ready.room;
       }
 
   pub fits_output : length G ≤ length output
-  fits_output = let e = ap length same ∙ sym counted in let l = made.fits in let m = ready.fits in omega arith
+  fits_output = let e = ap length same in let l = monic_count p ks (take (length ks) values) in let m = ready.fits in omega arith
 
   module _ {ceiling : ℕ} {work_after : List ℕ} {q : Trial} (divided : BothDivided p A B G ceiling work work_after q) where
     takes_so : Takes p A B terms divided.steps
@@ -170,13 +158,13 @@ module _ {p : ℕ} {A B ks values output work : List ℕ} (ready : VerdictReady 
 
     -- what is refused after the divisions, by what was told of them
     refused_so : (n : ℕ) (whole : Bool) (t : Trial) → Takes p A B terms n → ((P : Prime p) → whole ≡ false → ¬ Both p P A B terms)
-        → Told ceiling n whole t → ¬ (t.number ≡ 0) → Settles p A B ks (only values) ceiling t.number [] t.steps
-    refused_so n whole t takes not (cut_off l) nonzero = settled_cut_off refl n takes l
+        → Told ceiling n whole t → ¬ (t.number ≡ 0) → Settles p A B ks (One values) ceiling t.number [] t.steps
+    refused_so n whole t takes not (cut_off l) nonzero = settled_cut_off values refl n takes l
     refused_so n true t takes not (ended l) nonzero = absurd (nonzero refl)
-    refused_so n false t takes not (ended l) nonzero = rejected refl n takes l (λ P. not P refl)
+    refused_so n false t takes not (ended l) nonzero = rejected values refl n takes l (λ P. not P refl)
 
     pub settled_rejected : ¬ (q.number ≡ 0)
-        → Settled p A B ks (only values) ceiling output output work work_after (record { number = q.number; terms = 0; steps = q.steps })
+        → Settled p A B ks (One values) ceiling output output work work_after (record { number = q.number; terms = 0; steps = q.steps })
     settled_rejected n = record {
       terms = [];
       settles = refused_so divided.steps divided.whole q takes_so not_both divided.told n;
@@ -186,35 +174,21 @@ module _ {p : ℕ} {A B ks values output work : List ℕ} (ready : VerdictReady 
     }
 
     pub settled_accepted : {output_after : List ℕ} → q.number ≡ 0 → output_after ≡ written G output
-        → Settled p A B ks (only values) ceiling output output_after work work_after (record { number = 0; terms = r.count; steps = q.steps })
+        → Settled p A B ks (One values) ceiling output output_after work work_after (record { number = 0; terms = length G; steps = q.steps })
     settled_accepted z w =
         let yes = told_yes ceiling divided.steps divided.whole q divided.told z in
         record {
           terms = terms;
-          settles = subst (Settles p A B ks (only values) ceiling 0 terms) (sym yes.2)
-              (accepted refl divided.steps takes_so yes.1 (λ P. both P yes.0));
-          count = counted;
+          settles = subst (Settles p A B ks (One values) ceiling 0 terms) (sym yes.2)
+              (accepted values refl divided.steps takes_so yes.1 (λ P. both P yes.0));
+          count = ap length same;
           writes = w ∙ ap (λ (g : List ℕ). written g output) same;
           clears = divided.room;
         }
 
 -- a refusal is settled with its number
-pub settled_refused : {p : ℕ} {A B ks : List ℕ} {s : Solved} {ceiling : ℕ} {output work work_after : List ℕ} {r : Ruling} {number : ℕ}
+pub settled_refused : {p : ℕ} {A B ks : List ℕ} {s : Solution} {ceiling : ℕ} {output work work_after : List ℕ} {r : Ruling} {number : ℕ}
     → Settles p A B ks s ceiling number [] 0 → Refused number work work_after r → Settled p A B ks s ceiling output output work work_after r
 settled_refused {p} {A} {B} {ks} {s} {ceiling} {output} {work} {work_after} e h =
     subst (Settled p A B ks s ceiling output output work work_after) (sym h.is)
     (record { terms = []; settles = e; count = refl; writes = refl; clears = h.clears })
-
--- a solution whose kind is one is the values alone
-is_only : (s : Solved) → s.kind ≡ One → only s.values ≡ s
-is_only s e = λ i. record { kind = sym e i; values = s.values }
-
-module _ {p : ℕ} {A B ks : List ℕ} (s : Solved) {output work : List ℕ} (e : s.kind ≡ One) where
-  pub only_ready : VerdictReady p A B ks s output work → VerdictReady p A B ks (only s.values) output work
-  only_ready = subst (λ (v : Solved). VerdictReady p A B ks v output work) (sym (is_only s e))
-
-  pub settled_only : {ceiling : ℕ} {output_after work_after : List ℕ} {r : Ruling}
-      → Settled p A B ks (only s.values) ceiling output output_after work work_after r
-      → Settled p A B ks s ceiling output output_after work work_after r
-  settled_only {ceiling} {output_after} {work_after} {r} =
-      subst (λ (v : Solved). Settled p A B ks v ceiling output output_after work work_after r) (is_only s e)

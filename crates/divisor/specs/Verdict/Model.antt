@@ -14,8 +14,8 @@ use Rattle.poly.specs.List.Right.{RightLists}
 use Rattle.divisor.specs.declared.CandidateRecord.{CandidateRecord}
 use Rattle.divisor.specs.Rule.{none_good, report, DividesBoth, Steps}
 use Rattle.divisor.specs.Candidate.{most_keys}
-use Rattle.divisor.specs.declared.table.Kind.TheVariants.{None, One, Several}
-use Rattle.divisor.specs.declared.table.Solved.{Solved}
+use Rattle.divisor.specs.declared.table.Solution.{Solution}
+use Rattle.divisor.specs.declared.table.Solution.TheVariants.{None, One, Several}
 use Rattle.divisor.specs.declared.verdict.Ruling.{Ruling}
 use Rattle.divisor.specs.Monic.Model.{leading, monic_terms}
 
@@ -46,30 +46,35 @@ pub record MakesDivisor (p : ℕ) (ks cs : List ℕ) : Type 0 where
   pub some : 0 < length (monic_terms p ks cs)
   pub falls : Falling p keys (monic_terms p ks cs)
 
-pub record VerdictReady (p : ℕ) (A B ks : List ℕ) (s : Solved) (output work : List ℕ) : Type 0 where
+-- values of which the first are the coefficients of a divisor
+pub record OneReady (p : ℕ) (ks values : List ℕ) : Type 0 where
+  pub long : length ks ≤ length values
+  pub below : (i : ℕ) → get_or values i 0 < p
+  pub makes : MakesDivisor p ks (take (length ks) values)
+
+pub record VerdictReady (p : ℕ) (A B ks : List ℕ) (s : Solution) (output work : List ℕ) : Type 0 where
   pub lists : RightLists p A B
   pub few : length ks ≤ most_keys
-  pub long : length ks ≤ length s.values
-  pub below : (i : ℕ) → get_or s.values i 0 < p
-  pub one : s.kind ≡ One → MakesDivisor p ks (take (length ks) s.values)
+  pub one : (values : List ℕ) → s ≡ One values → OneReady p ks values
   pub fits : length ks ≤ length output
   pub room : work_room ≤ length work
 
--- the divisor's terms, where the solution is the only one
-abbrev pub divisor_terms : ℕ → List ℕ → Solved → List ℕ
-divisor_terms p ks s = monic_terms p ks (take (length ks) s.values)
+-- the divisor's terms, of the values of the only solution
+abbrev pub divisor_terms : ℕ → List ℕ → List ℕ → List ℕ
+divisor_terms p ks values = monic_terms p ks (take (length ks) values)
 
 -- the number that the solution settles under a ceiling, the terms that are handed out, and the steps taken
-pub data Settles (p : ℕ) (A B ks : List ℕ) (s : Solved) (ceiling : ℕ) : ℕ → List ℕ → ℕ → Type 0 where
-  unsolvable : s.kind ≡ None → Settles p A B ks s ceiling NO_SOLUTION [] 0
-  several : s.kind ≡ Several → Settles p A B ks s ceiling SEVERAL_SOLUTIONS [] 0
-  cut_off : s.kind ≡ One → (n : ℕ) → Takes p A B (divisor_terms p ks s) n → ceiling < n → Settles p A B ks s ceiling CEILING_REACHED [] ceiling
-  rejected : s.kind ≡ One → (n : ℕ) → Takes p A B (divisor_terms p ks s) n → n ≤ ceiling → ((P : Prime p) → ¬ Both p P A B (divisor_terms p ks s))
+pub data Settles (p : ℕ) (A B ks : List ℕ) (s : Solution) (ceiling : ℕ) : ℕ → List ℕ → ℕ → Type 0 where
+  unsolvable : s ≡ None → Settles p A B ks s ceiling NO_SOLUTION [] 0
+  several : s ≡ Several → Settles p A B ks s ceiling SEVERAL_SOLUTIONS [] 0
+  cut_off : (values : List ℕ) → s ≡ One values → (n : ℕ) → Takes p A B (divisor_terms p ks values) n → ceiling < n → Settles p A B ks s ceiling CEILING_REACHED [] ceiling
+  rejected : (values : List ℕ) → s ≡ One values → (n : ℕ) → Takes p A B (divisor_terms p ks values) n → n ≤ ceiling
+      → ((P : Prime p) → ¬ Both p P A B (divisor_terms p ks values))
       → Settles p A B ks s ceiling DOES_NOT_DIVIDE [] n
-  accepted : s.kind ≡ One → (n : ℕ) → Takes p A B (divisor_terms p ks s) n → n ≤ ceiling → ((P : Prime p) → Both p P A B (divisor_terms p ks s))
-      → Settles p A B ks s ceiling 0 (divisor_terms p ks s) n
+  accepted : (values : List ℕ) → s ≡ One values → (n : ℕ) → Takes p A B (divisor_terms p ks values) n → n ≤ ceiling
+      → ((P : Prime p) → Both p P A B (divisor_terms p ks values)) → Settles p A B ks s ceiling 0 (divisor_terms p ks values) n
 
-pub record Settled (p : ℕ) (A B ks : List ℕ) (s : Solved) (ceiling : ℕ) (output output_after work work_after : List ℕ) (r : Ruling) : Type 0 where
+pub record Settled (p : ℕ) (A B ks : List ℕ) (s : Solution) (ceiling : ℕ) (output output_after work work_after : List ℕ) (r : Ruling) : Type 0 where
   pub terms : List ℕ
   pub settles : Settles p A B ks s ceiling r.number terms r.steps
   pub count : r.terms ≡ length terms
@@ -80,10 +85,6 @@ pub record Settled (p : ℕ) (A B ks : List ℕ) (s : Solved) (ceiling : ℕ) (o
 pub record Refused (number : ℕ) (work work_after : List ℕ) (r : Ruling) : Type 0 where
   pub is : r ≡ record { number = number; terms = 0; steps = 0 }
   pub clears : work_after ≡ cleared work
-
--- values that are the only solution
-abbrev pub only : List ℕ → Solved
-only values = record { kind = One; values = values }
 
 -- what is answered where no point of n is good; the work room is cleared
 pub record NoGoodPoint (n : ℕ) (work work_after : List ℕ) (r : CandidateRecord) : Type 0 where

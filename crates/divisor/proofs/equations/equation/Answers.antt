@@ -1,4 +1,4 @@
--- `divisor::equations::equation` meets its contract. The loop's invariant: the keys passed have their numbers, and all other cells are 0.
+-- `divisor::equations::equation` meets its contract: a turn sets the number of a key, or leaves 0.
 use Rattle.std.proofs.Common.{◌∙◌, sym, ap, ℕ, ◌%◌, get_or, arith}
 use Rattle.field.specs.Modulus.Laws.{listed_above}
 use Rattle.field.specs.Loops.Cells.{filled_next}
@@ -20,26 +20,20 @@ loop-j-preserved c =
     let p = a.u.modulus in
     let key = get_or a.skeleton.now l.j 0 in
     elim c.if-x-i.branch [
-      | then-x-i w ↦ record {
-        within = omega arith;
-        filled =
-            rw w.row-is
-            (filled_next l.invariant.filled (omega (arith, c.requires.behind, c.requires.within))
-            (ap (λ e. e.value) w.monomial_at.ensures ∙ ap (λ (n : ℕ). monomial a.y.value a.z.value a.w.value key % n) c.requires.y_same
-            ∙ sym (number_here p a.y.value a.z.value a.w.value a.i key (sym c.x.ensures ∙ w.if-x-i.true))));
-      }
-      | else-x-i w ↦ record {
-        within = omega arith;
-        filled =
-            rw w.row-is
-            (equation_passed p a.y.value a.z.value a.w.value a.skeleton.now a.i l.j l.row l.invariant.filled
-            (omega (arith, c.requires.behind, c.requires.within)) (λ e. w.if-x-i.false (c.x.ensures ∙ e)));
-      }
+      | then-x-i w ↦
+          rw w.row-is
+          (filled_next l.invariant (omega (arith, c.requires.behind, c.requires.within))
+          (ap (λ e. e.value) w.monomial_at.ensures ∙ ap (λ (n : ℕ). monomial a.y.value a.z.value a.w.value key % n) c.requires.y_same
+          ∙ sym (number_here p a.y.value a.z.value a.w.value a.i key (sym c.x.ensures ∙ w.if-x-i.true))))
+      | else-x-i w ↦
+          rw w.row-is
+          (equation_passed p a.y.value a.z.value a.w.value a.skeleton.now a.i l.j l.row l.invariant
+          (omega (arith, c.requires.behind, c.requires.within)) (λ e. w.if-x-i.false (c.x.ensures ∙ e)))
     ]
 
 pub returns : goal.returns
 returns c =
     let a = c.args in
     let l = c.loop-j in
-    equation_end a.u.modulus a.y.value a.z.value a.w.value a.skeleton.now a.i l.j l.row l.invariant.filled a.column a.u.value c.loop-j-test.false
-    l.invariant.within c.requires.behind c.requires.within
+    equation_end a.u.modulus a.y.value a.z.value a.w.value a.skeleton.now a.i l.j l.row l.invariant a.column a.u.value c.loop-j-test.false
+    (omega arith) c.requires.behind c.requires.within

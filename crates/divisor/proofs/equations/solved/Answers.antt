@@ -1,8 +1,6 @@
--- `divisor::equations::solved` meets its contract: the table was empty before the equations were added, and it is solved as it stands, since it keeps
--- its number of columns.
-use Rattle.std.proofs.Common.{◌∙◌, sym, ap, subst}
+-- `divisor::equations::solved` meets its contract: the table was empty before the equations were added, and it is solved as it stands.
+use Rattle.std.proofs.Common.{sym, subst}
 use Rattle.divisor.specs.declared.table.Table.{Table}
-use Rattle.divisor.specs.Table.Model.{table_of_cells, solved, TableReady}
 use Rattle.divisor.specs.Equations.Model.{CanAdd, AddsFirst}
 use Rattle.divisor.specs.Equations.Adding.{can_add_empty, table_solvable}
 use Rattle.divisor.proofs.equations.solved.Goals as goal
@@ -16,15 +14,15 @@ pub solution-requires : goal.solution-requires
 solution-requires c =
     let a = c.args in
     let t = c.add_equations.new.t in
-    let made = subst (λ (s : Table). AddsFirst a.n a.p s a.skeleton.now a.points.now a.places a.work.now a.n t) c.empty-t.ensures
-    c.add_equations.ensures in
-    let solvable = table_solvable c.requires made in
-    subst (TableReady a.p) (sym (ap (table_of_cells t.cells) (sym solvable.1))) solvable.0
+    (table_solvable c.requires (subst (λ (s : Table). AddsFirst a.n a.p s a.skeleton.now a.points.now a.places a.work.now a.n t) c.empty-t.ensures
+    c.add_equations.ensures)).0
 
 pub returns : goal.returns
 returns c =
     let a = c.args in
     let t = c.add_equations.new.t in
-    let made = subst (λ (s : Table). AddsFirst a.n a.p s a.skeleton.now a.points.now a.places a.work.now a.n t) c.empty-t.ensures
-    c.add_equations.ensures in
-    record { table = t; made = made; is = c.solution.ensures ∙ ap (λ n. solved a.p (table_of_cells t.cells n)) (sym (table_solvable c.requires made).1) }
+    record {
+      table = t;
+      made = subst (λ (s : Table). AddsFirst a.n a.p s a.skeleton.now a.points.now a.places a.work.now a.n t) c.empty-t.ensures c.add_equations.ensures;
+      is = c.solution.ensures;
+    }

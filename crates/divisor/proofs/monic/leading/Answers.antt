@@ -1,18 +1,21 @@
--- `divisor::monic::leading` meets its contract: where the search stops is the first coefficient but 0, and where it ends there is none.
-use Rattle.std.proofs.Common.{sym, ◌∙◌, take, arith, get_or-take}
-use Rattle.std.proofs.Math.ListN.{get_or-eq_default}
-use Rattle.std.proofs.Math.Seq.{length-take-le}
-use Rattle.poly.specs.List.Search.{search_stops, search_ends}
-use Rattle.divisor.specs.Monic.Terms.{leading_searched}
+-- `divisor::monic::leading` meets its contract: the definition's coefficient is the first that the library finds by the test.
+use Rattle.std.proofs.Common.{arith, rules, tests, sym, ◌∙◌, ap, ◌≡◌, refl, List, [], ◌∷◌, ℕ, take, not, nat_eq}
+use Rattle.std.specs.Option.{unwrap_or}
+use Rattle.std.specs.List.{find}
+use Rattle.std.proofs.lemmas.Bool.Decides.{nat_tests}
+use Rattle.std.proofs.lemmas.Iterator.{YieldsList-from_slice}
+use Rattle.std.proofs.lemmas.Iterator.Search.{find_from_yields_List}
+use Rattle.divisor.specs.Monic.Model.{leading}
 use Rattle.divisor.proofs.monic.leading.Goals as goal
 
-pub returns-then-values-i-ne0 : goal.returns-then-values-i-ne0
-returns-then-values-i-ne0 c =
-    let a = c.args in
-    sym (leading_searched a.n a.values _ (search_stops c.loop-i.invariant c.if-values-i-ne0.true) ∙ get_or-take a.n a.values _ 0 c.loop-i-test.true)
+by_test : (cs : List ℕ) → leading cs ≡ unwrap_or (find (λ c. not (nat_eq c 0)) cs) 0
+unfolding leading
+by_test [] = refl
+by_test (c ∷ cs) = grind (arith, nat_tests, by_test cs)
 
 pub returns : goal.returns
 returns c =
-    let a = c.args in
-    sym (leading_searched a.n a.values _ (search_ends c.loop-i.invariant c.loop-i-test.false)
-    ∙ get_or-eq_default (take a.n a.values) 0 (omega (arith, length-take-le a.n a.values c.requires.within)))
+    let all = take c.args.n c.args.values in
+    let found = find_from_yields_List (λ v. not (nat_eq v 0)) _ _ c.find.result c.find.ensures.ran (YieldsList-from_slice all cc)
+    (λ x b q k. search (rules, tests)) in
+    c.unwrap_or.ensures ∙ ap (λ o. unwrap_or o 0) (c.copied.ensures ∙ found) ∙ sym (by_test all)

@@ -8,6 +8,3 @@ invariant-loop-i l = record {
   within : l.i ≤ length l.points / 3;
   looks : Looks l.i l.p l.first l.second l.points l.fn.work l.work l.sizes;
 }
-
-abbrev pub decreases-loop-i : goal.decreases-loop-i
-decreases-loop-i l = length l.points / 3 - l.i

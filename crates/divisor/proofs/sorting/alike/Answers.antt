@@ -1,27 +1,14 @@
--- `divisor::sorting::alike` meets its contract. The loop's invariant: as many are m as were met and are left.
-use Rattle.std.proofs.Common.{arith}
-use Rattle.divisor.specs.Sorting.Turns.{alike_same, alike_other, alike_end}
+-- `divisor::sorting::alike` meets its contract: what the definition counts is what the library counts by a test.
+use Rattle.std.proofs.Common.{arith, ◌≡◌, refl, List, ℕ, nat_eq, rules, cond, true, false, take}
+use Rattle.std.specs.Prelude.{count_by}
+use Rattle.std.proofs.lemmas.Bool.Decides.{nat_tests}
+use Rattle.std.proofs.lemmas.List.Recursion.{is_count_by}
+use Rattle.divisor.specs.Sorting.Model.{alike}
 use Rattle.divisor.proofs.sorting.alike.Goals as goal
-use Rattle.divisor.proofs.sorting.alike.Goals.{then-sizes-i, else-sizes-i}
 
-pub loop-i-preserved : goal.loop-i-preserved
-loop-i-preserved c =
-    let a = c.args in
-    let i = c.loop-i.i in
-    elim c.if-sizes-i.branch [
-      | then-sizes-i w ↦
-          record {
-            within = omega arith;
-            few = omega arith;
-            same = omega (arith, alike_same a.sizes a.n i a.m c.requires.within c.loop-i-test.true w.if-sizes-i.true);
-          }
-      | else-sizes-i w ↦
-          record {
-            within = omega arith;
-            few = omega arith;
-            same = omega (arith, alike_other a.sizes a.n i a.m c.requires.within c.loop-i-test.true w.if-sizes-i.false);
-          }
-    ]
+by_test : (m : ℕ) (sizes : List ℕ) → alike m sizes ≡ count_by (λ s. nat_eq s m) sizes
+unfolding alike
+by_test m = is_count_by (alike m) (λ s. nat_eq s m) refl (λ s sizes. grind (arith, nat_tests))
 
 pub returns : goal.returns
-returns c = omega (arith, alike_end c.args.sizes c.args.n c.loop-i.i c.args.m c.requires.within c.loop-i-test.false)
+returns c = rw (by_test c.args.m (take c.args.n c.args.sizes)) (search rules)

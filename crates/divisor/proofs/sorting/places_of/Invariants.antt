@@ -10,6 +10,3 @@ invariant-loop-i l = record {
   counted : l.count ≡ length (places_before l.m l.sizes l.i);
   has : HasPlaces l.m l.sizes l.i l.places;
 }
-
-abbrev pub decreases-loop-i : goal.decreases-loop-i
-decreases-loop-i l = l.n - l.i
