@@ -9,6 +9,7 @@ use Rattle.field.specs.Modulus.Laws.{listed_prime}
 use Rattle.field.specs.Modulo.{Modulo}
 use Rattle.field.specs.Numbers.{SKELETON_COUNT, SKELETON_KEY, POINTS_COUNT, POINT_NUMBER}
 use Rattle.field.specs.Refusal.{Line, line, whole, first, Refuses, Passes}
+use Rattle.field.specs.declared.case.Case.{Case}
 use Rattle.field.specs.declared.faults.Fault.{Fault}
 use Rattle.poly.specs.Keys.{exponents, keys}
 use Rattle.poly.specs.Terms.{Polynomial, terms_of, numbers_of}
@@ -34,6 +35,10 @@ pub record Call : Type 0 where
 abbrev pub candidate_call : ℕ → List ℕ → List ℕ → List ℕ → List ℕ → ℕ → List ℕ → List ℕ → Call
 candidate_call p A B skeleton points ceiling output work =
     record { modulus = p; first_list = A; second_list = B; skeleton = skeleton; points = points; ceiling = ceiling; output = output; work = work }
+
+-- a call about a case
+abbrev pub call_of : Case → ℕ → List ℕ → List ℕ → Call
+call_of c = candidate_call c.modulus c.first.now c.second.now c.skeleton.now c.points.now
 
 abbrev pub most_keys : ℕ
 most_keys = 32
@@ -63,6 +68,9 @@ of_inputs p A B ks points rooms = of_lists p A B ++ (of_skeleton ks ++ (of_point
 -- of the two rooms only the lengths matter
 abbrev pub of_call : ℕ → List ℕ → List ℕ → List ℕ → List ℕ → ℕ → ℕ → List Line
 of_call p A B ks points output work = of_inputs p A B ks points (of_rooms output (length ks) work)
+
+abbrev pub of_case : Case → ℕ → ℕ → List Line
+of_case c = of_call c.modulus c.first.now c.second.now c.skeleton.now c.points.now
 
 abbrev pub table : Call → List Line
 table c = of_call c.modulus c.first_list c.second_list c.skeleton c.points (length c.output) (length c.work)

@@ -5,7 +5,7 @@ ghost use Rattle.divisor.specs.Equations.Model.{EquationReady, IsEquation, next_
 
 use crate::sorting::Places;
 use crate::table::{Column, MOST_COLUMNS, Row, Solution, Table};
-use field::{COORDINATES, Element, KeyBits, Residue};
+use field::{COORDINATES, Case, Element, KeyBits, Residue};
 use poly::POWERS;
 use poly::key::Key;
 
@@ -50,18 +50,13 @@ fn column_of(keys: usize, kept: usize, columns: usize) -> usize
 }
 
 // Equation k of n: of the kept point k / 8, for the power k % 8 of x.
-fn equation_at(
-    p: Residue,
-    skeleton: &[KeyBits],
-    points: &[Residue],
-    places: Places,
-    work: &[Residue],
-    n: Count,
-    k: Count,
-) -> Row
-    requires { OneOf p skeleton.now points.now places work.now n k }
-    ensures { IsEquationAt p skeleton.now points.now places work.now n k result }
+fn equation_at(case: &Case<'_>, places: Places, work: &[Residue], n: Count, k: Count) -> Row
+    requires { OneOf case.now.modulus case.now.skeleton.now case.now.points.now places work.now n k }
+    ensures { IsEquationAt case.now.modulus case.now.skeleton.now case.now.points.now places work.now n k result }
 {
+    let p = case.modulus;
+    let points = case.points;
+    let skeleton = case.skeleton;
     let kept = k as usize / POWERS;
     let power = k as usize % POWERS;
     let i = places[kept] as usize;
@@ -77,39 +72,29 @@ fn equation_at(
 }
 
 // The n equations of the kept points into the table that is lent, one at a time.
-fn add_equations(
-    t: &mut Table,
-    p: Residue,
-    skeleton: &[KeyBits],
-    points: &[Residue],
-    places: Places,
-    work: &[Residue],
-    n: Count,
-)
-    requires { CanAdd p t.old skeleton.now points.now places work.now n }
-    ensures { AddsFirst n p t.old skeleton.now points.now places work.now n t.new }
+fn add_equations(t: &mut Table, case: &Case<'_>, places: Places, work: &[Residue], n: Count)
+    requires { CanAdd case.now.modulus t.old case.now.skeleton.now case.now.points.now places work.now n }
+    ensures { AddsFirst n case.now.modulus t.old case.now.skeleton.now case.now.points.now places work.now n t.new }
 {
     for k in 0..n {
-        let e = equation_at(p, skeleton, points, places, work, n, k);
-        t.add_equation(e, p);
+        let e = equation_at(case, places, work, n, k);
+        t.add_equation(e, case.modulus);
     }
 }
 
 // How many solutions the n equations of the kept points have, and the values of the only one. The first point's multiplier is fixed at 1, in the
 // last column; the others' stand behind the skeleton, in the order lent. The one table is a local of this function.
 pub(crate) fn solved(
-    p: Residue,
-    skeleton: &[KeyBits],
-    points: &[Residue],
+    case: &Case<'_>,
     places: Places,
     work: &[Residue],
     n: Count,
     columns: Column,
 ) -> Solution
-    requires { CanSolve p skeleton.now points.now places work.now n columns }
-    ensures { Solves p skeleton.now points.now places work.now n columns result }
+    requires { CanSolve case.now.modulus case.now.skeleton.now case.now.points.now places work.now n columns }
+    ensures { Solves case.now.modulus case.now.skeleton.now case.now.points.now places work.now n columns result }
 {
     let mut t = Table::empty(columns);
-    add_equations(&mut t, p, skeleton, points, places, work, n);
-    t.solution(p)
+    add_equations(&mut t, case, places, work, n);
+    t.solution(case.modulus)
 }

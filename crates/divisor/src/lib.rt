@@ -2,14 +2,14 @@
 #![tactic(auto)]
 
 ghost use Rattle.std.specs.Prelude.{◌≡◌, ◌≤◌, length};
-ghost use Rattle.divisor.specs.Candidate.{candidate_call, candidate_result, refused_record, table as table_of, Candidate};
+ghost use Rattle.divisor.specs.Candidate.{call_of, candidate_result, refused_record, table as table_of, Candidate};
 ghost use Rattle.divisor.specs.Verdict.Model.{NoGoodPoint};
 ghost use Rattle.field.specs.Refusal.{Passes};
 ghost use Rattle.poly.specs.Room.{work_room};
 
 use crate::equations::Count;
 use crate::table::Column;
-use field::{COORDINATES, Fault, KeyBits, Residue, Term};
+use field::{COORDINATES, Case, Fault, Residue, Term};
 use poly::POWERS;
 use poly::rooms::{CELLS, WORK_ROOM};
 
@@ -60,34 +60,23 @@ fn no_good_point(n: usize, work: &mut [Residue]) -> CandidateRecord
 {
     poly::rooms::clear(WORK_ROOM, work);
     CandidateRecord {
-        fault: Fault::at(Fault::NO_GOOD_POINT, 0),
-        degree: 0,
         bad: n,
-        unlucky: 0,
-        kept: 0,
-        terms: 0,
-        steps: 0,
+        ..CandidateRecord::refused(Fault::at(Fault::NO_GOOD_POINT, 0))
     }
 }
 
 // The answer to inputs that pass: the points sorted by their images, the equations of those kept, and the verdict on their solution.
 fn answer(
-    p: Residue,
-    first: &[Term],
-    second: &[Term],
-    skeleton: &[KeyBits],
-    points: &[Residue],
+    case: &Case<'_>,
     ceiling: usize,
     out: &mut [Term],
     work: &mut [Residue],
 ) -> CandidateRecord
-    requires { Passes (table_of (candidate_call p first.now second.now skeleton.now points.now ceiling out.old work.old)) }
-    ensures { Candidate (candidate_call p first.now second.now skeleton.now points.now
-        ceiling out.old work.old)
-        (candidate_result result out.new work.new) }
+    requires { Passes (table_of (call_of case.now ceiling out.old work.old)) }
+    ensures { Candidate (call_of case.now ceiling out.old work.old) (candidate_result result out.new work.new) }
 {
-    let n = points.len() / COORDINATES;
-    let sizes = points::look(p, first, second, points, work);
+    let n = case.points.len() / COORDINATES;
+    let sizes = points::look(case, work);
     let least = sorting::least_size(sizes, n);
     if least == 0 {
         return no_good_point(n, work);
@@ -96,39 +85,43 @@ fn answer(
     let kept = sorting::alike(sizes, n, least);
     let places = sorting::places_of(sizes, n, least);
     let equations = (POWERS * kept) as Count;
-    let columns = (skeleton.len() + kept) as Column;
-    let solved = equations::solved(p, skeleton, points, places, work, equations, columns);
-    let verdict = verdict::settle(p, first, second, skeleton, solved, ceiling, out, work);
-    CandidateRecord {
-        fault: Fault::at(verdict.number, 0),
+    let columns = (case.skeleton.len() + kept) as Column;
+    let solved = equations::solved(case, places, work, equations, columns);
+    let sorted = CandidateRecord {
+        fault: Fault::none(),
         degree: least as usize - 1,
         bad,
         unlucky: n - bad - kept,
         kept,
-        terms: verdict.terms,
-        steps: verdict.steps,
+        terms: 0,
+        steps: 0,
+    };
+    match verdict::settle(case, solved, ceiling, out, work) {
+        Ok(found) => CandidateRecord {
+            terms: found.terms,
+            steps: found.steps,
+            ..sorted
+        },
+        Err(stopped) => CandidateRecord {
+            fault: Fault::at(stopped.number, 0),
+            steps: stopped.steps,
+            ..sorted
+        },
     }
 }
 
 // The common divisor of two lists that the equations of the kept points fix, in proposed monomials; or a refusal. Nothing that is proposed is trusted.
 // Its two trial divisions take no more steps together than the ceiling, which may be any number.
 pub fn candidate(
-    p: Residue,
-    first: &[Term],
-    second: &[Term],
-    skeleton: &[KeyBits],
-    points: &[Residue],
+    case: &Case<'_>,
     ceiling: usize,
     out: &mut [Term],
     work: &mut [Residue],
 ) -> CandidateRecord
-    ensures { Candidate (candidate_call p first.now second.now skeleton.now points.now
-        ceiling out.old work.old)
-        (candidate_result result out.new work.new) }
+    ensures { Candidate (call_of case.now ceiling out.old work.old) (candidate_result result out.new work.new) }
 {
-    let fault = checks::candidate_fault(p, first, second, skeleton, points, out.len(), work.len());
-    if fault.number != 0 {
-        return CandidateRecord::refused(fault);
+    match checks::check_call(case, out.len(), work.len()) {
+        Err(fault) => CandidateRecord::refused(fault),
+        Ok(()) => answer(case, ceiling, out, work),
     }
-    answer(p, first, second, skeleton, points, ceiling, out, work)
 }

@@ -4,7 +4,7 @@ ghost use Rattle.divisor.specs.Points.Model.{LookReady, Looks, StoreReady};
 ghost use Rattle.divisor.specs.Points.PartsModel.{stored};
 
 use crate::sorting::Sizes;
-use field::{COORDINATES, MOST_POINTS, Residue, Term};
+use field::{COORDINATES, Case, MOST_POINTS, Residue};
 use poly::{Eight, POWERS};
 
 // Eight numbers into the work room, from a place on.
@@ -16,21 +16,16 @@ fn store(coefficients: Eight, at: usize, work: &mut [Residue])
 }
 
 // The image at each point into the work room, and the sizes.
-pub(crate) fn look(
-    p: Residue,
-    first: &[Term],
-    second: &[Term],
-    points: &[Residue],
-    work: &mut [Residue],
-) -> Sizes
-    requires { LookReady p first.now second.now points.now work.old }
-    ensures { Looks (length points.now / 3) p first.now second.now points.now work.old
+pub(crate) fn look(case: &Case<'_>, work: &mut [Residue]) -> Sizes
+    requires { LookReady case.now.modulus case.now.first.now case.now.second.now case.now.points.now work.old }
+    ensures { Looks (length case.now.points.now / 3) case.now.modulus case.now.first.now case.now.second.now case.now.points.now work.old
         work.new result }
 {
     let mut sizes: Sizes = [0; MOST_POINTS];
-    for i in 0..points.len() / COORDINATES {
+    for i in 0..case.points.len() / COORDINATES {
         let at = COORDINATES * i;
-        let seen = poly::image::image_at(p, first, second, &points[at..at + COORDINATES]);
+        let point = &case.points[at..at + COORDINATES];
+        let seen = poly::image::image_at(case.modulus, case.first, case.second, point);
         sizes[i] = seen.size;
         store(seen.coefficients, POWERS * i, work);
     }

@@ -1,7 +1,7 @@
 -- `divisor::answer` meets its contract: the look at the points, their counts, the equations, the solution and the verdict, each as its call promises, make
 -- up what the rule answers.
 use Rattle.std.proofs.Common.{◌≡◌, ◌+◌, ◌/◌, ◌≤◌, length, sym, ◌∙◌, arith}
-use Rattle.divisor.specs.Candidate.{Call, candidate_call}
+use Rattle.divisor.specs.Candidate.{Call, call_of}
 use Rattle.divisor.specs.Checks.Passed.{look_ready}
 use Rattle.divisor.specs.Sorting.Kept.{room_after, SomeGood, can_solve, count_small, counts_fit, columns_fit}
 use Rattle.divisor.specs.Answer.Laws.{nothing_good, ready_verdict, answered_so}
@@ -11,11 +11,11 @@ use Rattle.divisor.proofs.answer.Goals.{After-look-sizes, After-alike-kept}
 -- the call that is answered, as the look at the points has it, and as what follows the counts has it
 abbrev looked : After-look-sizes → Call
 looked c =
-    let a = c.args in candidate_call a.p a.first.now a.second.now a.skeleton.now a.points.now a.ceiling a.out.now a.work.now
+    let a = c.args in call_of a.case.now a.ceiling a.out.now a.work.now
 
 abbrev counted : After-alike-kept → Call
 counted c =
-    let a = c.args in candidate_call a.p a.first.now a.second.now a.skeleton.now a.points.now a.ceiling a.out.now a.work.now
+    let a = c.args in call_of a.case.now a.ceiling a.out.now a.work.now
 
 -- what is found where some point is good
 good : (c : After-alike-kept) → ¬ (c.least_size-least.result ≡ 0)
@@ -29,13 +29,13 @@ good c some = record {
 }
 
 -- bad and kept points are not more than all
-fit : (c : After-alike-kept) → ¬ (c.least_size-least.result ≡ 0) → c.alike-bad.result + c.alike-kept.result ≤ length c.args.points.now / 3
+fit : (c : After-alike-kept) → ¬ (c.least_size-least.result ≡ 0) → c.alike-bad.result + c.alike-kept.result ≤ length c.args.case.now.points.now / 3
 fit c some = counts_fit (good c some) c.alike-bad.result c.alike-bad.ensures
 
 pub look-sizes-requires : goal.look-sizes-requires
 look-sizes-requires c =
     let a = c.args in
-    look_ready (candidate_call a.p a.first.now a.second.now a.skeleton.now a.points.now a.ceiling a.out.now a.work.now) c.requires
+    look_ready (call_of a.case.now a.ceiling a.out.now a.work.now) c.requires
 
 pub no_good_point-requires : goal.no_good_point-requires
 no_good_point-requires c =
@@ -62,19 +62,25 @@ pub solved-solved-requires : goal.solved-solved-requires
 solved-solved-requires c =
     can_solve (good (goal.at.solved-solved-requires c).After-alike-kept c.if-least-eq0.false) c.places_of-places.result c.places_of-places.ensures
 
-pub settle-verdict-requires : goal.settle-verdict-requires
-settle-verdict-requires c =
-    ready_verdict (good (goal.at.settle-verdict-requires c).After-alike-kept c.if-least-eq0.false) c.places_of-places.result c.places_of-places.ensures
+pub settle-requires : goal.settle-requires
+settle-requires c =
+    ready_verdict (good (goal.at.settle-requires c).After-alike-kept c.if-least-eq0.false) c.places_of-places.result c.places_of-places.ensures
     c.solved-solved.result c.solved-solved.ensures
 
-pub overflow_sub-result-2 : goal.overflow_sub-result-2
-overflow_sub-result-2 c = omega (arith, fit (goal.at.overflow_sub-result-2 c).After-alike-kept c.if-least-eq0.false)
+pub overflow_sub-sorted-2 : goal.overflow_sub-sorted-2
+overflow_sub-sorted-2 c = omega (arith, fit (goal.at.overflow_sub-sorted-2 c).After-alike-kept c.if-least-eq0.false)
 
-pub overflow_sub-result-3 : goal.overflow_sub-result-3
-overflow_sub-result-3 c = omega (arith, fit (goal.at.overflow_sub-result-3 c).After-alike-kept c.if-least-eq0.false)
+pub overflow_sub-sorted-3 : goal.overflow_sub-sorted-3
+overflow_sub-sorted-3 c = omega (arith, fit (goal.at.overflow_sub-sorted-3 c).After-alike-kept c.if-least-eq0.false)
 
-pub returns : goal.returns
-returns c =
-    answered_so (good (goal.at.returns c).After-alike-kept c.if-least-eq0.false) c.places_of-places.result c.places_of-places.ensures
+pub returns-in-Ok : goal.returns-in-Ok
+returns-in-Ok c =
+    answered_so (good (goal.at.returns-in-Ok c).After-alike-kept c.if-least-eq0.false) c.places_of-places.result c.places_of-places.ensures
     c.solved-solved.result c.solved-solved.ensures c.alike-bad.result c.alike-bad.ensures
-    c.settle-verdict.result c.settle-verdict.ensures c.at.result c.at.ensures
+    _ c.in-Ok.ensures c.none.result c.none.ensures
+
+pub returns-in-Err : goal.returns-in-Err
+returns-in-Err c =
+    answered_so (good (goal.at.returns-in-Err c).After-alike-kept c.if-least-eq0.false) c.places_of-places.result c.places_of-places.ensures
+    c.solved-solved.result c.solved-solved.ensures c.alike-bad.result c.alike-bad.ensures
+    _ c.in-Err.ensures c.at.result c.at.ensures

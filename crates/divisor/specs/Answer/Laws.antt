@@ -10,7 +10,7 @@ use Rattle.divisor.specs.declared.CandidateRecord.{CandidateRecord}
 use Rattle.divisor.specs.declared.table.Solution.{Solution}
 use Rattle.divisor.specs.declared.table.Solution.TheVariants.{None, One, Several}
 use Rattle.divisor.specs.declared.table.Table.{Table}
-use Rattle.divisor.specs.declared.verdict.Ruling.{Ruling}
+use Rattle.divisor.specs.Verdict.Model.{Ruling}
 use Rattle.divisor.specs.Rule.{Kept}
 use Rattle.divisor.specs.Candidate.{Call, table, prime, Numbers, monomials, Candidate}
 use Rattle.divisor.specs.Table.Model.{empty_table, solved}

@@ -1,6 +1,6 @@
 -- Two trial divisions one after the other, and what a solution settles.
 use Rattle.std.specs.Prelude.{◌≡◌, refl, ◌↔◌, Bool, true, false, List, [], ℕ, ◌+◌, ◌-◌, ◌≤◌, ◌<◌, length, take}
-use Rattle.std.proofs.Common.{sym, ◌∙◌, ap, ap₂, subst, true≢false, arith, length-take-le}
+use Rattle.std.proofs.Common.{sym, ◌∙◌, ap, ap₂, subst, true≢false, arith}
 use Rattle.std.proofs.Math.Decide.{dec_lt}
 use Rattle.std.proofs.lemmas.List.{length-map}
 use Rattle.algebra.specs.Division.{Division}
@@ -19,7 +19,7 @@ use Rattle.poly.specs.Rooms.Laws.{zeroed_length, cleared_again}
 use Rattle.divisor.specs.Rule.{Steps, of_first, of_both}
 use Rattle.divisor.specs.declared.table.Solution.{Solution}
 use Rattle.divisor.specs.declared.table.Solution.TheVariants.{One}
-use Rattle.divisor.specs.declared.verdict.Ruling.{Ruling}
+use Rattle.divisor.specs.Verdict.Model.{Ruling}
 use Rattle.divisor.specs.Monic.Terms.{monic_count}
 use Rattle.divisor.specs.Verdict.Model.{Both, CanDivideBoth, Takes, BothDivided, VerdictReady, divisor_terms, Settles, Settled, Refused}
 use Rattle.divisor.specs.Verdict.Model.{cut_off as settled_cut_off, rejected, accepted}

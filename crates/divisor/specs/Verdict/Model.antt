@@ -1,5 +1,5 @@
 -- What a solution of the equations settles, in plain numbers: the number, and the terms that are handed out.
-use Rattle.std.specs.Prelude.{◌≡◌, ◌↔◌, Bool, true, List, [], ℕ, ◌≤◌, ◌<◌, length, get_or, take}
+use Rattle.std.specs.Prelude.{◌≡◌, ◌↔◌, Result, Ok, Err, Bool, true, List, [], ℕ, ◌≤◌, ◌<◌, length, get_or, take}
 use Rattle.field.specs.Prime.{Prime}
 use Rattle.field.specs.Modulo.{Modulo}
 use Rattle.field.specs.Numbers.{NO_GOOD_POINT, NO_SOLUTION, SEVERAL_SOLUTIONS, DOES_NOT_DIVIDE, CEILING_REACHED}
@@ -16,7 +16,8 @@ use Rattle.divisor.specs.Rule.{none_good, report, DividesBoth, Steps}
 use Rattle.divisor.specs.Candidate.{most_keys}
 use Rattle.divisor.specs.declared.table.Solution.{Solution}
 use Rattle.divisor.specs.declared.table.Solution.TheVariants.{None, One, Several}
-use Rattle.divisor.specs.declared.verdict.Ruling.{Ruling}
+use Rattle.divisor.specs.declared.verdict.Accepted.{Accepted}
+use Rattle.poly.specs.declared.Stopped.{Stopped}
 use Rattle.divisor.specs.Monic.Model.{leading, monic_terms}
 
 -- the list G divides the lists A and B, as polynomials
@@ -73,6 +74,16 @@ pub data Settles (p : ℕ) (A B ks : List ℕ) (s : Solution) (ceiling : ℕ) : 
       → Settles p A B ks s ceiling DOES_NOT_DIVIDE [] n
   accepted : (values : List ℕ) → s ≡ One values → (n : ℕ) → Takes p A B (divisor_terms p ks values) n → n ≤ ceiling
       → ((P : Prime p) → Both p P A B (divisor_terms p ks values)) → Settles p A B ks s ceiling 0 (divisor_terms p ks values) n
+
+-- what is told of a ruling: the number, the count of the terms that are written, and the steps of division taken
+pub record Ruling : Type 0 where
+  pub number : ℕ
+  pub terms : ℕ
+  pub steps : ℕ
+
+abbrev pub ruling : Result Accepted Stopped → Ruling
+ruling (Ok a) = record { number = 0; terms = a.terms; steps = a.steps }
+ruling (Err s) = record { number = s.number; terms = 0; steps = s.steps }
 
 pub record Settled (p : ℕ) (A B ks : List ℕ) (s : Solution) (ceiling : ℕ) (output output_after work work_after : List ℕ) (r : Ruling) : Type 0 where
   pub terms : List ℕ

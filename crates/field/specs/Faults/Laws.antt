@@ -166,7 +166,7 @@ module _ (front back : List Line) (f : Fault) (t : Tested front f) where
   tested_goes_on some z {g} (passed h e) = passed (passes_append front back (tested_passes front some f t z).0 h) e
 
 -- what a `?` hands on is the error that it met
-pub exit_err : {A : Type 0} (r : Result A Fault) {f : Fault} → IsErrAnd r (λ g. g ≡ f) → r ≡ Err f
+pub exit_err : {A E : Type 0} (r : Result A E) {f : E} → IsErrAnd r (λ g. g ≡ f) → r ≡ Err f
 exit_err r h = let p = err_from_is_err_and r h in p.1 ∙ ap Err p.2
 
 pub checked_err : (lines : List Line) {r : Result Unit Fault} {f : Fault} → r ≡ Err f → Refuses lines f → Checked lines r

@@ -8,21 +8,24 @@ use Rattle.divisor.proofs.equations.solved.Goals as goal
 pub add_equations-requires : goal.add_equations-requires
 add_equations-requires c =
     let a = c.args in
-    subst (λ (t : Table). CanAdd a.p t a.skeleton.now a.points.now a.places a.work.now a.n) (sym c.empty-t.ensures) (can_add_empty c.requires)
+    let k = a.case.now in
+    subst (λ (t : Table). CanAdd k.modulus t k.skeleton.now k.points.now a.places a.work.now a.n) (sym c.empty-t.ensures) (can_add_empty c.requires)
 
 pub solution-requires : goal.solution-requires
 solution-requires c =
     let a = c.args in
+    let k = a.case.now in
     let t = c.add_equations.new.t in
-    (table_solvable c.requires (subst (λ (s : Table). AddsFirst a.n a.p s a.skeleton.now a.points.now a.places a.work.now a.n t) c.empty-t.ensures
+    (table_solvable c.requires (subst (λ (s : Table). AddsFirst a.n k.modulus s k.skeleton.now k.points.now a.places a.work.now a.n t) c.empty-t.ensures
     c.add_equations.ensures)).0
 
 pub returns : goal.returns
 returns c =
     let a = c.args in
+    let k = a.case.now in
     let t = c.add_equations.new.t in
     record {
       table = t;
-      made = subst (λ (s : Table). AddsFirst a.n a.p s a.skeleton.now a.points.now a.places a.work.now a.n t) c.empty-t.ensures c.add_equations.ensures;
+      made = subst (λ (s : Table). AddsFirst a.n k.modulus s k.skeleton.now k.points.now a.places a.work.now a.n t) c.empty-t.ensures c.add_equations.ensures;
       is = c.solution.ensures;
     }

@@ -11,10 +11,10 @@ use Rattle.divisor.proofs.points.look.Goals as goal
 
 pub loop-i-preserved : goal.loop-i-preserved
 loop-i-preserved c =
-    let a = c.args in
-    let e : c.image_at-seen.result ≡ look_at a.p a.first.now a.second.now a.points.now c.loop-i.i =
-    point_model a.p a.first.now a.second.now _ c.requires.lists _ c.image_at-seen.ensures
-    ∙ ap (image_of a.p a.first.now a.second.now) (part_is 3 c.loop-i.i a.points.now) in
+    let k = c.args.case.now in
+    let e : c.image_at-seen.result ≡ look_at k.modulus k.first.now k.second.now k.points.now c.loop-i.i =
+    point_model k.modulus k.first.now k.second.now _ c.requires.lists _ c.image_at-seen.ensures
+    ∙ ap (image_of k.modulus k.first.now k.second.now) (part_is 3 c.loop-i.i k.points.now) in
     record {
       within = omega arith;
       looks =
