@@ -37,9 +37,9 @@ impl TryFrom<u8> for Kind {
     }
 }
 
+#[tactic(auto, unfolding(crate::specs::Format::kind_of))]
 impl Kind {
     // The length of a body.
-    #[tactic(auto, unfolding(crate::specs::Format::kind_of))]
     pub(crate) fn body(self) -> usize
         ensures { result ≡ body_of today (kind_byte self) }
     {
@@ -52,7 +52,6 @@ impl Kind {
     }
 
     // The most records.
-    #[tactic(auto, unfolding(crate::specs::Format::kind_of))]
     fn limit(self) -> usize
         ensures { result ≡ limit_of today (kind_byte self) }
     {

@@ -1,4 +1,6 @@
 // Writing a case file: the modulus and the four lists, record by record, into a lent buffer.
+#![tactic(auto, unfolding(crate::specs::Format::kind_of))]
+
 ghost use Rattle.std.specs.Prelude.{◌≡◌, ℕ, [], ◌∷◌, ◌+◌, ◌≤◌, length};
 ghost use Rattle.field.specs.Refusal.{Tested};
 ghost use Rattle.case_file.specs.Format.{point_kind, today};
@@ -17,7 +19,6 @@ use field::{
 };
 
 // The bytes of the file, by how many numbers each list has: of each record its kind byte and its body.
-#[tactic(auto, unfolding(crate::specs::Format::kind_of))]
 fn file_length(first: usize, second: usize, skeleton: usize, points: usize) -> usize
     requires { Writable first second skeleton points }
     ensures { result ≡ file_length first second skeleton points }
