@@ -9,6 +9,7 @@ use crate::record::{self, Kind};
 use crate::{Contents, Counts, Keys, PointNumbers, Terms};
 use field::{Fault, MOST_KEYS, MOST_POINT_NUMBERS, MOST_TERMS, RefusalNumber};
 
+// The four arrays stay four parameters: were they lent in a struct, each function would have to promise besides that its references stay the same.
 // A refusal: zeros, with counts 0. With number 0 it is what stands before the first record.
 fn nothing(
     number: RefusalNumber,

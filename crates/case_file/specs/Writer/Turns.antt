@@ -6,7 +6,7 @@ use Prim.Native.Nat.{ℕ, ◌+◌, ◌/◌, ◌≤◌, ◌<◌}
 use native.Mathlib.Omega.{arith}
 use Rattle.std.proofs.Math.ListN.{length}
 use Rattle.std.specs.Int.{w16, w32, to_le_bytes}
-use Rattle.field.specs.Loops.Putting.{Puts, Putting, putting_start, putting_next, putting_room, putting_end, puts_append}
+use Rattle.field.specs.Loops.Putting.{Puts, Putting, putting_next, putting_room, putting_end, puts_append}
 use Rattle.case_file.specs.Format.{base, modulus_kind, first_kind, second_kind, skeleton_kind, point_kind, end_kind, kind_of, widths, today}
 use Rattle.case_file.specs.Case.{added}
 use Rattle.case_file.specs.Written.{bytes, packed, records, in_order, file_of}
@@ -41,9 +41,6 @@ too_few (y ∷ z ∷ w ∷ ns) h = absurd (omega arith)
 pub record Listing {A : Type 0} (split : List A → List (List ℕ)) (k : ℕ) (l : List A) (n : ℕ) (before : List ℕ) (left : List A) (m : ℕ) (now : List ℕ)
     : Type 0 where
   pub putting : Putting (records today k (split l)) n m before now (records today k (split left))
-
-pub listing_start : {A : Type 0} {split : List A → List (List ℕ)} {k : ℕ} {l : List A} {n : ℕ} {before : List ℕ} → Listing split k l n before l n before
-listing_start = record { putting = putting_start }
 
 module _ {A : Type 0} {split : List A → List (List ℕ)} {k : ℕ} {l : List A} {n m : ℕ} {before now : List ℕ} {left : List A}
     (p : Listing split k l n before left m now) where
