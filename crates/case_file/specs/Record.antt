@@ -4,3 +4,4 @@ pub mod Tests
 pub mod Packing
 pub mod Arrays
 pub mod Today
+pub mod Kinds

@@ -24,8 +24,11 @@ write_call p A B skeleton points buffer =
     record { modulus = p; first_list = A; second_list = B; skeleton = skeleton; points = points; buffer = buffer }
 
 -- records of one number each
+abbrev pub singles_of : {A : Type 0} → (A → ℕ) → List A → List (List ℕ)
+singles_of value ns = map (λ n. value n ∷ []) ns
+
 abbrev pub singles : List ℕ → List (List ℕ)
-singles ns = map (λ (n : ℕ). n ∷ []) ns
+singles ns = singles_of (λ (n : ℕ). n) ns
 
 -- records of three numbers each; one or two numbers at the end make no record
 unfoldable pub triples : List ℕ → List (List ℕ)

@@ -8,7 +8,7 @@ mod record;
 mod writer;
 
 pub use reader::{read, read_into, read_one_into};
-pub use record::{END, FIRST, MODULUS, POINT, SECOND, SKELETON};
+pub use record::Kind;
 pub use writer::write;
 
 // An array for the most numbers of each list.

@@ -2,11 +2,14 @@
 ghost use Rattle.std.specs.Prelude.{◌≡◌};
 ghost use Rattle.case_file.specs.Reading.{refused, read_one, read as read_of};
 ghost use Rattle.case_file.specs.Handed.{contents, Gives};
+ghost use Rattle.case_file.specs.Record.Kinds.{kind_byte};
 ghost use Rattle.case_file.specs.Reader.Adding.{Ready, Adds};
 
-use crate::{Contents, Counts, Keys, PointNumbers, Terms, record};
+use crate::record::{self, Kind};
+use crate::{Contents, Counts, Keys, PointNumbers, Terms};
 use field::{Fault, MOST_KEYS, MOST_POINT_NUMBERS, MOST_TERMS, RefusalNumber};
 
+// The four arrays stay four parameters: were they lent in a struct, each function would have to promise besides that its references stay the same.
 // A refusal: zeros, with counts 0. With number 0 it is what stands before the first record.
 fn nothing(
     number: RefusalNumber,
@@ -36,7 +39,7 @@ fn nothing(
 // The record of this kind, whose body begins at the offset, goes to its list.
 fn with_record(
     bytes: &[u8],
-    kind: u8,
+    kind: Kind,
     at: usize,
     counts: Counts,
     first: &mut Terms,
@@ -44,37 +47,32 @@ fn with_record(
     skeleton: &mut Keys,
     points: &mut PointNumbers,
 ) -> Counts
-    requires { Ready bytes.now kind at counts }
-    ensures { Adds bytes.now kind at counts result first.old second.old skeleton.old
+    requires { Ready bytes.now (kind_byte kind) at counts }
+    ensures { Adds bytes.now (kind_byte kind) at counts result first.old second.old skeleton.old
         points.old first.new second.new skeleton.new points.new }
 {
     let mut next = counts;
     match kind {
-        record::MODULUS => {
-            next.modulus = record::number2(bytes, at);
-            next
+        Kind::Modulus => next.modulus = record::number2(bytes, at),
+        Kind::First => {
+            next.first = record::put(&[record::number4(bytes, at)], first, counts.first);
         }
-        record::FIRST => {
-            next.first = record::put_term(record::number4(bytes, at), first, counts.first);
-            next
+        Kind::Second => {
+            next.second = record::put(&[record::number4(bytes, at)], second, counts.second);
         }
-        record::SECOND => {
-            next.second = record::put_term(record::number4(bytes, at), second, counts.second);
-            next
+        Kind::Skeleton => {
+            next.skeleton = record::put(&[record::number2(bytes, at)], skeleton, counts.skeleton);
         }
-        record::SKELETON => {
-            next.skeleton = record::put_key(record::number2(bytes, at), skeleton, counts.skeleton);
-            next
-        }
-        // A point: the end record never comes here.
-        _ => {
+        Kind::Point => {
             let y = record::number2(bytes, at);
             let z = record::number2(bytes, at + 2);
             let w = record::number2(bytes, at + 4);
-            next.points = record::put_point(y, z, w, points, counts.points);
-            next
+            next.points = record::put(&[y, z, w], points, counts.points);
         }
+        // The contract rules it out.
+        Kind::End => {}
     }
+    next
 }
 
 // The case at the start of the bytes, and the offset after its end record.
@@ -88,22 +86,22 @@ pub fn read_one_into(
     ensures { Gives (read_one bytes.now) result first.new second.new skeleton.new points.new }
 {
     let mut counts = nothing(0, 0, first, second, skeleton, points);
-    let mut before: u8 = 0;
+    let mut before = None;
     let mut at: usize = 0;
+    // Records have several lengths, so no range and no iterator of a slice has these steps.
     while at < bytes.len() {
-        let kind = bytes[at];
         let start = at + 1;
-        let number = record::fault_of(before, kind, counts, bytes.len() - start);
-        if number != 0 {
-            return nothing(number, at, first, second, skeleton, points);
-        }
-        if kind == record::END {
+        let kind = match record::tested(before, bytes[at], counts, bytes.len() - start) {
+            Ok(kind) => kind,
+            Err(number) => return nothing(number, at, first, second, skeleton, points),
+        };
+        if kind == Kind::End {
             counts.next = start;
             return counts;
         }
         counts = with_record(bytes, kind, start, counts, first, second, skeleton, points);
-        before = kind;
-        at = start + record::body(kind);
+        before = Some(kind);
+        at = start + kind.body();
     }
     nothing(Fault::NO_END, at, first, second, skeleton, points)
 }

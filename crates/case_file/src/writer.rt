@@ -1,15 +1,19 @@
 // Writing a case file: the modulus and the four lists, record by record, into a lent buffer.
-ghost use Rattle.std.specs.Prelude.{◌≡◌, [], ◌∷◌, ◌+◌, ◌≤◌, length};
+#![tactic(auto, unfolding(crate::specs::Format::kind_of))]
+
+ghost use Rattle.std.specs.Prelude.{◌≡◌, ℕ, [], ◌∷◌, ◌+◌, ◌≤◌, length};
 ghost use Rattle.field.specs.Refusal.{Tested};
-ghost use Rattle.case_file.specs.Format.{skeleton_kind, point_kind, today};
+ghost use Rattle.case_file.specs.Format.{point_kind, today};
 ghost use Rattle.case_file.specs.Written.{bytes, packed, records};
-ghost use Rattle.case_file.specs.WriteCall.{write_call, singles, triples, of_lengths, file, write_result, Write};
+ghost use Rattle.case_file.specs.WriteCall.{write_call, singles_of, triples, of_lengths, file, write_result, Write};
 ghost use Rattle.field.specs.Loops.Putting.{Puts};
 ghost use Rattle.case_file.specs.Writer.Cases.{Writable};
 ghost use Rattle.case_file.specs.Writer.Length.{file_length};
-ghost use Rattle.case_file.specs.Writer.Room.{TermsFit};
+ghost use Rattle.case_file.specs.Record.Kinds.{kind_byte};
+ghost use Rattle.case_file.specs.Writer.Room.{NumbersFit};
 
-use crate::{WriteRecord, record};
+use crate::WriteRecord;
+use crate::record::{self, Kind};
 use field::{
     COORDINATES, Fault, KeyBits, MOST_KEYS, MOST_POINT_NUMBERS, MOST_TERMS, Residue, Term,
 };
@@ -19,10 +23,10 @@ fn file_length(first: usize, second: usize, skeleton: usize, points: usize) -> u
     requires { Writable first second skeleton points }
     ensures { result ≡ file_length first second skeleton points }
 {
-    let ends = 1 + record::MODULUS_BODY + 1 + record::END_BODY;
-    let terms = (1 + record::TERM_BODY) * (first + second);
-    let keys = (1 + record::KEY_BODY) * skeleton;
-    ends + terms + keys + (1 + record::POINT_BODY) * (points / COORDINATES)
+    let ends = 1 + Kind::Modulus.body() + 1 + Kind::End.body();
+    let terms = (1 + Kind::First.body()) * (first + second);
+    let keys = (1 + Kind::Skeleton.body()) * skeleton;
+    ends + terms + keys + (1 + Kind::Point.body()) * (points / COORDINATES)
 }
 
 // The refusals 26 and 27: of what is lent only the lengths matter.
@@ -43,83 +47,65 @@ fn write_fault(first: usize, second: usize, skeleton: usize, points: usize, buff
     Fault::none()
 }
 
-// Numbers of one, two and four bytes, the low byte first, go to the offset; the offset after them.
-fn write1(byte: u8, at: usize, buffer: &mut [u8]) -> usize
-    requires { at + 1 ≤ length buffer.old }
-    ensures { Puts (byte ∷ []) at result buffer.old buffer.new }
-{
-    buffer[at] = byte;
-    at + 1
+// A number of a record.
+trait Number: Copy {
+    // How many bytes it has, and what they say.
+    ghost width: { ℕ };
+
+    ghost value: { Self → ℕ };
+
+    // Its bytes, the low one first, go to the offset; the offset after them.
+    fn write_bytes(self, at: usize, buffer: &mut [u8]) -> usize
+        requires { at + width ≤ length buffer.old }
+        ensures { Puts (bytes width (value self)) at result buffer.old buffer.new };
 }
 
-fn write2(number: u16, at: usize, buffer: &mut [u8]) -> usize
-    requires { at + 2 ≤ length buffer.old }
-    ensures { Puts (bytes 2 number) at result buffer.old buffer.new }
-{
-    buffer[at] = (number % record::BASE) as u8;
-    buffer[at + 1] = (number / record::BASE) as u8;
-    at + 2
+impl Number for u16 {
+    ghost width = { 2 };
+
+    ghost value = { λ n. n };
+
+    fn write_bytes(self, at: usize, buffer: &mut [u8]) -> usize {
+        record::put(&u16::to_le_bytes(self), buffer, at)
+    }
 }
 
-fn write4(number: u32, at: usize, buffer: &mut [u8]) -> usize
-    requires { at + 4 ≤ length buffer.old }
-    ensures { Puts (bytes 4 number) at result buffer.old buffer.new }
-{
-    let base = record::BASE as u32;
-    let half = base * base;
-    let next = write2((number % half) as u16, at, buffer);
-    write2((number / half) as u16, next, buffer)
+impl Number for u32 {
+    ghost width = { 4 };
+
+    ghost value = { λ n. n };
+
+    fn write_bytes(self, at: usize, buffer: &mut [u8]) -> usize {
+        record::put(&u32::to_le_bytes(self), buffer, at)
+    }
 }
 
 // A record of one number.
-fn write_term(kind: u8, term: Term, at: usize, buffer: &mut [u8]) -> usize
-    requires { at + 5 ≤ length buffer.old }
-    ensures { Puts (kind ∷ bytes 4 term) at result buffer.old buffer.new }
+fn write_record<T: Number>(kind: Kind, number: T, at: usize, buffer: &mut [u8]) -> usize
+    requires { at + (1 + T.width) ≤ length buffer.old }
+    ensures { Puts (kind_byte kind ∷ bytes T.width (T.value number)) at result buffer.old buffer.new }
 {
-    let next = write1(kind, at, buffer);
-    write4(term, next, buffer)
-}
-
-fn write_key(kind: u8, key: KeyBits, at: usize, buffer: &mut [u8]) -> usize
-    requires { at + 3 ≤ length buffer.old }
-    ensures { Puts (kind ∷ bytes 2 key) at result buffer.old buffer.new }
-{
-    let next = write1(kind, at, buffer);
-    write2(key, next, buffer)
+    let next = record::put(&[kind as u8], buffer, at);
+    number.write_bytes(next, buffer)
 }
 
 fn write_point(y: Residue, z: Residue, w: Residue, at: usize, buffer: &mut [u8]) -> usize
     requires { at + 7 ≤ length buffer.old }
     ensures { Puts (point_kind ∷ packed (2 ∷ 2 ∷ 2 ∷ []) (y ∷ z ∷ w ∷ [])) at result buffer.old buffer.new }
 {
-    let second = write_key(record::POINT, y, at, buffer);
-    let third = write2(z, second, buffer);
-    write2(w, third, buffer)
+    let second = write_record(Kind::Point, y, at, buffer);
+    let third = z.write_bytes(second, buffer);
+    w.write_bytes(third, buffer)
 }
 
 // The records of a list.
-fn write_terms(kind: u8, list: &[Term], at: usize, buffer: &mut [u8]) -> usize
-    requires { TermsFit kind list.now at buffer.old }
-    ensures { Puts (records today kind (singles list.now)) at result buffer.old buffer.new }
+fn write_numbers<T: Number>(kind: Kind, list: &[T], at: usize, buffer: &mut [u8]) -> usize
+    requires { NumbersFit T.width T.value kind list.now at buffer.old }
+    ensures { Puts (records today (kind_byte kind) (singles_of T.value list.now)) at result buffer.old buffer.new }
 {
     let mut next = at;
-    let mut i: usize = 0;
-    while i < list.len() {
-        next = write_term(kind, list[i], next, buffer);
-        i += 1;
-    }
-    next
-}
-
-fn write_keys(list: &[KeyBits], at: usize, buffer: &mut [u8]) -> usize
-    requires { at + length (records today skeleton_kind (singles list.now)) ≤ length buffer.old }
-    ensures { Puts (records today skeleton_kind (singles list.now)) at result buffer.old buffer.new }
-{
-    let mut next = at;
-    let mut i: usize = 0;
-    while i < list.len() {
-        next = write_key(record::SKELETON, list[i], next, buffer);
-        i += 1;
+    for number in list {
+        next = write_record(kind, *number, next, buffer);
     }
     next
 }
@@ -129,10 +115,8 @@ fn write_points(numbers: &[Residue], at: usize, buffer: &mut [u8]) -> usize
     ensures { Puts (records today point_kind (triples numbers.now)) at result buffer.old buffer.new }
 {
     let mut next = at;
-    let mut i: usize = 0;
-    while i + COORDINATES <= numbers.len() {
-        next = write_point(numbers[i], numbers[i + 1], numbers[i + 2], next, buffer);
-        i += COORDINATES;
+    for point in numbers.chunks_exact(COORDINATES) {
+        next = write_point(point[0], point[1], point[2], next, buffer);
     }
     next
 }
@@ -150,12 +134,12 @@ fn write_case(
     ensures { Puts (file (write_call modulus first.now second.now skeleton.now points.now
         buffer.old)) 0 result buffer.old buffer.new }
 {
-    let after_modulus = write_key(record::MODULUS, modulus, 0, buffer);
-    let after_first = write_terms(record::FIRST, first, after_modulus, buffer);
-    let after_second = write_terms(record::SECOND, second, after_first, buffer);
-    let after_skeleton = write_keys(skeleton, after_second, buffer);
+    let after_modulus = write_record(Kind::Modulus, modulus, 0, buffer);
+    let after_first = write_numbers(Kind::First, first, after_modulus, buffer);
+    let after_second = write_numbers(Kind::Second, second, after_first, buffer);
+    let after_skeleton = write_numbers(Kind::Skeleton, skeleton, after_second, buffer);
     let end = write_points(points, after_skeleton, buffer);
-    write1(record::END, end, buffer)
+    record::put(&[Kind::End as u8], buffer, end)
 }
 
 // The file of a modulus and four lists, or a refusal, which leaves the buffer unchanged. It checks counts only.

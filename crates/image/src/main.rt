@@ -16,11 +16,8 @@ fn print_images(
     if points.len() == 0 {
         print::image(rt, poly::image::image(p, first, second, points))?;
     }
-    let mut i: usize = 0;
-    while i + COORDINATES <= points.len() {
-        let end = i + COORDINATES;
-        print::image(rt, poly::image::image(p, first, second, &points[i..end]))?;
-        i = end;
+    for point in points.chunks_exact(COORDINATES) {
+        print::image(rt, poly::image::image(p, first, second, point))?;
     }
     Ok(())
 }

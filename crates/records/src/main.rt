@@ -2,12 +2,13 @@
 // the reader is number and place on one line, and nothing else is printed.
 #![tactic(auto)]
 
+use case_file::Kind;
 use console::{input, print};
 use field::{COORDINATES, KeyBits, Residue, Term};
 use poly::key::Key;
 use std::io;
 
-fn print_term(rt: &impl Print, kind: u8, t: Term) -> io::Result<()> {
+fn print_term(rt: &impl Print, kind: Kind, t: Term) -> io::Result<()> {
     let key = Key::of(t);
     let coefficient = poly::key::coefficient_of(t);
     print::line(
@@ -16,7 +17,7 @@ fn print_term(rt: &impl Print, kind: u8, t: Term) -> io::Result<()> {
     )
 }
 
-fn print_terms(rt: &impl Print, kind: u8, list: &[Term]) -> io::Result<()> {
+fn print_terms(rt: &impl Print, kind: Kind, list: &[Term]) -> io::Result<()> {
     for t in list {
         print_term(rt, kind, *t)?;
     }
@@ -24,7 +25,7 @@ fn print_terms(rt: &impl Print, kind: u8, list: &[Term]) -> io::Result<()> {
 }
 
 fn print_key(rt: &impl Print, key: KeyBits) -> io::Result<()> {
-    print::line(rt, &[case_file::SKELETON as usize, key as usize])
+    print::line(rt, &[Kind::Skeleton as usize, key as usize])
 }
 
 fn print_keys(rt: &impl Print, list: &[KeyBits]) -> io::Result<()> {
@@ -37,20 +38,13 @@ fn print_keys(rt: &impl Print, list: &[KeyBits]) -> io::Result<()> {
 fn print_point(rt: &impl Print, y: Residue, z: Residue, w: Residue) -> io::Result<()> {
     print::line(
         rt,
-        &[
-            case_file::POINT as usize,
-            y as usize,
-            z as usize,
-            w as usize,
-        ],
+        &[Kind::Point as usize, y as usize, z as usize, w as usize],
     )
 }
 
 fn print_points(rt: &impl Print, numbers: &[Residue]) -> io::Result<()> {
-    let mut i: usize = 0;
-    while i + COORDINATES <= numbers.len() {
-        print_point(rt, numbers[i], numbers[i + 1], numbers[i + 2])?;
-        i += COORDINATES;
+    for point in numbers.chunks_exact(COORDINATES) {
+        print_point(rt, point[0], point[1], point[2])?;
     }
     Ok(())
 }
@@ -63,12 +57,12 @@ fn print_records(
     skeleton: &[KeyBits],
     points: &[Residue],
 ) -> io::Result<()> {
-    print::line(rt, &[case_file::MODULUS as usize, modulus as usize])?;
-    print_terms(rt, case_file::FIRST, first)?;
-    print_terms(rt, case_file::SECOND, second)?;
+    print::line(rt, &[Kind::Modulus as usize, modulus as usize])?;
+    print_terms(rt, Kind::First, first)?;
+    print_terms(rt, Kind::Second, second)?;
     print_keys(rt, skeleton)?;
     print_points(rt, points)?;
-    print::line(rt, &[case_file::END as usize])
+    print::line(rt, &[Kind::End as usize])
 }
 
 fn print_records_of(rt: &impl Print, bytes: &[u8]) -> io::Result<()> {

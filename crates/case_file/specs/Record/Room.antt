@@ -1,11 +1,7 @@
 -- What the functions of a record ask and promise: room for its numbers, and the numbers in their list.
 use Rattle.std.specs.Prelude.{ℕ, ◌+◌, ◌*◌, ◌/◌, ◌≤◌, List, [], ◌∷◌, length, get_or}
-use Rattle.case_file.specs.Format.{Kind, base, modulus_kind, end_kind, sum}
+use Rattle.case_file.specs.Format.{Kind, base, sum}
 use Rattle.case_file.specs.declared.Counts.{Counts}
-
-pub record Known (k : ℕ) : Type 0 where
-  pub low : modulus_kind ≤ k
-  pub high : k ≤ end_kind
 
 -- by kind, the records that the counts say, of a point three numbers; those of modulus and end have no count, and the order of kinds bounds them
 abbrev pub held : Counts → ℕ → ℕ

@@ -1,10 +1,12 @@
 -- What the functions of the writer ask: room in the buffer.
 use Rattle.std.specs.Prelude.{◌≡◌, List, [], ◌∷◌, length, ℕ, ◌+◌, ◌≤◌}
+use Rattle.case_file.specs.declared.record.Kind.{Kind}
 use Rattle.case_file.specs.Format.{widths, today}
 use Rattle.case_file.specs.Written.{records}
-use Rattle.case_file.specs.WriteCall.{singles}
+use Rattle.case_file.specs.WriteCall.{singles_of}
+use Rattle.case_file.specs.Record.Kinds.{kind_byte}
 
--- the buffer has room for the records of a list, of a kind with one number of four bytes
-pub record TermsFit (kind : ℕ) (list : List ℕ) (at : ℕ) (buffer : List ℕ) : Type 0 where
-  pub of_terms : widths today kind ≡ 4 ∷ []
-  pub room : at + length (records today kind (singles list)) ≤ length buffer
+-- the buffer has room for the records of a list, of a kind with one number of these bytes
+pub record NumbersFit {A : Type 0} (width : ℕ) (value : A → ℕ) (kind : Kind) (list : List A) (at : ℕ) (buffer : List ℕ) : Type 0 where
+  pub of_width : widths today (kind_byte kind) ≡ width ∷ []
+  pub room : at + length (records today (kind_byte kind) (singles_of value list)) ≤ length buffer

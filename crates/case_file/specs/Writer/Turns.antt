@@ -1,47 +1,28 @@
 -- The records of a list one after another, and the parts of a file: what is written next, and what is left.
-use Rattle.std.specs.Prelude.{◌≡◌, drop, set, get_or}
+use Rattle.std.specs.Prelude.{◌≡◌, get_or}
 use Rattle.std.proofs.Math.Path.{refl}
-use Rattle.std.proofs.Common.{sym, ap, ◌∙◌, drop_of_length-le}
 use mathlib.Core.List.{List, [], ◌∷◌, ◌++◌, append-nil}
-use Prim.Native.Nat.{ℕ, suc, ◌+◌, ◌*◌, ◌%◌, ◌/◌, ◌≤◌, ◌<◌}
-use Rattle.std.proofs.Math.Numerals.{add-one, add-two}
+use Prim.Native.Nat.{ℕ, ◌+◌, ◌/◌, ◌≤◌, ◌<◌}
 use native.Mathlib.Omega.{arith}
-use Rattle.std.proofs.Math.ListN.{length, length-drop}
-use Rattle.std.proofs.Math.Seq.{drop-cons}
-use Rattle.field.specs.Loops.Putting.{Puts, Putting, putting_start, putting_next, putting_room, putting_end, puts_append}
-use Rattle.case_file.specs.Format.{base, modulus_kind, first_kind, second_kind, skeleton_kind, point_kind, end_kind, kind_of, widths, sum, today}
+use Rattle.std.proofs.Math.ListN.{length}
+use Rattle.std.specs.Int.{w16, w32, to_le_bytes}
+use Rattle.field.specs.Loops.Putting.{Puts, Putting, putting_next, putting_room, putting_end, puts_append}
+use Rattle.case_file.specs.Format.{base, modulus_kind, first_kind, second_kind, skeleton_kind, point_kind, end_kind, kind_of, widths, today}
 use Rattle.case_file.specs.Case.{added}
 use Rattle.case_file.specs.Written.{bytes, packed, records, in_order, file_of}
-use Rattle.case_file.specs.WriteCall.{WriteCall, singles, triples, file}
-use Rattle.case_file.specs.Record.Packing.{length_bytes, length_packed}
+use Rattle.case_file.specs.WriteCall.{WriteCall, singles, singles_of, triples, file}
 
--- two bytes of a number that has no more
-pub puts_two : (v n : ℕ) (before : List ℕ) → v < base * base → Puts (bytes 2 v) n (n + 2) before (set (set before n (v % base)) (n + 1) (v / base))
+-- the library's bytes of a number, of two and of four
+pub two_bytes : (v : ℕ) → to_le_bytes w16 v ≡ bytes 2 v
 unfolding bytes
-puts_two v n before h =
-    let e : v / base ≡ v / base % base = omega arith in
-    record { stored = rw (add-one, ← e); counted = refl }
+two_bytes v = refl
 
--- the next byte of a number does not see what stands above it
-byte_of : (x y : ℕ) → (x + base * y) % base ≡ x % base
-byte_of x y = omega arith
-
-four_bytes : (v : ℕ) → bytes 4 v ≡ bytes 2 (v % (base * base)) ++ bytes 2 (v / (base * base))
+pub four_bytes : (v : ℕ) → to_le_bytes w32 v ≡ bytes 4 v
 unfolding bytes
 four_bytes v =
-    let low : ℕ = v % (base * base) in
-    let high : ℕ = v / (base * base) in
-    let a : low % base ≡ v % base = omega arith in
-    let q : v / base ≡ low / base + base * high = omega arith in
-    let b : low / base % base ≡ v / base % base = sym (ap (λ (n : ℕ). n % base) q ∙ byte_of (low / base) high) in
-    let c : high % base ≡ v / base / base % base = ap (λ (n : ℕ). n % base) (omega arith) in
-    let d : high / base % base ≡ v / base / base / base % base = ap (λ (n : ℕ). n % base) (omega arith) in
-    rw (a, b, c, d)
-
--- four bytes are twice two
-pub puts_four : (v : ℕ) {n k r : ℕ} {before now after : List ℕ} → Puts (bytes 2 (v % (base * base))) n k before now
-    → Puts (bytes 2 (v / (base * base))) k r now after → Puts (bytes 4 v) n r before after
-puts_four v p q = rw (four_bytes v) (puts_append p q)
+    let a : v / 65536 ≡ v / base / base = omega arith in
+    let b : v / 16777216 ≡ v / base / base / base = omega arith in
+    rw (a, b) refl
 
 -- three numbers of two bytes behind a kind
 pub puts_point : (x y z w : ℕ) {n i j r : ℕ} {before now next after : List ℕ} → Puts (x ∷ bytes 2 y) n i before now → Puts (bytes 2 z) i j now next
@@ -49,71 +30,49 @@ pub puts_point : (x y z w : ℕ) {n i j r : ℕ} {before now next after : List �
 unfolding packed
 puts_point x y z w p q s = rw (append-nil (bytes 2 w)) (puts_append p (puts_append q s))
 
-too_few : (ns : List ℕ) → length ns < 3 → triples ns ≡ []
+pub too_few : (ns : List ℕ) → length ns < 3 → triples ns ≡ []
 unfolding triples
 too_few [] h = refl
 too_few (y ∷ []) h = refl
 too_few (y ∷ z ∷ []) h = refl
 too_few (y ∷ z ∷ w ∷ ns) h = absurd (omega arith)
 
--- the loop over a list, whose records are put from the place n on: those of the numbers from i on are still to be put, at the place m
-pub record Listing (split : List ℕ → List (List ℕ)) (k : ℕ) (l : List ℕ) (n : ℕ) (before : List ℕ) (i m : ℕ) (now : List ℕ) : Type 0 where
-  pub within : i ≤ length l
-  pub putting : Putting (records today k (split l)) n m before now (records today k (split (drop i l)))
+-- the loop over a list, whose records are put from the place n on: those of what is left of it are still to be put, at the place m
+pub record Listing {A : Type 0} (split : List A → List (List ℕ)) (k : ℕ) (l : List A) (n : ℕ) (before : List ℕ) (left : List A) (m : ℕ) (now : List ℕ)
+    : Type 0 where
+  pub putting : Putting (records today k (split l)) n m before now (records today k (split left))
 
-pub listing_start : {split : List ℕ → List (List ℕ)} {k : ℕ} {l : List ℕ} {n : ℕ} {before : List ℕ} → Listing split k l n before 0 n before
-listing_start = record { within = omega arith; putting = putting_start }
+module _ {A : Type 0} {split : List A → List (List ℕ)} {k : ℕ} {l : List A} {n m : ℕ} {before now : List ℕ} {left : List A}
+    (p : Listing split k l n before left m now) where
+  -- a record is put, and there is room for it where there is room for all
+  pub listing_next : {vs : List ℕ} {later : List A} → records today k (split left) ≡ vs ++ records today k (split later)
+      → {r : ℕ} {after : List ℕ} → Puts vs m r now after → Listing split k l n before later r after
+  listing_next t q = record { putting = putting_next p.putting t q }
 
-module _ {k : ℕ} {l : List ℕ} {n m i : ℕ} {before now : List ℕ} where
-  -- records of one number of w bytes
-  module _ {w : ℕ} (e : widths today k ≡ w ∷ []) (p : Listing singles k l n before i m now) where
-    singles_turn : i < length l → records today k (singles (drop i l)) ≡ (k ∷ bytes w (get_or l i 0)) ++ records today k (singles (drop (i + 1) l))
-    unfolding records packed
-    singles_turn h = rw (drop-cons l i 0 h, add-one, e, append-nil (bytes w (get_or l i 0)))
+  pub listing_room : (vs : List ℕ) (later : List A) → records today k (split left) ≡ vs ++ records today k (split later)
+      → n + length (records today k (split l)) ≤ length before → m + length vs ≤ length now
+  listing_room vs later t room = putting_room p.putting vs (records today k (split later)) t room
 
-    pub singles_room : i < length l → n + length (records today k (singles l)) ≤ length before → m + (1 + w) ≤ length now
-    singles_room h room =
-        omega (
-          arith,
-          putting_room p.putting (k ∷ bytes w (get_or l i 0)) (records today k (singles (drop (i + 1) l))) (singles_turn h) room,
-          length_bytes w (get_or l i 0),
-        )
+  pub listing_end : split left ≡ [] → Puts (records today k (split l)) n m before now
+  unfolding records
+  listing_end h = putting_end p.putting (rw h)
 
-    pub singles_next : i < length l → {r : ℕ} {after : List ℕ} → Puts (k ∷ bytes w (get_or l i 0)) m r now after → Listing singles k l n before (i + 1) r after
-    singles_next h q = record { within = omega arith; putting = putting_next p.putting (singles_turn h) q }
+-- the next record, of one number of w bytes
+pub singles_turn : {A : Type 0} (value : A → ℕ) {k w : ℕ} → widths today k ≡ w ∷ [] → {left later : List A} {x : A} → left ≡ x ∷ later
+    → records today k (singles_of value left) ≡ (k ∷ bytes w (value x)) ++ records today k (singles_of value later)
+unfolding records packed
+singles_turn value {w = w} e {x = x} t = rw (t, e, append-nil (bytes w (value x)))
 
-    pub singles_end : length l ≤ i → Puts (records today k (singles l)) n m before now
-    unfolding records
-    singles_end h = putting_end p.putting (rw (drop_of_length-le l h))
-
-  -- records of three numbers
-  module _ {ws : List ℕ} (e : widths today k ≡ ws) (p : Listing triples k l n before i m now) where
-    triples_turn : i + 3 ≤ length l → records today k (triples (drop i l))
-        ≡ (k ∷ packed ws (get_or l i 0 ∷ get_or l (i + 1) 0 ∷ get_or l (i + 2) 0 ∷ [])) ++ records today k (triples (drop (i + 3) l))
-    unfolding records triples
-    triples_turn h =
-        let a : i < length l = omega arith in
-        let b : suc i < length l = omega arith in
-        let c : suc (suc i) < length l = omega arith in
-        let j : i + 3 ≡ suc (suc (suc i)) = omega arith in
-        rw (drop-cons l i 0 a, drop-cons l (suc i) 0 b, drop-cons l (suc (suc i)) 0 c, add-one, add-two, j, e)
-
-    pub triples_room : 3 ≡ length ws → i + 3 ≤ length l → n + length (records today k (triples l)) ≤ length before → m + (1 + sum ws) ≤ length now
-    triples_room s h room =
-        let point : List ℕ = get_or l i 0 ∷ get_or l (i + 1) 0 ∷ get_or l (i + 2) 0 ∷ [] in
-        omega (
-          arith,
-          putting_room p.putting (k ∷ packed ws point) (records today k (triples (drop (i + 3) l))) (triples_turn h) room,
-          length_packed ws point s,
-        )
-
-    pub triples_next : i + 3 ≤ length l → {r : ℕ} {after : List ℕ}
-        → Puts (k ∷ packed ws (get_or l i 0 ∷ get_or l (i + 1) 0 ∷ get_or l (i + 2) 0 ∷ [])) m r now after → Listing triples k l n before (i + 3) r after
-    triples_next h q = record { within = h; putting = putting_next p.putting (triples_turn h) q }
-
-    pub triples_end : length l < i + 3 → Puts (records today k (triples l)) n m before now
-    unfolding records
-    triples_end h = putting_end p.putting (rw (too_few (drop i l) (rw length-drop (omega arith))))
+-- the next record, of three numbers
+pub triples_turn : {k : ℕ} {ws : List ℕ} → widths today k ≡ ws → {left : List ℕ} (point later : List ℕ) → length point ≡ 3 → left ≡ point ++ later
+    → records today k (triples left)
+    ≡ (k ∷ packed ws (get_or point 0 0 ∷ get_or point 1 0 ∷ get_or point 2 0 ∷ [])) ++ records today k (triples later)
+unfolding records triples
+triples_turn e [] later s t = absurd (omega arith)
+triples_turn e (y ∷ []) later s t = absurd (omega arith)
+triples_turn e (y ∷ z ∷ []) later s t = absurd (omega arith)
+triples_turn e (y ∷ z ∷ w ∷ []) later s t = rw (t, e)
+triples_turn e (y ∷ z ∷ w ∷ v ∷ ns) later s t = absurd (omega arith)
 
 -- the parts of a file, and what is left of it from each part on
 module _ (c : WriteCall) where

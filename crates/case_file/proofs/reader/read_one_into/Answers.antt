@@ -1,43 +1,67 @@
 -- The loop of `read_one_into`: the arrays hold the case read so far, and reading on gives what reading from the start gives (`Progress`).
-use Rattle.std.proofs.Common.{arith}
+use Rattle.std.specs.Prelude.{◌≡◌, ℕ, Bool, true, false, eqb}
+use Rattle.std.proofs.Common.{sym, refl, ◌∙◌, arith, eqb-true}
+use Rattle.std.proofs.lemmas.Bool.{eqb-false}
+use denote.Enum.Bare.{sameb}
+use Rattle.case_file.specs.contracts.record.Kind.{the_type}
+use Rattle.case_file.specs.declared.record.Kind.{Kind}
+use Rattle.case_file.specs.declared.record.Kind.TheVariants.{Modulus, First, Second, Skeleton, Point, End}
+use Rattle.case_file.specs.Format.{end_kind}
 use Rattle.case_file.specs.Case.{added}
+use Rattle.case_file.specs.Record.Kinds.{kind_byte}
 use Rattle.case_file.specs.Record.Arrays.{gives}
 use Rattle.case_file.specs.Reader.Progress.{begun, out, stopped, ended, fits_in, ready, carried}
 use Rattle.case_file.proofs.reader.read_one_into.Goals as goal
+
+ends : (k : Kind) → sameb the_type k End ≡ eqb (kind_byte k) end_kind
+ends Modulus = refl
+ends First = refl
+ends Second = refl
+ends Skeleton = refl
+ends Point = refl
+ends End = refl
+
+-- whether the byte of a kind is that of the end record, by the test of the code
+module _ (k : Kind) {byte : ℕ} {b : Bool} (is : kind_byte k ≡ byte) (same : b ≡ sameb the_type k End) where
+  at_end : b ≡ true → byte ≡ end_kind
+  at_end h = sym is ∙ eqb-true (kind_byte k) end_kind (sym (ends k) ∙ sym same ∙ h)
+
+  not_at_end : b ≡ false → byte ≡ end_kind → ⊥
+  not_at_end h q = eqb-false (kind_byte k) end_kind (sym (ends k) ∙ sym same ∙ h) (is ∙ q)
 
 pub loop-at-init : goal.loop-at-init
 loop-at-init c = begun _ c.nothing-counts.ensures
 
 -- the test that found a fault
-pub returns-then-number-ne0 : goal.returns-then-number-ne0
-returns-then-number-ne0 c =
-    rw (stopped c.loop-at.invariant c.loop-at-test.true c.fault_of-number.ensures c.if-number-ne0.true) c.nothing.ensures
+pub returns-in-Err : goal.returns-in-Err
+returns-in-Err c = rw (stopped c.loop-at.invariant c.loop-at-test.true c.in-Err.ensures.0 c.in-Err.ensures.1) c.nothing.ensures
 
-pub returns-then-kind-eq-END : goal.returns-then-kind-eq-END
+pub returns-then-eq : goal.returns-then-eq
 unfolding added
-returns-then-kind-eq-END c =
+returns-then-eq c =
     let g = c.loop-at.invariant.given in
-    rw (ended c.loop-at.invariant c.loop-at-test.true c.fault_of-number.ensures c.if-number-ne0.false c.if-kind-eq-END.true, c.if-kind-eq-END.true)
+    let e = at_end c.in-Ok.kind c.in-Ok.ensures.0 c.eq.ensures c.if-eq.true in
+    rw (ended c.loop-at.invariant c.loop-at-test.true (sym c.in-Ok.ensures.1) refl e, e)
     (gives (rw g.record_is) g.first_is g.second_is g.skeleton_is g.points_is)
 
 pub with_record-counts-requires : goal.with_record-counts-requires
 with_record-counts-requires c =
-    ready c.loop-at.invariant c.loop-at-test.true c.fault_of-number.ensures c.if-number-ne0.false c.if-kind-eq-END.false
-
-pub body-requires : goal.body-requires
-body-requires c =
-    let r = ready c.loop-at.invariant c.loop-at-test.true c.fault_of-number.ensures c.if-number-ne0.false c.if-kind-eq-END.false in
-    record { low = r.low; high = omega arith }
+    let n = not_at_end c.in-Ok.kind c.in-Ok.ensures.0 c.eq.ensures c.if-eq.false in
+    rw c.in-Ok.ensures.0 (ready c.loop-at.invariant c.loop-at-test.true (sym c.in-Ok.ensures.1) refl n)
 
 pub overflow_add-at : goal.overflow_add-at
 overflow_add-at c =
-    omega (arith, fits_in c.loop-at.invariant c.loop-at-test.true c.fault_of-number.ensures c.if-number-ne0.false, c.body.ensures)
+    omega (
+      arith,
+      fits_in c.loop-at.invariant c.loop-at-test.true (sym c.in-Ok.ensures.1) refl,
+      rw c.in-Ok.ensures.0 at c.body.ensures,
+    )
 
 pub loop-at-preserved : goal.loop-at-preserved
 loop-at-preserved c =
-    rw c.body.ensures
-    (carried c.loop-at.invariant c.loop-at-test.true c.fault_of-number.ensures c.if-number-ne0.false c.if-kind-eq-END.false c.with_record-counts.ensures)
+    let n = not_at_end c.in-Ok.kind c.in-Ok.ensures.0 c.eq.ensures c.if-eq.false in
+    rw (c.body.ensures, c.in-Ok.ensures.0)
+    (carried c.loop-at.invariant c.loop-at-test.true (sym c.in-Ok.ensures.1) refl n (rw c.in-Ok.ensures.0 at c.with_record-counts.ensures))
 
--- the loop's end
 pub returns : goal.returns
 returns c = rw (out c.loop-at.invariant c.loop-at-test.false) c.nothing-2.ensures

@@ -1,55 +1,62 @@
 -- `with_record` adds a record to its list: in each arm of the match the kind is known, and the law of that kind says the rest.
-use Rattle.std.proofs.Common.{arith}
+use Rattle.std.proofs.Common.{ap, arith}
+use Rattle.case_file.specs.Record.Kinds.{kind_byte}
 use Rattle.case_file.specs.Reader.Adding.{modulus_whole, first_place, second_place, key_place, point_place}
 use Rattle.case_file.specs.Reader.Adding.{modulus_added, first_added, second_added, key_added, point_added}
 use Rattle.case_file.proofs.reader.with_record.Goals as goal
 
 pub number2-requires : goal.number2-requires
-number2-requires c = modulus_whole c.requires c.in-1.is
+number2-requires c = modulus_whole c.requires (ap kind_byte c.in-Modulus.is)
 
 pub number4-requires : goal.number4-requires
-number4-requires c = (first_place c.requires c.in-2.is).whole
+number4-requires c = (first_place c.requires (ap kind_byte c.in-First.is)).whole
 
-pub put_term-requires : goal.put_term-requires
-put_term-requires c = (first_place c.requires c.in-2.is).room
+pub put-requires : goal.put-requires
+put-requires c = rw c.told-first (first_place c.requires (ap kind_byte c.in-First.is)).room
 
-pub number4-requires-in-3 : goal.number4-requires-in-3
-number4-requires-in-3 c = (second_place c.requires c.in-3.is).whole
+pub number4-requires-in-Second : goal.number4-requires-in-Second
+number4-requires-in-Second c = (second_place c.requires (ap kind_byte c.in-Second.is)).whole
 
-pub put_term-requires-in-3 : goal.put_term-requires-in-3
-put_term-requires-in-3 c = (second_place c.requires c.in-3.is).room
+pub put-requires-in-Second : goal.put-requires-in-Second
+put-requires-in-Second c = rw c.told-second (second_place c.requires (ap kind_byte c.in-Second.is)).room
 
-pub number2-requires-in-4 : goal.number2-requires-in-4
-number2-requires-in-4 c = (key_place c.requires c.in-4.is).whole
+pub number2-requires-in-Skeleton : goal.number2-requires-in-Skeleton
+number2-requires-in-Skeleton c = (key_place c.requires (ap kind_byte c.in-Skeleton.is)).whole
 
-pub put_key-requires : goal.put_key-requires
-put_key-requires c = (key_place c.requires c.in-4.is).room
+pub put-requires-in-Skeleton : goal.put-requires-in-Skeleton
+put-requires-in-Skeleton c = rw c.told-skeleton (key_place c.requires (ap kind_byte c.in-Skeleton.is)).room
 
 -- the three numbers of a point are in its body
 pub number2-y-requires : goal.number2-y-requires
-number2-y-requires c = omega (arith, (point_place c.requires (omega arith)).whole)
+number2-y-requires c = omega (arith, (point_place c.requires (ap kind_byte c.in-Point.is)).whole)
 
 pub number2-z-requires : goal.number2-z-requires
-number2-z-requires c = omega (arith, (point_place c.requires (omega arith)).whole)
+number2-z-requires c = omega (arith, (point_place c.requires (ap kind_byte c.in-Point.is)).whole)
 
 pub number2-w-requires : goal.number2-w-requires
-number2-w-requires c = omega (arith, (point_place c.requires (omega arith)).whole)
+number2-w-requires c = omega (arith, (point_place c.requires (ap kind_byte c.in-Point.is)).whole)
 
-pub put_point-requires : goal.put_point-requires
-put_point-requires c = (point_place c.requires (omega arith)).room
+pub put-requires-in-Point : goal.put-requires-in-Point
+put-requires-in-Point c = rw c.told-points (point_place c.requires (ap kind_byte c.in-Point.is)).room
 
-pub returns-in-1 : goal.returns-in-1
-returns-in-1 c = modulus_added c.requires c.in-1.is c.number2.ensures
+pub returns-in-Modulus : goal.returns-in-Modulus
+returns-in-Modulus c = modulus_added c.requires (ap kind_byte c.in-Modulus.is) c.number2.ensures
 
-pub returns-in-2 : goal.returns-in-2
-returns-in-2 c = first_added c.requires c.in-2.is c.number4.ensures c.put_term.ensures
+pub returns-in-First : goal.returns-in-First
+returns-in-First c =
+    first_added c.requires (ap kind_byte c.in-First.is) c.number4.ensures (record { stored = c.put.ensures.after; counted = c.put.ensures.count })
 
-pub returns-in-3 : goal.returns-in-3
-returns-in-3 c = second_added c.requires c.in-3.is c.number4-in-3.ensures c.put_term-in-3.ensures
+pub returns-in-Second : goal.returns-in-Second
+returns-in-Second c =
+    second_added c.requires (ap kind_byte c.in-Second.is) c.number4-in-Second.ensures
+    (record { stored = c.put-in-Second.ensures.after; counted = c.put-in-Second.ensures.count })
 
-pub returns-in-4 : goal.returns-in-4
-returns-in-4 c = key_added c.requires c.in-4.is c.number2-in-4.ensures c.put_key.ensures
+pub returns-in-Skeleton : goal.returns-in-Skeleton
+returns-in-Skeleton c =
+    key_added c.requires (ap kind_byte c.in-Skeleton.is) c.number2-in-Skeleton.ensures
+    (record { stored = c.put-in-Skeleton.ensures.after; counted = c.put-in-Skeleton.ensures.count })
 
-pub returns-in_default : goal.returns-in_default
-returns-in_default c =
-    point_added c.requires (omega arith) c.number2-y.ensures c.number2-z.ensures c.number2-w.ensures c.put_point.ensures
+pub returns-in-Point : goal.returns-in-Point
+returns-in-Point c =
+    point_added c.requires (ap kind_byte c.in-Point.is) c.number2-y.ensures c.number2-z.ensures c.number2-w.ensures
+    (record { stored = c.put-in-Point.ensures.after; counted = c.put-in-Point.ensures.count })

@@ -31,47 +31,48 @@ module _ (z : WriteCall) {k : ℕ} {a : List ℕ} (m : Puts (modulus_kind ∷ by
         put_points : {k₄ : ℕ} {g : List ℕ} → Puts (points_part z) k₃ k₄ e g → At z k₄ g (end_kind ∷ [])
         put_points p = putting_next put_skeleton refl p
 
-pub write_key-after_modulus-requires : goal.write_key-after_modulus-requires
+pub write_record-after_modulus-requires : goal.write_record-after_modulus-requires
 unfolding bytes
-write_key-after_modulus-requires c =
+write_record-after_modulus-requires c =
     let z : WriteCall = write_call c.args.modulus c.args.first.now c.args.second.now c.args.skeleton.now c.args.points.now c.args.buffer.now in
     putting_room {n = 0} {before = z.buffer} putting_start (modulus_kind ∷ bytes 2 z.modulus) (from_first z) (file_parts z) (omega (arith, c.requires))
 
-pub write_terms-after_first-requires : goal.write_terms-after_first-requires
+pub write_numbers-after_first-requires : goal.write_numbers-after_first-requires
 unfolding kind_of
-write_terms-after_first-requires c =
+write_numbers-after_first-requires c =
     let z : WriteCall = write_call c.args.modulus c.args.first.now c.args.second.now c.args.skeleton.now c.args.points.now c.args.buffer.now in
-    let p = put_modulus z c.write_key-after_modulus.ensures in
-    record { of_terms = refl; room = putting_room p (first_part z) (from_second z) refl (omega (arith, c.requires)) }
+    let p = put_modulus z c.write_record-after_modulus.ensures in
+    record { of_width = refl; room = putting_room p (first_part z) (from_second z) refl (omega (arith, c.requires)) }
 
-pub write_terms-after_second-requires : goal.write_terms-after_second-requires
+pub write_numbers-after_second-requires : goal.write_numbers-after_second-requires
 unfolding kind_of
-write_terms-after_second-requires c =
+write_numbers-after_second-requires c =
     let z : WriteCall = write_call c.args.modulus c.args.first.now c.args.second.now c.args.skeleton.now c.args.points.now c.args.buffer.now in
-    let p = put_first z c.write_key-after_modulus.ensures c.write_terms-after_first.ensures in
-    record { of_terms = refl; room = putting_room p (second_part z) (from_skeleton z) refl (omega (arith, c.requires)) }
+    let p = put_first z c.write_record-after_modulus.ensures c.write_numbers-after_first.ensures in
+    record { of_width = refl; room = putting_room p (second_part z) (from_skeleton z) refl (omega (arith, c.requires)) }
 
-pub write_keys-after_skeleton-requires : goal.write_keys-after_skeleton-requires
-write_keys-after_skeleton-requires c =
+pub write_numbers-after_skeleton-requires : goal.write_numbers-after_skeleton-requires
+unfolding kind_of
+write_numbers-after_skeleton-requires c =
     let z : WriteCall = write_call c.args.modulus c.args.first.now c.args.second.now c.args.skeleton.now c.args.points.now c.args.buffer.now in
-    let p = put_second z c.write_key-after_modulus.ensures c.write_terms-after_first.ensures c.write_terms-after_second.ensures in
-    putting_room p (skeleton_part z) (from_points z) refl (omega (arith, c.requires))
+    let p = put_second z c.write_record-after_modulus.ensures c.write_numbers-after_first.ensures c.write_numbers-after_second.ensures in
+    record { of_width = refl; room = putting_room p (skeleton_part z) (from_points z) refl (omega (arith, c.requires)) }
 
 pub write_points-end-requires : goal.write_points-end-requires
 write_points-end-requires c =
     let z : WriteCall = write_call c.args.modulus c.args.first.now c.args.second.now c.args.skeleton.now c.args.points.now c.args.buffer.now in
     let p =
-    put_skeleton z c.write_key-after_modulus.ensures c.write_terms-after_first.ensures c.write_terms-after_second.ensures
-    c.write_keys-after_skeleton.ensures
+    put_skeleton z c.write_record-after_modulus.ensures c.write_numbers-after_first.ensures c.write_numbers-after_second.ensures
+    c.write_numbers-after_skeleton.ensures
     in
     putting_room p (points_part z) (end_kind ∷ []) refl (omega (arith, c.requires))
 
-pub write1-requires : goal.write1-requires
-write1-requires c =
+pub put-requires : goal.put-requires
+put-requires c =
     let z : WriteCall = write_call c.args.modulus c.args.first.now c.args.second.now c.args.skeleton.now c.args.points.now c.args.buffer.now in
     let p =
-    put_points z c.write_key-after_modulus.ensures c.write_terms-after_first.ensures c.write_terms-after_second.ensures
-    c.write_keys-after_skeleton.ensures c.write_points-end.ensures
+    put_points z c.write_record-after_modulus.ensures c.write_numbers-after_first.ensures c.write_numbers-after_second.ensures
+    c.write_numbers-after_skeleton.ensures c.write_points-end.ensures
     in
     putting_room p (end_kind ∷ []) [] refl (omega (arith, c.requires))
 
@@ -79,7 +80,7 @@ pub returns : goal.returns
 returns c =
     let z : WriteCall = write_call c.args.modulus c.args.first.now c.args.second.now c.args.skeleton.now c.args.points.now c.args.buffer.now in
     let p =
-    put_points z c.write_key-after_modulus.ensures c.write_terms-after_first.ensures c.write_terms-after_second.ensures
-    c.write_keys-after_skeleton.ensures c.write_points-end.ensures
+    put_points z c.write_record-after_modulus.ensures c.write_numbers-after_first.ensures c.write_numbers-after_second.ensures
+    c.write_numbers-after_skeleton.ensures c.write_points-end.ensures
     in
-    putting_end (putting_next p refl c.write1.ensures) refl
+    putting_end (putting_next p {vs = end_kind ∷ []} refl (record { stored = c.put.ensures.after; counted = c.put.ensures.count })) refl
