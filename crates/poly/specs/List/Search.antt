@@ -19,10 +19,6 @@ module _ {Wrong : ℕ → Type 0} {n : ℕ} where
   pub search_ends : {i : ℕ} → Searching Wrong n i → n ≤ i → Searched Wrong n i
   search_ends s e = record { within = s.within; before = s.before; here = λ l. absurd (omega arith) }
 
-  -- the same, where the loop hands back how many there are
-  pub search_past : {i : ℕ} → Searching Wrong n i → n ≤ i → Searched Wrong n n
-  search_past {i} s e = record { within = omega arith; before = λ k l. s.before k (omega arith); here = λ l. absurd (omega arith) }
-
 -- where nothing is wrong from n on
 module _ (Wrong : ℕ → Type 0) (n : ℕ) (beyond : (i : ℕ) → n ≤ i → ¬ Wrong i) (place : ℕ) (s : Searched Wrong n place) where
   pub searched_first : place < n → first Wrong place
