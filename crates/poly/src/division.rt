@@ -72,7 +72,7 @@ fn subtract(q: Element, shift: usize, divisor: &[Term], cells: &mut [Residue])
 
 // The steps of a division, where the cells from `top` on are 0. Each leading term that can be divided gives a term of the quotient, stored at
 // its key; the search for the next one is left at the first that cannot, and where one is due and the ceiling is reached. Keys are counted in 16 bits:
-// on a 32-bit core a 64-bit count takes two registers.
+// on a 32-bit core a 64-bit count takes two registers. The labelled loops are a form that docs/FORMS.md lists.
 fn steps(
     divisor: &[Term],
     lead: KeyBits,

@@ -11,10 +11,12 @@ use field::{Element, Residue};
 fn size(f: &Eight) -> Size
     ensures { result ≡ size_of f.now }
 {
-    match f.iter().rposition(|&c| c != 0) {
-        Some(i) => i as Size + 1,
-        None => 0,
+    for i in (0..POWERS).rev() {
+        if f[i] != 0 {
+            return i as Size + 1;
+        }
     }
+    0
 }
 
 // Each number times c.

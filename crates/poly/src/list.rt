@@ -79,10 +79,12 @@ fn leading_length(terms: &[Term]) -> usize
     ensures { Searched (Lower terms.now) (length terms.now) result }
 {
     let top = Key::of(terms[0]).x();
-    terms
-        .iter()
-        .position(|&t| Key::of(t).x() < top)
-        .unwrap_or(terms.len())
+    for (i, &t) in terms.iter().enumerate() {
+        if Key::of(t).x() < top {
+            return i;
+        }
+    }
+    terms.len()
 }
 
 // The leading part: all terms with the highest power of x, as a part of the caller's list; on refusal its empty head.

@@ -11,10 +11,12 @@ use field::{COORDINATES, Fault, Residue};
 pub fn first_large(p: Residue, numbers: &[Residue]) -> usize
     ensures { Searched (WrongNumber p numbers.now) (length numbers.now) result }
 {
-    numbers
-        .iter()
-        .position(|&n| n >= p)
-        .unwrap_or(numbers.len())
+    for (i, &n) in numbers.iter().enumerate() {
+        if n >= p {
+            return i;
+        }
+    }
+    numbers.len()
 }
 
 // The refusals 8 and 9, of one point.

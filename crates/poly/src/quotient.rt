@@ -17,10 +17,10 @@ fn gather(cells: &[Residue], out: &mut [Term]) -> usize
     ensures { Gathered cells.now out.old out.new result }
 {
     let mut n: usize = 0;
-    for k in (0..cells.len()).rev() {
-        let c = cells[k];
+    for k in (0..cells.len() as KeyBits).rev() {
+        let c = cells[k as usize];
         if c != 0 {
-            out[n] = crate::key::term(k as KeyBits, c);
+            out[n] = crate::key::term(k, c);
             n += 1;
         }
     }

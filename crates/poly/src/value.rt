@@ -69,7 +69,7 @@ fn risen(yz: Element, y: Element, z: Element, before: Key, k: Key) -> Element
 }
 
 // r becomes the value, eight coefficients in x. What it has at the list's highest power of x, the x-leading coefficient, is handed back.
-// It goes from the last term to the first, so that keys rise.
+// It goes from the last term to the first, so that keys rise, and counts the terms in 16 bits, which is one register of the handheld's core.
 pub(crate) fn value(p: Residue, point: &[Residue], terms: &[Term], r: &mut Eight) -> Residue
     requires { CanEvaluate p point.now terms.now }
     ensures { Valued p point.now terms.now r.new result }
@@ -80,7 +80,8 @@ pub(crate) fn value(p: Residue, point: &[Residue], terms: &[Term], r: &mut Eight
     *r = [Element::ZERO; POWERS];
     let mut yz = Element::one(p);
     let mut before = Key { bits: 0 };
-    for &t in terms.iter().rev() {
+    for i in (0..terms.len() as u16).rev() {
+        let t = terms[i as usize];
         let k = Key::of(t);
         let v = times_power(Element::of(p, crate::key::coefficient_of(t)), w, k.w());
         yz = risen(yz, y, z, before, k);

@@ -15,7 +15,7 @@ use Rattle.poly.specs.Lists.{WrongModulo, wrong_term, coefficient_zero, coeffici
 use Rattle.poly.specs.Search.{Searched}
 use Rattle.poly.specs.List.Searching.{Searching}
 use Rattle.poly.specs.List.Model.{key_before}
-use Rattle.poly.specs.List.Search.{search_begins, search_goes_on, search_stops, search_ends}
+use Rattle.poly.specs.List.Search.{search_begins, search_goes_on, search_stops}
 use Rattle.poly.specs.List.Check.{key_is_wrong, term_is_right}
 
 pub record Walked (bound : ℕ) (ts : List ℕ) (before i : ℕ) : Type 0 where
@@ -29,7 +29,8 @@ module _ (bound : ℕ) (ts : List ℕ) where
   walk_begins = record { searching = search_begins; key = refl; in_range = omega arith }
 
   pub walk_ends : (before i : ℕ) → Walked bound ts before i → length ts ≤ i → Searched (WrongModulo bound ts) (length ts) (length ts)
-  walk_ends before i h l = search_ends (record { within = omega arith; before = λ k m. h.searching.before k (omega arith) }) (omega arith)
+  walk_ends before i h l =
+      record { within = omega arith; before = λ k m. h.searching.before k (omega arith); here = λ m. absurd (omega arith) }
 
   -- at the term with the key k and the coefficient c
   module _ (before i : ℕ) (h : Walked bound ts before i) (l : i < length ts) (k c : ℕ) (ek : k ≡ key_of (get_or ts i 0))

@@ -1,6 +1,6 @@
 -- The model on eight numbers, as numbers: what stays below p, what is clear, and how sizes fall.
 use Rattle.std.specs.Prelude.{◌≡◌, refl, List}
-use Rattle.std.proofs.Common.{sym, ap₂, ◌∙◌, subst, mul-one, mul-zero, add-one, length, arith}
+use Rattle.std.proofs.Common.{sym, ap₂, ◌∙◌, subst, mul-one, mul-zero, arith}
 use Rattle.std.proofs.Math.Path.{ap}
 use Prim.Native.Nat.{ℕ, zero, suc, ◌+◌, ◌-◌, ◌*◌, ◌%◌, ◌≤◌, ◌<◌}
 use Rattle.std.proofs.Math.Decide.{ℕ_discrete, dec_le, dec_lt}
@@ -117,13 +117,16 @@ module _ (p : ℕ) (pos : 0 < p) where
       remainder_clear m g g1 cg k (subtract p (get_or f (k + m) 0) k f g) (subtract_eight (get_or f (k + m) 0) k f g h)
       (subtract_clear k m f g h cf g1 cg)
 
--- how the code finds the size: the last place where a number stands, or none
-module _ (f : List ℕ) (eight : length f ≡ 8) where
-  clear_from : (n : ℕ) → ((k : ℕ) → n ≤ k → k < 8 → get_or f k 0 ≡ 0) → Clear n f
-  clear_from n h k l = elim (dec_lt k 8) [ yes m ↦ h k l m | no m ↦ past_end 8 k f eight (omega arith) ]
+-- how the code looks for the size: from n down to m
+module _ (f : List ℕ) {n : ℕ} where
+  pub size_down : {m : ℕ} → n ≡ suc m → get_or f m 0 ≡ 0 → size_to n f ≡ size_to m f
+  unfolding size_to
+  size_down e z = rw (e, eq-eqb _ _ z, size_to)
 
-  pub size_found : (i : ℕ) → ¬ (get_or f i 0 ≡ 0) → ((k : ℕ) → suc i ≤ k → k < 8 → get_or f k 0 ≡ 0) → i + 1 ≡ size_to 8 f
-  size_found i q h = add-one i ∙ sym (size_is 8 i f (clear_from 8 (λ k l m. absurd (omega arith))) q (clear_from (suc i) h))
+  pub size_found : {m : ℕ} → n ≡ suc m → ¬ (get_or f m 0 ≡ 0) → size_to n f ≡ n
+  unfolding size_to
+  size_found e q = rw (e, ne_eqb _ _ q, size_to)
 
-  pub size_none : ((k : ℕ) → k < 8 → get_or f k 0 ≡ 0) → 0 ≡ size_to 8 f
-  size_none h = omega (arith, size_below 8 0 f (clear_from 0 (λ k l m. h k m)))
+  pub size_none : n ≡ 0 → size_to n f ≡ 0
+  unfolding size_to
+  size_none e = ap (λ (k : ℕ). size_to k f) e

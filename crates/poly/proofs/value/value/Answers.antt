@@ -1,16 +1,7 @@
 -- `poly::value::value` meets its contract: each turn works the term's power of w, then y^b z^c from that of the key before, and adds their product
 -- at the term's power of x.
-use Rattle.std.proofs.Common.{◌≡◌, ℕ, suc, ◌+◌, ◌-◌, ◌*◌, ◌/◌, ◌%◌, ◌≤◌, ◌<◌, List, [], ◌∷◌, ◌++◌, length, get_or, sym, ap, ◌∙◌, subst, arith, Option, Some, Iter}
+use Rattle.std.proofs.Common.{◌≡◌, ℕ, suc, ◌+◌, ◌-◌, ◌*◌, ◌/◌, ◌%◌, ◌≤◌, ◌<◌, List, length, get_or, sym, ap, ◌∙◌, subst, arith}
 use Rattle.std.proofs.Math.ListN.{get_or-eq_default}
-use Rattle.std.proofs.lemmas.List.{get_or-reverse, length-reverse, length_push}
-use Rattle.std.proofs.lemmas.Grind.{get_or_default_zero}
-use Rattle.std.proofs.lemmas.Iterator.Adapters.{YieldsList-from_rev_slice}
-use Rattle.std.proofs.lemmas.Iterator.Consumers.{YieldsList-turn}
-use Rattle.std.specs.Iterator.{Yields}
-use Rattle.std.specs.Iterator.Adapters.{rev_source, rev_steps}
-use Rattle.std.specs.Slice.Iter.{iter_rest, iter_steps_back}
-use Rattle.std.specs.Borrow.{Bor}
-use Rattle.std.specs.declared.iter.Rev.{Rev}
 use Rattle.field.specs.declared.elements.Element.{Element}
 use Rattle.field.specs.Contract.{element}
 use Rattle.field.specs.Elements.Plain.{plus_product_is}
@@ -22,56 +13,34 @@ use Rattle.poly.specs.Value.Monomial.{monomial}
 use Rattle.poly.specs.Value.Model.{plus_term}
 use Rattle.poly.specs.Value.PowerLaws.{factors_again, times_power_is, rises, risen_is, head_none}
 use Rattle.poly.specs.Value.ModelLaws.{value_of_none, value_of_stored, term_in_parts}
-use Rattle.poly.proofs.value.value.Invariants.{Valuing}
 use Rattle.poly.proofs.value.value.Goals as goal
 
--- the term of a turn, where n terms are left
-record Turn (ts : List ℕ) (n t : ℕ) : Type 0 where
-  pub some : 0 < n
-  pub is : t ≡ get_or ts (n - 1) 0
-
-turn : (ts : List ℕ) (s t u : Rev (Iter ℕ)) (xs : List (Bor ℕ)) {r : Option (Bor ℕ)} {x : Bor ℕ} → iter_rest (rev_source s) ≡ ts
-    → Yields (rev_steps iter_steps_back) s xs t → r ≡ Some x → rev_steps iter_steps_back t r u → Turn ts (length ts - length xs) x.now
-turn ts s t u xs {r} {x} from yielded is steps =
-    let h = YieldsList-turn (YieldsList-from_rev_slice ts from) xs t yielded r u x is steps in
-    let n = length xs in
-    let l : n < length ts = omega (arith, h.0, length-reverse ts) in
-    let e : length ts - 1 - n ≡ length ts - n - 1 = omega arith in
-    record {
-      some = omega arith;
-      is = h.1 ∙ get_or-reverse ts n x.now l ∙ get_or_default_zero ts _ x.now (omega arith) ∙ ap (λ (k : ℕ). get_or ts k 0) e;
-    }
-
 -- read from behind, the next term's key is not smaller
-rising : (p : ℕ) (ts : List ℕ) → Falling p keys ts → {i t : ℕ} → i ≤ length ts → Turn ts i t → key_of (get_or ts i 0) ≤ key_of t
-rising p ts h {i} {t} l now =
-    let e : suc (i - 1) ≡ i = omega (arith, now.some) in
-    subst (λ (k : ℕ). key_of (get_or ts k 0) ≤ key_of t) e
-    (omega (arith, falling_rises p keys ts h (i - 1) (omega (arith, now.some)), ap key_of now.is))
+rising : (p : ℕ) (ts : List ℕ) → Falling p keys ts → (i : ℕ) → 0 < i → i ≤ length ts → key_of (get_or ts i 0) ≤ key_of (get_or ts (i - 1) 0)
+rising p ts h i s l =
+    let e : suc (i - 1) ≡ i = omega arith in
+    subst (λ (k : ℕ). key_of (get_or ts k 0) ≤ key_of (get_or ts (i - 1) 0)) e (falling_rises p keys ts h (i - 1) (omega arith))
 
--- a term's power of x, and its coefficient
-x_small : (p : ℕ) (ts : List ℕ) → Falling p keys ts → {i t : ℕ} → i ≤ length ts → Turn ts i t → {k x : ℕ} → k ≡ key_of t → x ≡ k / 512 → x < 8
-x_small p ts h {i} l now e d = omega (arith, falling_key p keys ts h (i - 1) (omega (arith, now.some)), e ∙ ap key_of now.is)
+-- a term's power of x
+x_small : (p : ℕ) (ts : List ℕ) → Falling p keys ts → (i : ℕ) → i < length ts → {k x : ℕ} → k ≡ key_of (get_or ts i 0) → x ≡ k / 512 → x < 8
+x_small p ts h i l e d = omega (arith, falling_key p keys ts h i l)
 
-reduced : (p : ℕ) (ts : List ℕ) → Falling p keys ts → {i t : ℕ} → i ≤ length ts → Turn ts i t → coefficient_of t < p
-reduced p ts h {i} l now = omega (arith, falling_coefficient p keys ts h (i - 1) (omega (arith, now.some)), ap coefficient_of now.is)
-
-pub loop-t-init : goal.loop-t-init
-loop-t-init c =
+pub loop-i-init : goal.loop-i-init
+loop-i-init c =
     let p = c.args.p in
     let at = c.args.point.now in
     let ts = c.args.terms.now in
     record {
-      value = value_of_none p at ts (length ts - 0) (omega arith);
-      key = let e : get_or ts (length ts - 0) 0 ≡ 0 = get_or-eq_default ts 0 (omega arith) in sym (ap key_of e);
+      within = omega arith;
+      value = value_of_none p at ts (length ts) (omega arith);
+      key = let e : get_or ts (length ts) 0 ≡ 0 = get_or-eq_default ts 0 (omega arith) in sym (ap key_of e);
       number = c.one-yz.ensures ∙ ap (element p) (head_none p (get_or at 0 0) (get_or at 1 0) c.requires.above);
     }
 
 pub times_power-v-requires : goal.times_power-v-requires
 times_power-v-requires c =
-    let ts = c.args.terms.now in
-    let now = turn ts _ _ _ _ (cc) c.loop-t.yielded_by c.in-Some.is c.next.ensures.steps in
-    let l = reduced c.args.p ts c.requires.right.falls (omega arith) now in
+    let i = c.loop-i.i in
+    let l = falling_coefficient c.args.p keys c.args.terms.now c.requires.right.falls (i - 1) (omega arith) in
     record {
       factors = factors_again c.of.ensures (omega arith) (ap (λ (e : Element). e.modulus) c.of-w.ensures);
       three_bits = omega arith;
@@ -79,49 +48,38 @@ times_power-v-requires c =
 
 pub risen-yz-requires : goal.risen-yz-requires
 risen-yz-requires c =
-    let ts = c.args.terms.now in
-    let now = turn ts _ _ _ _ (cc) c.loop-t.yielded_by c.in-Some.is c.next.ensures.steps in
-    let l = rising c.args.p ts c.requires.right.falls (omega arith) now in
-    rises c.of-y.ensures c.of-z.ensures _ _ c.requires.above c.loop-t.invariant.number
-    (omega (arith, l, c.loop-t.invariant.key, c.of-k.ensures))
+    let l = rising c.args.p c.args.terms.now c.requires.right.falls c.loop-i.i (omega arith) c.loop-i.invariant.within in
+    rises c.of-y.ensures c.of-z.ensures _ _ c.requires.above c.loop-i.invariant.number (omega arith)
 
 pub bounds-r-x : goal.bounds-r-x
-bounds-r-x c =
-    let ts = c.args.terms.now in
-    x_small c.args.p ts c.requires.right.falls (omega arith) (turn ts _ _ _ _ (cc) c.loop-t.yielded_by c.in-Some.is c.next.ensures.steps) c.of-k.ensures c.x-x.ensures
+bounds-r-x c = x_small c.args.p c.args.terms.now c.requires.right.falls (c.loop-i.i - 1) (omega arith) c.of-k.ensures c.x-x.ensures
 
-pub bounds-r-x-in-loop-t : goal.bounds-r-x-in-loop-t
-bounds-r-x-in-loop-t c =
-    let ts = c.args.terms.now in
-    x_small c.args.p ts c.requires.right.falls (omega arith) (turn ts _ _ _ _ (cc) c.loop-t.yielded_by c.in-Some.is c.next.ensures.steps) c.of-k.ensures c.x-x.ensures
+pub bounds-r-x-in-loop-i : goal.bounds-r-x-in-loop-i
+bounds-r-x-in-loop-i c =
+    x_small c.args.p c.args.terms.now c.requires.right.falls (c.loop-i.i - 1) (omega arith) c.of-k.ensures c.x-x.ensures
 
-pub loop-t-preserved : goal.loop-t-preserved
+pub loop-i-preserved : goal.loop-i-preserved
 unfolding plus_term
-loop-t-preserved c =
+loop-i-preserved c =
     let p = c.args.p in
     let at = c.args.point.now in
     let ts = c.args.terms.now in
-    let l = c.loop-t in
-    let now = turn ts _ _ _ _ (cc) c.loop-t.yielded_by c.in-Some.is c.next.ensures.steps in
-    let i = length ts - length l.yielded in
-    let next : length ts - length (l.yielded ++ c.in-Some.field-0 ∷ []) ≡ i - 1 = omega (arith, length_push l.yielded c.in-Some.field-0) in
-    let bits = c.of-k.ensures ∙ ap key_of now.is in
+    let l = c.loop-i in
+    let bits = c.of-k.ensures in
     let y = get_or at 0 0 in
     let z = get_or at 1 0 in
     let w = get_or at 2 0 in
-    let coefficient = coefficient_of (get_or ts (i - 1) 0) in
+    let coefficient = coefficient_of (get_or ts (l.i - 1) 0) in
     let sum = get_or l.r c.x-x.result 0 in
-    let w_worked =
-    times_power_is (c.of.ensures ∙ ap (element p) (c.coefficient_of.ensures ∙ ap coefficient_of now.is)) c.of-w.ensures c.w.result
-    c.times_power-v.ensures in
+    let w_worked = times_power_is (c.of.ensures ∙ ap (element p) c.coefficient_of.ensures) c.of-w.ensures c.w.result c.times_power-v.ensures in
     let yz_worked = risen_is c.of-y.ensures c.of-z.ensures c.of-k.result.bits c.risen-yz.ensures in
-    subst (Valuing p at ts _ c.of-k.result.bits c.risen-yz.result) (sym next)
-    (record {
+    record {
+      within = omega arith;
       value =
-          value_of_stored p at ts i now.some (omega arith) l.invariant.value (c.x-x.ensures ∙ ap (λ (n : ℕ). n / 512) bits)
-          (ap (λ (e : Element). e.value) (plus_product_is w_worked yz_worked c.of-in-loop-t.ensures c.plus_product.ensures)
+          value_of_stored p at ts l.i c.loop-i-test.true l.invariant.within l.invariant.value (c.x-x.ensures ∙ ap (λ (n : ℕ). n / 512) bits)
+          (ap (λ (e : Element). e.value) (plus_product_is w_worked yz_worked c.of-in-loop-i.ensures c.plus_product.ensures)
           ∙ term_in_parts p coefficient c.w.result y z w c.of-k.result.bits sum c.w.ensures
           ∙ ap (λ (n : ℕ). (sum + coefficient * monomial y z w n) % p) bits);
       key = bits;
       number = yz_worked;
-    })
+    }

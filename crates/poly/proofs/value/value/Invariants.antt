@@ -1,16 +1,15 @@
--- The loop keeps the value of the terms that it has passed, those from `left` on, and y^b z^c of the last of them.
-use Rattle.std.proofs.Common.{◌≡◌, List, ℕ, ◌-◌, ◌%◌, length, get_or, drop}
-use Rattle.field.specs.declared.elements.Element.{Element}
+-- The loop keeps the value of the terms from i on, which it has passed, and y^b z^c of the last of them.
+use Rattle.std.proofs.Common.{◌≡◌, ◌%◌, ◌≤◌, length, get_or, drop}
 use Rattle.field.specs.Contract.{element}
 use Rattle.poly.specs.Terms.{key_of}
 use Rattle.poly.specs.Value.Monomial.{head}
 use Rattle.poly.specs.Value.Model.{value_of}
 use Rattle.poly.proofs.value.value.Given as goal
 
-pub record Valuing (p : ℕ) (point ts r : List ℕ) (before : ℕ) (yz : Element) (left : ℕ) : Type 0 where
-  pub value : r ≡ value_of p point (drop left ts)
-  pub key : before ≡ key_of (get_or ts left 0)
-  pub number : yz ≡ element p (head (get_or point 0 0) (get_or point 1 0) before % p)
-
-abbrev pub invariant-loop-t : goal.invariant-loop-t
-invariant-loop-t l = Valuing l.p l.point l.terms l.r l.before.bits l.yz (length l.terms - length l.yielded)
+abbrev pub invariant-loop-i : goal.invariant-loop-i
+invariant-loop-i l = record {
+  within : l.i ≤ length l.terms;
+  value : l.r ≡ value_of l.p l.point (drop l.i l.terms);
+  key : l.before.bits ≡ key_of (get_or l.terms l.i 0);
+  number : l.yz ≡ element l.p (head (get_or l.point 0 0) (get_or l.point 1 0) l.before.bits % l.p);
+}
