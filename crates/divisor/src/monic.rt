@@ -54,7 +54,11 @@ fn leading(values: Cells, n: usize) -> Residue
     requires { Within most_columns n values }
     ensures { result ≡ leading_of (take n values) }
 {
-    values[..n].iter().find(|value| **value != 0).copied().unwrap_or(0)
+    values[..n]
+        .iter()
+        .find(|value| **value != 0)
+        .copied()
+        .unwrap_or(0)
 }
 
 // The terms of the keys whose coefficient is not 0, each coefficient times the inverse of the leading one.

@@ -35,10 +35,6 @@ module _ (a i : ℕ) (list : List ℕ) where
     | no l ↦ rw (past_end (length (part a i list)) j (part a i list) refl (omega (arith, part_within))) none
   ]
 
-
-
-
-
 -- n numbers stored from a place on
 module _ (n : ℕ) (numbers : List ℕ) (at : ℕ) (list : List ℕ) where
   pub stored_length : length (stored n numbers at list) ≡ length list

@@ -15,7 +15,7 @@ use Rattle.field.specs.Modulo.{Modulo}
 use Rattle.field.specs.Loops.Fold.{fold_always, downwards}
 use Rattle.divisor.specs.declared.table.Row.{Row}
 use Rattle.divisor.specs.declared.table.Table.{Table}
-use Rattle.divisor.specs.declared.table.Solution.TheVariants.{None, One, Several}
+use Rattle.divisor.specs.declared.table.Solution.TheVariants.{One}
 use Rattle.divisor.specs.Table.Model.{most_columns, empty_table, diagonal, with_row, some_free, back, values, zeros, solved_as, solved, TableReady}
 use Rattle.divisor.specs.Table.Meaning.{table_of, added, rows_of, AllReady, Says}
 use Rattle.divisor.specs.Table.Added.{added_ready, added_columns}

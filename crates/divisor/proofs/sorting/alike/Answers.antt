@@ -1,5 +1,5 @@
 -- `divisor::sorting::alike` meets its contract: what the definition counts is what the library counts by a test.
-use Rattle.std.proofs.Common.{arith, ◌≡◌, refl, List, ℕ, nat_eq, rules, cond, true, false, take}
+use Rattle.std.proofs.Common.{arith, ◌≡◌, refl, List, ℕ, nat_eq, rules, take}
 use Rattle.std.specs.Prelude.{count_by}
 use Rattle.std.proofs.lemmas.Bool.Decides.{nat_tests}
 use Rattle.std.proofs.lemmas.List.Recursion.{is_count_by}

@@ -1,5 +1,5 @@
 -- `divisor::table::Row::scale` meets its contract. The loop is as that of `subtract`, with the inverse, which is the field's by the link of `field`.
-use Rattle.std.proofs.Common.{◌∙◌, ap, subst, ◌*◌, ◌%◌, get_or, arith}
+use Rattle.std.proofs.Common.{◌∙◌, ap, subst, ◌*◌, ◌%◌, arith}
 use Rattle.field.specs.Modulus.Laws.{listed_prime}
 use Rattle.field.specs.Contract.{element, product_of, Inverse}
 use Rattle.field.specs.Elements.Link.{inverse_val}

@@ -1,5 +1,5 @@
 -- `divisor::table::Row::subtract` meets its contract: how a loop that fills a part of an array begins, goes on and ends.
-use Rattle.std.proofs.Common.{◌∙◌, ap, ◌+◌, ◌-◌, ◌*◌, ◌%◌, get_or, arith}
+use Rattle.std.proofs.Common.{◌∙◌, ap, ◌+◌, ◌-◌, ◌*◌, ◌%◌, arith}
 use Rattle.field.specs.Contract.{minus_product_of}
 use Rattle.field.specs.Loops.Cells.{part_start, part_next, part_end}
 use Rattle.divisor.specs.Table.Model.{cell}
