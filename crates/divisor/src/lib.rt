@@ -87,14 +87,15 @@ fn answer(
         (candidate_result result out.new work.new) }
 {
     let n = points.len() / COORDINATES;
-    let sizes = points::look(p, first, second, points, work);
-    let least = sorting::least_size(sizes, n);
+    let looked = points::look(p, first, second, points, work);
+    let sizes = &looked[..n];
+    let least = sorting::least_size(sizes);
     if least == 0 {
         return no_good_point(n, work);
     }
-    let bad = sorting::alike(sizes, n, 0);
-    let kept = sorting::alike(sizes, n, least);
-    let places = sorting::places_of(sizes, n, least);
+    let bad = sorting::alike(sizes, 0);
+    let kept = sorting::alike(sizes, least);
+    let places = sorting::places_of(sizes, least);
     let equations = (POWERS * kept) as Count;
     let columns = (skeleton.len() + kept) as Column;
     let solved = equations::solved(p, skeleton, points, places, work, equations, columns);
