@@ -11,12 +11,10 @@ pub(crate) fn scale(p: Residue, factor: Residue, terms: &mut [Term])
     ensures { terms.new ≡ times p factor terms.old }
 {
     let by = Element::of(p, factor);
-    let mut i: usize = 0;
-    while i < terms.len() {
-        let key = Key::of(terms[i]);
-        let coefficient = Element::of(p, poly::key::coefficient_of(terms[i]));
+    for term in terms {
+        let key = Key::of(*term);
+        let coefficient = Element::of(p, poly::key::coefficient_of(*term));
         let product = coefficient.product(by);
-        terms[i] = poly::key::term(key.bits, product.value);
-        i += 1;
+        *term = poly::key::term(key.bits, product.value);
     }
 }

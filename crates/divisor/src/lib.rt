@@ -76,14 +76,15 @@ fn answer(
     ensures { Candidate (call_of case.now ceiling out.old work.old) (candidate_result result out.new work.new) }
 {
     let n = case.points.len() / COORDINATES;
-    let sizes = points::look(case, work);
-    let least = sorting::least_size(sizes, n);
+    let looked = points::look(case, work);
+    let sizes = &looked[..n];
+    let least = sorting::least_size(sizes);
     if least == 0 {
         return no_good_point(n, work);
     }
-    let bad = sorting::alike(sizes, n, 0);
-    let kept = sorting::alike(sizes, n, least);
-    let places = sorting::places_of(sizes, n, least);
+    let bad = sorting::alike(sizes, 0);
+    let kept = sorting::alike(sizes, least);
+    let places = sorting::places_of(sizes, least);
     let equations = (POWERS * kept) as Count;
     let columns = (case.skeleton.len() + kept) as Column;
     let solved = equations::solved(case, places, work, equations, columns);

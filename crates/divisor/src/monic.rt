@@ -2,8 +2,6 @@
 ghost use Rattle.std.specs.Prelude.{◌≡◌, ◌≤◌, ◌<◌, List, [], ◌∷◌, ◌++◌, ℕ, length, take};
 ghost use Rattle.divisor.specs.Candidate.{most_keys};
 ghost use Rattle.divisor.specs.Monic.Model.{leading as leading_of, monic_terms, Solvable};
-ghost use Rattle.divisor.specs.Points.PartsModel.{Within};
-ghost use Rattle.divisor.specs.Table.Model.{most_columns};
 
 use crate::table::Cells;
 use field::{Element, KeyBits, MOST_KEYS, Residue, Term};
@@ -49,14 +47,13 @@ impl Divisor {
     }
 }
 
-// The first of n coefficients that is not 0, or 0.
-fn leading(values: Cells, n: usize) -> Residue
-    requires { Within most_columns n values }
-    ensures { result ≡ leading_of (take n values) }
+// The first coefficient that is not 0, or 0.
+fn leading(coefficients: &[Residue]) -> Residue
+    ensures { result ≡ leading_of coefficients.now }
 {
-    values[..n]
+    coefficients
         .iter()
-        .find(|value| **value != 0)
+        .find(|coefficient| **coefficient != 0)
         .copied()
         .unwrap_or(0)
 }
@@ -66,7 +63,7 @@ pub(crate) fn made_monic(p: Residue, skeleton: &[KeyBits], values: Cells) -> Div
     requires { Solvable p skeleton.now values }
     ensures { result ≡ monic_terms p skeleton.now (take (length skeleton.now) values) }
 {
-    let lead = Element::of(p, leading(values, skeleton.len()));
+    let lead = Element::of(p, leading(&values[..skeleton.len()]));
     let inverse = lead.inverse();
     let mut divisor = Divisor::none();
     for (i, key) in skeleton.iter().enumerate() {

@@ -1,7 +1,7 @@
-// Sorting the points by the sizes of their images: 0 for a bad point, else one more than the image's degree.
-ghost use Rattle.std.specs.Prelude.{◌≡◌, take};
+// Sorting the points by the sizes of their images: 0 for a bad point, else one more than the image's degree. A size stays a number, and no option of a
+// degree: it is the length of the image's list of coefficients, and it is compared and counted.
+ghost use Rattle.std.specs.Prelude.{◌≡◌, ◌≤◌, length};
 ghost use Rattle.divisor.specs.Candidate.{most_points};
-ghost use Rattle.divisor.specs.Points.PartsModel.{Within};
 ghost use Rattle.divisor.specs.Sorting.Model.{lesser as lesser_of, least, alike as alike_of, HasPlaces};
 
 use field::MOST_POINTS;
@@ -28,35 +28,33 @@ fn lesser(a: Size, b: Size) -> Size
     }
 }
 
-// The least size but 0 of the first n, or 0.
-pub(crate) fn least_size(sizes: Sizes, n: usize) -> Size
-    requires { Within most_points n sizes }
-    ensures { result ≡ least (take n sizes) }
+// The least size but 0, or 0.
+pub(crate) fn least_size(sizes: &[Size]) -> Size
+    ensures { result ≡ least sizes.now }
 {
     let mut least: Size = 0;
-    for size in &sizes[..n] {
+    for size in sizes {
         least = lesser(least, *size);
     }
     least
 }
 
-// How many of the first n sizes are m.
-pub(crate) fn alike(sizes: Sizes, n: usize, m: Size) -> usize
-    requires { Within most_points n sizes }
-    ensures { result ≡ alike_of m (take n sizes) }
+// How many sizes are m.
+pub(crate) fn alike(sizes: &[Size], m: Size) -> usize
+    ensures { result ≡ alike_of m sizes.now }
 {
-    sizes[..n].iter().filter(|size| **size == m).count()
+    sizes.iter().filter(|size| **size == m).count()
 }
 
-// The places of the first n sizes that are m, in the order lent.
-pub(crate) fn places_of(sizes: Sizes, n: usize, m: Size) -> Places
-    requires { Within most_points n sizes }
-    ensures { HasPlaces m sizes n result }
+// The places of the sizes that are m, in the order lent.
+pub(crate) fn places_of(sizes: &[Size], m: Size) -> Places
+    requires { length sizes.now ≤ most_points }
+    ensures { HasPlaces m sizes.now (length sizes.now) result }
 {
     let mut places: Places = [0; MOST_POINTS];
     let mut count: usize = 0;
-    for i in 0..n {
-        if sizes[i] == m {
+    for (i, size) in sizes.iter().enumerate() {
+        if *size == m {
             places[count] = i as Place;
             count += 1;
         }

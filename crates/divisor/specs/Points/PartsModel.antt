@@ -1,5 +1,5 @@
--- Parts of a list with as many numbers for each index, and what a function that reads the first numbers of an array asks for.
-use Rattle.std.specs.Prelude.{ℕ, ◌+◌, ◌-◌, ◌*◌, ◌≤◌, List, length, get_or, take, drop}
+-- Parts of a list with as many numbers for each index.
+use Rattle.std.specs.Prelude.{ℕ, ◌+◌, ◌-◌, ◌*◌, List, length, get_or, take, drop}
 use Rattle.field.specs.Loops.Filled.{cells, between}
 
 -- the a numbers of index i
@@ -9,8 +9,3 @@ part a i list = take a (drop (a * i) list)
 -- the list with n numbers from a place on
 abbrev pub stored : ℕ → List ℕ → ℕ → List ℕ → List ℕ
 stored n numbers at list = cells (between at (at + n) (λ k. get_or numbers (k - at) 0) list) (length list)
-
--- the first n of an array that has room for `most`
-pub record Within (most n : ℕ) (list : List ℕ) : Type 0 where
-  pub within : n ≤ length list
-  pub few : n ≤ most

@@ -1,6 +1,7 @@
 -- The points that are kept: as many as the sizes say, the rule's, and what the equations ask for.
-use Rattle.std.specs.Prelude.{◌≡◌, refl, List, [], ◌∷◌, ℕ, suc, ◌+◌, ◌-◌, ◌*◌, ◌≤◌, ◌<◌, length, get_or, take}
+use Rattle.std.specs.Prelude.{◌≡◌, refl, List, [], ◌∷◌, ℕ, suc, ◌+◌, ◌-◌, ◌*◌, ◌≤◌, ◌<◌, length, get_or, take, replicate}
 use Rattle.std.proofs.Common.{sym, ◌∙◌, ap, subst, inl, inr, arith, length-take-le}
+use Rattle.field.specs.Loops.Filled.{Filled}
 use Rattle.field.specs.Moduli.{Listed}
 use Rattle.field.specs.Prime.{Prime}
 use Rattle.field.specs.Refusal.{Passes}
@@ -9,10 +10,9 @@ use Rattle.poly.specs.Rooms.Laws.{zeroed_same}
 use Rattle.divisor.specs.Rule.{Kept}
 use Rattle.divisor.specs.Candidate.{most_points, Call, table, prime, Numbers, A, B, lent_points}
 use Rattle.divisor.specs.Table.Model.{Columns}
-use Rattle.divisor.specs.Points.PartsModel.{Within}
 use Rattle.divisor.specs.Points.Parts.{part_at}
 use Rattle.divisor.specs.Sorting.Model.{sizes_of, least, alike, places_before, HasPlaces, kept_of}
-use Rattle.divisor.specs.Sorting.Places.{places_count, place_below}
+use Rattle.divisor.specs.Sorting.Places.{places_first, places_count, place_below}
 use Rattle.divisor.specs.Equations.Model.{SystemReady, CanSolve}
 use Rattle.divisor.specs.Points.Model.{Looks, kept_before}
 use Rattle.divisor.specs.Checks.Passed.{point_count, looks_of, right_lists, keys_most, right_points, few_points, work_fits}
@@ -45,9 +45,8 @@ pub record KeptPoints (c : Call) (listed : Listed c.modulus) (after sizes : List
 
 module _ (c : Call) (pass : Passes (table c)) (after sizes : List ℕ)
     (look : Looks (point_count c) c.modulus c.first_list c.second_list c.points c.work after sizes) where
-  pub within : Within most_points (point_count c) sizes
-  within =
-      record { within = let e = look.sized.long in let f = few_points c pass in omega arith; few = few_points c pass }
+  pub within : point_count c ≤ length sizes
+  within = let e = look.sized.long in let f = few_points c pass in omega arith
 
   pub room_after : work_room ≤ length after
   room_after = let e = look.same_length in let w = work_fits c pass in omega arith
@@ -78,7 +77,13 @@ module _ {c : Call} {after sizes : List ℕ} {m count : ℕ} (good : SomeGood c 
   some_kept = elim facts.reached [ inl e ↦ absurd (good.some e) | inr l ↦ l ]
 
   sized : length (take n sizes) ≡ n
-  sized = length-take-le n sizes (within c pass after sizes good.look).within
+  sized = length-take-le n sizes (within c pass after sizes good.look)
+
+  -- the places among all sizes, from those among the first
+  pub placed : {places : List ℕ} → HasPlaces m (take n sizes) (length (take n sizes)) places → HasPlaces m sizes n places
+  placed {places} =
+      subst (λ (ps : List ℕ). Filled (λ a. get_or ps a 0) most_points (replicate most_points 0) (length ps) places)
+      (ap (places_before m (take n sizes)) sized ∙ places_first m sizes n n (omega arith))
 
   pub count_small : count ≤ most_points
   count_small = let l = alike_most m (take n sizes) in let e = sized in let f = few_points c pass in let i = good.is_count in omega arith
@@ -94,7 +99,7 @@ module _ {c : Call} {after sizes : List ℕ} {m count : ℕ} (good : SomeGood c 
   -- the kept points' places, in an array
   module _ (places : List ℕ) (at : HasPlaces m sizes (point_count c) places) where
     long : n ≤ length sizes
-    long = (within c pass after sizes good.look).within
+    long = within c pass after sizes good.look
 
     pub counted_places : length (places_before m sizes (point_count c)) ≡ count
     counted_places = places_count m sizes n long ∙ sym good.is_count

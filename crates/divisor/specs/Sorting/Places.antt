@@ -1,7 +1,7 @@
 -- The places of the sizes that are m: how many there are, and how an array of them is filled.
-use Rattle.std.specs.Prelude.{◌≡◌, take, drop, set, replicate}
-use Rattle.std.proofs.Common.{sym, ◌∙◌, add-one, eq-eqb, ne_eqb}
-use Rattle.std.proofs.Math.Path.{ap, subst}
+use Rattle.std.specs.Prelude.{◌≡◌, true, false, eqb, take, drop, set, replicate}
+use Rattle.std.proofs.Common.{sym, ◌∙◌, ap₂, add-one, eq-eqb, ne_eqb, get_or-take}
+use Rattle.std.proofs.Math.Path.{refl, ap, subst}
 use mathlib.Core.List.{List, [], ◌∷◌, ◌++◌, append-nil}
 use Prim.Native.Nat.{ℕ, zero, suc, ◌+◌, ◌≤◌, ◌<◌}
 use Rattle.std.proofs.Math.Decide.{ℕ_discrete, dec_lt}
@@ -50,6 +50,14 @@ module _ (m : ℕ) (sizes : List ℕ) where
 
   pub places_count : (n : ℕ) → n ≤ length sizes → length (places_before m sizes n) ≡ alike m (take n sizes)
   places_count n l = omega (arith, met n n l (omega arith), alike_end sizes n n m l (omega arith))
+
+  -- of the first n sizes the places before i are the same
+  pub places_first : (n i : ℕ) → i ≤ n → places_before m (take n sizes) i ≡ places_before m sizes i
+  unfolding places_before
+  places_first n zero l = refl
+  places_first n (suc i) l =
+      ap₂ ◌++◌ (places_first n i (omega arith))
+      (ap {B = List ℕ} (λ s. elim (eqb s m) [ true ↦ i ∷ [] | false ↦ [] ]) (get_or-take n sizes i 0 (omega arith)))
 
   pub places_few : (i : ℕ) → length (places_before m sizes i) ≤ i
   unfolding places_before

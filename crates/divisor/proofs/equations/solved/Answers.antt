@@ -18,14 +18,3 @@ solution-requires c =
     let t = c.add_equations.new.t in
     (table_solvable c.requires (subst (λ (s : Table). AddsFirst a.n k.modulus s k.skeleton.now k.points.now a.places a.work.now a.n t) c.empty-t.ensures
     c.add_equations.ensures)).0
-
-pub returns : goal.returns
-returns c =
-    let a = c.args in
-    let k = a.case.now in
-    let t = c.add_equations.new.t in
-    record {
-      table = t;
-      made = subst (λ (s : Table). AddsFirst a.n k.modulus s k.skeleton.now k.points.now a.places a.work.now a.n t) c.empty-t.ensures c.add_equations.ensures;
-      is = c.solution.ensures;
-    }

@@ -4,4 +4,4 @@ use Rattle.divisor.specs.Sorting.Model.{with_size}
 use Rattle.divisor.proofs.sorting.least_size.Given as goal
 
 abbrev pub invariant-loop-size : goal.invariant-loop-size
-invariant-loop-size l = Folding with_size l.size-items 0 l.size-index l.least
+invariant-loop-size l = Folding with_size l.sizes 0 l.size-index l.least

@@ -3,37 +3,34 @@ use Rattle.std.proofs.Common.{◌∙◌, refl, ap, [], ◌∷◌, length, add-on
 use Rattle.divisor.specs.Sorting.Model.{places_before}
 use Rattle.divisor.specs.Sorting.Places.{places_same, places_other, places_start, places_passed, places_taken}
 use Rattle.divisor.proofs.sorting.places_of.Goals as goal
-use Rattle.divisor.proofs.sorting.places_of.Goals.{then-sizes-i, else-sizes-i}
+use Rattle.divisor.proofs.sorting.places_of.Goals.{then-size-m, else-size-m}
 
 pub loop-i-init : goal.loop-i-init
 loop-i-init c =
     record {
-      within = omega arith;
       few = omega arith;
       counted = (unfold places_before in refl);
-      has = places_start c.args.m c.args.sizes;
+      has = places_start c.args.m c.args.sizes.now;
     }
 
 pub loop-i-preserved : goal.loop-i-preserved
 loop-i-preserved c =
     let a = c.args in
     let l = c.loop-i in
-    elim c.if-sizes-i.branch [
-      | then-sizes-i w ↦
-          let ps = places_before a.m a.sizes l.i in
-          let more = ap length (ap (places_before a.m a.sizes) (add-one l.i) ∙ places_same a.m a.sizes l.i w.if-sizes-i.true) in
+    elim c.if-size-m.branch [
+      | then-size-m w ↦
+          let ps = places_before a.m a.sizes.now l.i in
+          let more = ap length (ap (places_before a.m a.sizes.now) (add-one l.i) ∙ places_same a.m a.sizes.now l.i w.if-size-m.true) in
           record {
-            within = omega arith;
             few = omega arith;
             counted = omega (arith, more, length-append ps (l.i ∷ []));
-            has = rw w.places-is (places_taken a.m a.sizes l.i l.invariant.has w.if-sizes-i.true (omega arith) l.count l.invariant.counted);
+            has = rw w.places-is (places_taken a.m a.sizes.now l.i l.invariant.has w.if-size-m.true (omega arith) l.count l.invariant.counted);
           }
-      | else-sizes-i w ↦
-          let same = ap length (ap (places_before a.m a.sizes) (add-one l.i) ∙ places_other a.m a.sizes l.i w.if-sizes-i.false) in
+      | else-size-m w ↦
+          let same = ap length (ap (places_before a.m a.sizes.now) (add-one l.i) ∙ places_other a.m a.sizes.now l.i w.if-size-m.false) in
           record {
-            within = omega arith;
             few = omega arith;
             counted = omega (arith, same);
-            has = rw w.places-is (places_passed a.m a.sizes l.i l.invariant.has w.if-sizes-i.false);
+            has = rw w.places-is (places_passed a.m a.sizes.now l.i l.invariant.has w.if-size-m.false);
           }
     ]

@@ -5,7 +5,6 @@ use Rattle.divisor.proofs.sorting.places_of.Given as goal
 
 abbrev pub invariant-loop-i : goal.invariant-loop-i
 invariant-loop-i l = record {
-  within : l.i ≤ l.n;
   few : l.count ≤ l.i;
   counted : l.count ≡ length (places_before l.m l.sizes l.i);
   has : HasPlaces l.m l.sizes l.i l.places;
