@@ -10,6 +10,7 @@ use Rattle.field.specs.Modulus.Laws.{listed_prime}
 use Rattle.field.specs.Modulo.{Modulo}
 use Rattle.field.specs.Lent.{written}
 use Rattle.field.specs.Refusal.{Line, Refuses, Passes}
+use Rattle.field.specs.declared.case.Case.{Case}
 use Rattle.field.specs.declared.faults.Fault.{Fault}
 use Rattle.poly.specs.Keys.{keys}
 use Rattle.poly.specs.Terms.{Polynomial, terms_of, poly}
@@ -46,6 +47,10 @@ cancel_call p N D skeleton points ceiling numerator_output denominator_output wo
       denominator_output = denominator_output;
       work = work;
     }
+
+-- a call about a case, whose two lists are the numerator and the denominator
+abbrev pub call_of : Case → ℕ → List ℕ → List ℕ → List ℕ → CancelCall
+call_of c = cancel_call c.modulus c.first.now c.second.now c.skeleton.now c.points.now
 
 -- an output is under 4,096
 abbrev pub TooShort : CancelCall → Type 0

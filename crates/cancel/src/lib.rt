@@ -2,11 +2,11 @@
 #![tactic(auto)]
 
 ghost use Rattle.std.specs.Prelude.{◌≡◌};
-ghost use Rattle.cancel.specs.CancelCall.{cancel_call, cancel_result, with_both, Cancel};
+ghost use Rattle.cancel.specs.CancelCall.{call_of, cancel_result, with_both, Cancel};
 ghost use Rattle.cancel.specs.Cancelling.Model.{RoomFor, CanReduce, TwoQuotients};
 
 use divisor::CandidateRecord;
-use field::{Fault, KeyBits, MOST_KEYS, Residue, Term};
+use field::{Case, Fault, MOST_KEYS, Residue, Term};
 use poly::rooms::CELLS;
 
 mod scaling;
@@ -59,64 +59,47 @@ fn room_for_divisor(numerator: usize, denominator: usize) -> usize
 // Both lists over the divisor times the denominator's leading coefficient. The divisor is monic, so the second quotient has the leading coefficient 1,
 // and no quotient has to be scaled. Neither is refused: the candidate has divided both lists by the divisor.
 fn reduce(
-    p: Residue,
-    numerator: &[Term],
-    denominator: &[Term],
+    case: &Case<'_>,
     found: CandidateRecord,
     divisor: &mut [Term],
     numerator_out: &mut [Term],
     denominator_out: &mut [Term],
     work: &mut [Residue],
 ) -> CancelRecord
-    requires { CanReduce p denominator.now }
-    ensures { TwoQuotients p numerator.now denominator.now divisor.old divisor.new
+    requires { CanReduce case.now.modulus case.now.second.now }
+    ensures { TwoQuotients case.now.modulus case.now.first.now case.now.second.now divisor.old divisor.new
         numerator_out.old numerator_out.new denominator_out.old denominator_out.new
         work.old work.new found result }
 {
-    let lead = poly::key::coefficient_of(denominator[0]);
+    let p = case.modulus;
+    let lead = poly::key::coefficient_of(case.second[0]);
     scaling::scale(p, lead, divisor);
-    let first = poly::quotient::quotient(p, numerator, divisor, numerator_out, work);
-    let second = poly::quotient::quotient(p, denominator, divisor, denominator_out, work);
-    CancelRecord::with_both(found, first.terms, second.terms)
+    let first = poly::quotient::quotient(p, case.first, divisor, numerator_out, work);
+    let second = poly::quotient::quotient(p, case.second, divisor, denominator_out, work);
+    CancelRecord::with_both(found, first.unwrap_or(0), second.unwrap_or(0))
 }
 
-// The numerator and the denominator without their common divisor that the candidate finds, by one constant such that the denominator is monic; or the
-// candidate's refusal. What is struck out divides both: the candidate has divided, in no more steps than the ceiling.
+// The numerator and the denominator, which are the case's two lists, without their common divisor that the candidate finds, by one constant such that
+// the denominator is monic; or the candidate's refusal. What is struck out divides both: the candidate has divided, in no more steps than the ceiling.
 pub fn cancel(
-    p: Residue,
-    numerator: &[Term],
-    denominator: &[Term],
-    skeleton: &[KeyBits],
-    points: &[Residue],
+    case: &Case<'_>,
     ceiling: usize,
     numerator_out: &mut [Term],
     denominator_out: &mut [Term],
     work: &mut [Residue],
 ) -> CancelRecord
-    ensures { Cancel (cancel_call p numerator.now denominator.now skeleton.now points.now
-        ceiling numerator_out.old denominator_out.old work.old)
+    ensures { Cancel (call_of case.now ceiling numerator_out.old denominator_out.old work.old)
         (cancel_result result numerator_out.new denominator_out.new work.new) }
 {
     let mut divisor = [0; MOST_KEYS];
     let room = room_for_divisor(numerator_out.len(), denominator_out.len());
-    let found = divisor::candidate(
-        p,
-        numerator,
-        denominator,
-        skeleton,
-        points,
-        ceiling,
-        &mut divisor[..room],
-        work,
-    );
+    let found = divisor::candidate(case, ceiling, &mut divisor[..room], work);
     if found.fault.number != 0 {
         return CancelRecord::with_both(found, 0, 0);
     }
     let terms = found.terms;
     reduce(
-        p,
-        numerator,
-        denominator,
+        case,
         found,
         &mut divisor[..terms],
         numerator_out,

@@ -1,7 +1,7 @@
 -- `cancel::cancel` meets its contract: the candidate's refusal passed on, or both lists over what it finds.
 use Rattle.std.proofs.Common.{ℕ, List, length, take, replicate, sym, subst, length-take-le}
 use Rattle.divisor.specs.Candidate.{most_keys}
-use Rattle.cancel.specs.CancelCall.{CancelCall, cancel_call}
+use Rattle.cancel.specs.CancelCall.{CancelCall, call_of}
 use Rattle.cancel.specs.Cancelling.Answers.{room_most, passed_on, terms_fit, can_reduce, reduced_so}
 use Rattle.cancel.specs.Cancelling.Tables.{Lent}
 use Rattle.cancel.proofs.cancel.Goals as goal
@@ -18,44 +18,34 @@ lent_room c room l =
 pub returns-then-found-ne0 : goal.returns-then-found-ne0
 returns-then-found-ne0 c =
     let a = c.args in
-    let k =
-    cancel_call a.p a.numerator.now a.denominator.now a.skeleton.now a.points.now a.ceiling a.numerator_out.now a.denominator_out.now
-    a.work.now in
+    let k = call_of a.case.now a.ceiling a.numerator_out.now a.denominator_out.now a.work.now in
     let room = lent_room k c.room_for_divisor-room.result c.room_for_divisor-room.ensures in
     rw c.with_both.ensures (passed_on k _ room _ c.candidate-found.ensures c.if-found-ne0.true)
 
 pub slice_bounds-divisor-end-2 : goal.slice_bounds-divisor-end-2
 slice_bounds-divisor-end-2 c =
     let a = c.args in
-    let k =
-    cancel_call a.p a.numerator.now a.denominator.now a.skeleton.now a.points.now a.ceiling a.numerator_out.now a.denominator_out.now
-    a.work.now in
+    let k = call_of a.case.now a.ceiling a.numerator_out.now a.denominator_out.now a.work.now in
     let room = lent_room k c.room_for_divisor-room.result c.room_for_divisor-room.ensures in
     terms_fit k _ room _ c.candidate-found.ensures c.if-found-ne0.false _
 
 pub slice_bounds-reduce-end : goal.slice_bounds-reduce-end
 slice_bounds-reduce-end c =
     let a = c.args in
-    let k =
-    cancel_call a.p a.numerator.now a.denominator.now a.skeleton.now a.points.now a.ceiling a.numerator_out.now a.denominator_out.now
-    a.work.now in
+    let k = call_of a.case.now a.ceiling a.numerator_out.now a.denominator_out.now a.work.now in
     let room = lent_room k c.room_for_divisor-room.result c.room_for_divisor-room.ensures in
     sym (length-take-le _ _ (terms_fit k _ room _ c.candidate-found.ensures c.if-found-ne0.false _))
 
 pub reduce-requires : goal.reduce-requires
 reduce-requires c =
     let a = c.args in
-    let k =
-    cancel_call a.p a.numerator.now a.denominator.now a.skeleton.now a.points.now a.ceiling a.numerator_out.now a.denominator_out.now
-    a.work.now in
+    let k = call_of a.case.now a.ceiling a.numerator_out.now a.denominator_out.now a.work.now in
     let room = lent_room k c.room_for_divisor-room.result c.room_for_divisor-room.ensures in
     can_reduce k _ room _ c.candidate-found.ensures c.if-found-ne0.false
 
 pub returns : goal.returns
 returns c =
     let a = c.args in
-    let k =
-    cancel_call a.p a.numerator.now a.denominator.now a.skeleton.now a.points.now a.ceiling a.numerator_out.now a.denominator_out.now
-    a.work.now in
+    let k = call_of a.case.now a.ceiling a.numerator_out.now a.denominator_out.now a.work.now in
     let room = lent_room k c.room_for_divisor-room.result c.room_for_divisor-room.ensures in
     reduced_so k _ room _ c.candidate-found.ensures c.if-found-ne0.false _ _ _ _ _ _ c.reduce.ensures

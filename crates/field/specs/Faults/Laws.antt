@@ -185,6 +185,16 @@ pub stands_err : {A B : Type 0} (of_fault : Fault → B) (of_value : A → B) (P
     → r ≡ Err f → 0 < f.number → Promise (of_fault f) → StandsFor of_fault of_value Promise r
 stands_err of_fault of_value Promise e l h = rw e (l, h)
 
+-- What is told of a `Result`. Of that the promise holds.
+abbrev pub told : {A B : Type 0} → (Fault → B) → (A → B) → Result A Fault → B
+told of_fault of_value (Ok value) = of_value value
+told of_fault of_value (Err f) = of_fault f
+
+pub stands_told : {A B : Type 0} (of_fault : Fault → B) (of_value : A → B) (Promise : B → Type 0) (r : Result A Fault)
+    → StandsFor of_fault of_value Promise r → Promise (told of_fault of_value r)
+stands_told of_fault of_value Promise (Ok value) h = h
+stands_told of_fault of_value Promise (Err f) h = h.1
+
 -- where no fault with a number is told like a value, and a fault and a value are known by what is told of them, a promise that settles what is told settles the `Result`
 pub stands_determined : {A B : Type 0} (of_fault : Fault → B) (of_value : A → B) (Promise : B → Type 0)
     → ((f g : Fault) → of_fault f ≡ of_fault g → f ≡ g) → ((x y : A) → of_value x ≡ of_value y → x ≡ y)
