@@ -3,9 +3,9 @@
 use Rattle.std.specs.Prelude.{List, [], ◌∷◌, ℕ}
 use Rattle.field.specs.Refusal.{after_fault}
 use Rattle.field.specs.declared.faults.Fault.{Fault}
-use Rattle.field.specs.declared.services.Answer.{Answer}
+use Rattle.field.specs.Arithmetic.{Answer}
 use Rattle.poly.specs.ImageCall.{ImageRecord}
-use Rattle.poly.specs.declared.Picked.{Picked}
+use Rattle.poly.specs.ShorterPart.{Head}
 use Rattle.poly.specs.QuotientCall.{QuotientResult}
 use Rattle.divisor.specs.Candidate.{Result}
 use Rattle.cancel.specs.CancelCall.{CancelResult}
@@ -20,7 +20,7 @@ abbrev pub of_fault : Fault → List ℕ
 of_fault f = after_fault f []
 
 -- the number of terms, then which list
-abbrev pub of_picked : Picked → List ℕ
+abbrev pub of_picked : Head → List ℕ
 of_picked r = r.terms ∷ r.list ∷ []
 
 abbrev pub of_answer : Answer → List ℕ

@@ -3,10 +3,11 @@
 // include/balungkiro.h says the same to C.
 #![tactic(auto)]
 
-ghost use Rattle.std.specs.Prelude.{◌≡◌, length};
-ghost use Rattle.field.specs.Refusal.{Tested};
+ghost use Rattle.std.specs.Prelude.{◌≡◌, ◌+◌, length};
+ghost use Rattle.field.specs.Refusal.{after_fault, Tested};
+ghost use Rattle.field.specs.Faults.Laws.{told};
 ghost use Rattle.field.specs.Contract.{element};
-ghost use Rattle.field.specs.Arithmetic.{AskSum, AskDifference, AskProduct, AskInverse};
+ghost use Rattle.field.specs.Arithmetic.{refused_answer, given_answer, AskSum, AskDifference, AskProduct, AskInverse};
 ghost use Rattle.poly.specs.LeadingPart.{of_list, LeadingTerms};
 ghost use Rattle.poly.specs.ShorterPart.{of_two_lists, ShorterHead};
 ghost use Rattle.poly.specs.QuotientCall.{quotient_call, Quotient};
@@ -19,8 +20,18 @@ ghost use Rattle.case_file.specs.WriteCall.{write_call, Write};
 ghost use Rattle.handheld.specs.Layout.{Laid, of_fault, of_picked, of_answer, of_quotient, of_image, of_candidate, of_cancel, of_contents, of_write};
 
 use case_file::{Keys, PointNumbers, Terms};
-use field::{Answer, Element, KeyBits, Residue, Term};
-use poly::Eight;
+use field::{Case, Element, Fault, KeyBits, Residue, Term};
+use poly::{Eight, POWERS, Picked};
+
+// Number, list and place of what is refused, or zeros; then the rest of the record.
+fn lay(fault: Fault, rest: &[usize], numbers: &mut [usize])
+    requires { length numbers.old ≡ 3 + length rest.now }
+    ensures { numbers.new ≡ after_fault fault rest.now }
+{
+    let first = [fault.number as usize, fault.list as usize, fault.place];
+    numbers[..3].copy_from_slice(&first);
+    numbers[3..].copy_from_slice(rest);
+}
 
 // Numbers: number, list, place, d, bad, unlucky, kept, count of terms, steps of division.
 #[unsafe(no_mangle)]
@@ -39,11 +50,15 @@ pub extern "C" fn balungkiro_candidate(
         points.now ceiling out.old work.old))
         (record { numbers = numbers.new; output = out.new; work = work.new }) }
 {
-    let found = divisor::candidate(modulus, first, second, skeleton, points, ceiling, out, work);
-    *numbers = [
-        found.fault.number as usize,
-        found.fault.list as usize,
-        found.fault.place,
+    let case = Case {
+        modulus,
+        first,
+        second,
+        skeleton,
+        points,
+    };
+    let found = divisor::candidate(&case, ceiling, out, work);
+    let rest = [
         found.degree,
         found.bad,
         found.unlucky,
@@ -51,6 +66,7 @@ pub extern "C" fn balungkiro_candidate(
         found.terms,
         found.steps,
     ];
+    lay(found.fault, &rest, numbers);
 }
 
 // Numbers: number, list, place, d, bad, unlucky, kept, counts of the terms of both results, steps of division.
@@ -76,21 +92,15 @@ pub extern "C" fn balungkiro_cancel(
           work = work.new;
         }) }
 {
-    let told = cancel::cancel(
+    let case = Case {
         modulus,
-        numerator,
-        denominator,
+        first: numerator,
+        second: denominator,
         skeleton,
         points,
-        ceiling,
-        numerator_out,
-        denominator_out,
-        work,
-    );
-    *numbers = [
-        told.fault.number as usize,
-        told.fault.list as usize,
-        told.fault.place,
+    };
+    let told = cancel::cancel(&case, ceiling, numerator_out, denominator_out, work);
+    let rest = [
         told.degree,
         told.bad,
         told.unlucky,
@@ -99,6 +109,7 @@ pub extern "C" fn balungkiro_cancel(
         told.denominator,
         told.steps,
     ];
+    lay(told.fault, &rest, numbers);
 }
 
 // Numbers: number, list, place, count of terms.
@@ -114,13 +125,10 @@ pub extern "C" fn balungkiro_quotient(
     ensures { Laid of_quotient (Quotient (quotient_call modulus first.now second.now out.old
         work.old)) (record { numbers = numbers.new; output = out.new; work = work.new }) }
 {
-    let divided = poly::quotient::quotient(modulus, first, second, out, work);
-    *numbers = [
-        divided.fault.number as usize,
-        divided.fault.list as usize,
-        divided.fault.place,
-        divided.terms,
-    ];
+    match poly::quotient::quotient(modulus, first, second, out, work) {
+        Ok(terms) => lay(Fault::none(), &[terms], numbers),
+        Err(fault) => lay(fault, &[0], numbers),
+    }
 }
 
 // Numbers: number, list, place, degree.
@@ -136,15 +144,17 @@ pub extern "C" fn balungkiro_image(
     ensures { Laid of_image (ImageAnswer (image_call modulus first.now second.now point.now))
         (record { numbers = numbers.new; coefficients = coefficients.new }) }
 {
-    let seen = poly::image::image(modulus, first, second, point);
-    let u = seen.coefficients;
-    *coefficients = u;
-    *numbers = [
-        seen.fault.number as usize,
-        seen.fault.list as usize,
-        seen.fault.place,
-        seen.degree,
-    ];
+    match poly::image::image(modulus, first, second, point) {
+        Ok(seen) => {
+            let u = seen.coefficients;
+            *coefficients = u;
+            lay(Fault::none(), &[seen.degree], numbers);
+        }
+        Err(fault) => {
+            *coefficients = [Element::ZERO; POWERS];
+            lay(fault, &[0], numbers);
+        }
+    }
 }
 
 // How many terms the leading part has, which is the head of the caller's own list; 0 on refusal.
@@ -161,8 +171,10 @@ pub extern "C" fn balungkiro_leading_part(terms: &[Term]) -> usize
 pub extern "C" fn balungkiro_check_list(terms: &[Term], numbers: &mut [usize; 3])
     ensures { Laid of_fault (Tested (of_list terms.now)) numbers.new }
 {
-    let fault = poly::list::check_list(terms);
-    *numbers = [fault.number as usize, fault.list as usize, fault.place];
+    match poly::list::check_list(terms) {
+        Ok(()) => lay(Fault::none(), &[], numbers),
+        Err(fault) => lay(fault, &[], numbers),
+    }
 }
 
 // Numbers: how many terms the shorter leading part has, and which list it is the head of, 1 or 2; on refusal 0 and 1.
@@ -170,8 +182,10 @@ pub extern "C" fn balungkiro_check_list(terms: &[Term], numbers: &mut [usize; 3]
 pub extern "C" fn balungkiro_shorter_part(first: &[Term], second: &[Term], numbers: &mut [usize; 2])
     ensures { Laid of_picked (ShorterHead first.now second.now) numbers.new }
 {
-    let picked = poly::list::shorter_head(first, second);
-    *numbers = [picked.terms, picked.list];
+    *numbers = match poly::list::shorter_head(first, second) {
+        Picked::First(terms) => [terms, 1],
+        Picked::Second(terms) => [terms, 2],
+    };
 }
 
 // Numbers: number, list, place.
@@ -179,21 +193,23 @@ pub extern "C" fn balungkiro_shorter_part(first: &[Term], second: &[Term], numbe
 pub extern "C" fn balungkiro_check_lists(first: &[Term], second: &[Term], numbers: &mut [usize; 3])
     ensures { Laid of_fault (Tested (of_two_lists first.now second.now)) numbers.new }
 {
-    let found = poly::list::check_lists(first, second);
-    *numbers = [found.number as usize, found.list as usize, found.place];
+    match poly::list::check_lists(first, second) {
+        Ok(()) => lay(Fault::none(), &[], numbers),
+        Err(fault) => lay(fault, &[], numbers),
+    }
 }
 
-// Number, list, place, modulus, value.
-fn answer_numbers(answer: Answer) -> [usize; 5]
-    ensures { result ≡ of_answer answer }
+// Number, list, place, modulus, value; where it is refused, the first operand's modulus as it came, and 0.
+fn lay_answer(modulus: Residue, answer: Result<Element, Fault>, numbers: &mut [usize; 5])
+    ensures { numbers.new ≡ of_answer (told (refused_answer (element modulus 0)) given_answer answer) }
 {
-    [
-        answer.fault.number as usize,
-        answer.fault.list as usize,
-        answer.fault.place,
-        answer.element.modulus as usize,
-        answer.element.value as usize,
-    ]
+    match answer {
+        Ok(outcome) => {
+            let rest = [outcome.modulus as usize, outcome.value as usize];
+            lay(Fault::none(), &rest, numbers);
+        }
+        Err(fault) => lay(fault, &[modulus as usize, 0], numbers),
+    }
 }
 
 #[unsafe(no_mangle)]
@@ -211,7 +227,7 @@ pub extern "C" fn balungkiro_sum(
         modulus: other_modulus,
         value: other_value,
     };
-    *numbers = answer_numbers(field::ask_sum(a, b));
+    lay_answer(modulus, field::ask_sum(a, b), numbers);
 }
 
 #[unsafe(no_mangle)]
@@ -229,7 +245,7 @@ pub extern "C" fn balungkiro_difference(
         modulus: other_modulus,
         value: other_value,
     };
-    *numbers = answer_numbers(field::ask_difference(a, b));
+    lay_answer(modulus, field::ask_difference(a, b), numbers);
 }
 
 #[unsafe(no_mangle)]
@@ -247,7 +263,7 @@ pub extern "C" fn balungkiro_product(
         modulus: other_modulus,
         value: other_value,
     };
-    *numbers = answer_numbers(field::ask_product(a, b));
+    lay_answer(modulus, field::ask_product(a, b), numbers);
 }
 
 #[unsafe(no_mangle)]
@@ -255,7 +271,7 @@ pub extern "C" fn balungkiro_inverse(modulus: Residue, value: Residue, numbers: 
     ensures { Laid of_answer (AskInverse (element modulus value)) numbers.new }
 {
     let a = Element { modulus, value };
-    *numbers = answer_numbers(field::ask_inverse(a));
+    lay_answer(modulus, field::ask_inverse(a), numbers);
 }
 
 // Numbers: number, list, place, modulus, and how many numbers the first list, the second, the skeleton and the points have.
@@ -278,16 +294,14 @@ pub extern "C" fn balungkiro_read(
         }) }
 {
     let counts = case_file::read_into(bytes, first, second, skeleton, points);
-    *numbers = [
-        counts.fault.number as usize,
-        counts.fault.list as usize,
-        counts.fault.place,
+    let rest = [
         counts.modulus as usize,
         counts.first,
         counts.second,
         counts.skeleton,
         counts.points,
     ];
+    lay(counts.fault, &rest, numbers);
 }
 
 // Numbers: number, list, place, length.
@@ -305,10 +319,5 @@ pub extern "C" fn balungkiro_write(
         points.now buffer.old)) (record { numbers = numbers.new; buffer = buffer.new }) }
 {
     let wrote = case_file::write(modulus, first, second, skeleton, points, buffer);
-    *numbers = [
-        wrote.fault.number as usize,
-        wrote.fault.list as usize,
-        wrote.fault.place,
-        wrote.length,
-    ];
+    lay(wrote.fault, &[wrote.length], numbers);
 }

@@ -1,6 +1,11 @@
 -- `balungkiro_product` meets its contract: it lays out what the service answers.
+use Rattle.field.specs.Contract.{element}
+use Rattle.field.specs.Arithmetic.{refused_answer, given_answer, AskProduct}
+use Rattle.field.specs.Faults.Laws.{stands_told}
 use Rattle.handheld.specs.Layout.{laid}
 use Rattle.handheld.proofs.balungkiro_product.Goals as goal
 
 pub returns : goal.returns
-returns c = rw c.answer_numbers.ensures (laid _ c.ask_product.ensures)
+returns c =
+    let a = element c.args.modulus c.args.value in let b = element c.args.other_modulus c.args.other_value in
+    rw c.lay_answer.ensures (laid _ (stands_told (refused_answer a) given_answer (AskProduct a b) c.ask_product.result c.ask_product.ensures))

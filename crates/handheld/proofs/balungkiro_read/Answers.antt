@@ -6,4 +6,4 @@ use Rattle.handheld.proofs.balungkiro_read.Goals as goal
 pub returns : goal.returns
 returns c =
     let g = c.read_into-counts.ensures in
-    rw (g.record_is, g.first_is, g.second_is, g.skeleton_is, g.points_is) (laid _ refl)
+    rw (c.lay.ensures, g.record_is, g.first_is, g.second_is, g.skeleton_is, g.points_is) (laid _ refl)

@@ -1,7 +1,6 @@
 -- `balungkiro_write` meets its contract: it lays out what the writer answers.
-use Rattle.std.proofs.Common.{rules}
 use Rattle.handheld.specs.Layout.{laid}
 use Rattle.handheld.proofs.balungkiro_write.Goals as goal
 
 pub returns : goal.returns
-returns c = laid _ (search rules)
+returns c = rw c.lay.ensures (laid _ c.write-wrote.ensures)
