@@ -28,7 +28,7 @@ pub(crate) struct Table {
 }
 
 // What is left of an equation: the row to keep, and the column to keep it in.
-#[derive(Clone, Copy)]
+#[derive(Drop)]
 struct Reduced {
     pub row: Row,
     pub column: Column,
