@@ -17,7 +17,6 @@ type Place = u16;
 pub(crate) type Places = [Place; MOST_POINTS];
 
 // The less of two sizes, of which 0 is none.
-#[tactic(auto, unfolding(crate::specs::Sorting::Model::lesser))]
 fn lesser(a: Size, b: Size) -> Size
     ensures { result ≡ lesser_of a b }
 {
