@@ -47,15 +47,16 @@ impl Divisor {
     }
 }
 
-// The first coefficient that is not 0, or 0.
+// The first coefficient that is not 0, or 0. A loop and no `find`, as in `sorting::alike`.
 fn leading(coefficients: &[Residue]) -> Residue
     ensures { result ≡ leading_of coefficients.now }
 {
-    coefficients
-        .iter()
-        .find(|coefficient| **coefficient != 0)
-        .copied()
-        .unwrap_or(0)
+    for coefficient in coefficients {
+        if *coefficient != 0 {
+            return *coefficient;
+        }
+    }
+    0
 }
 
 // The terms of the keys whose coefficient is not 0, each coefficient times the inverse of the leading one.

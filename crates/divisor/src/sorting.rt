@@ -17,7 +17,6 @@ type Place = u16;
 pub(crate) type Places = [Place; MOST_POINTS];
 
 // The less of two sizes, of which 0 is none.
-#[tactic(auto, unfolding(crate::specs::Sorting::Model::lesser))]
 fn lesser(a: Size, b: Size) -> Size
     ensures { result ≡ lesser_of a b }
 {
@@ -39,11 +38,18 @@ pub(crate) fn least_size(sizes: &[Size]) -> Size
     least
 }
 
-// How many sizes are m.
+// How many sizes are m. No chain of iterators: its `next` hands back an option of a reference, which a core with 32-bit pointers reads at another
+// place than the module writes it (bench/handheld).
 pub(crate) fn alike(sizes: &[Size], m: Size) -> usize
     ensures { result ≡ alike_of m sizes.now }
 {
-    sizes.iter().filter(|size| **size == m).count()
+    let mut count: usize = 0;
+    for size in sizes {
+        if *size == m {
+            count += 1;
+        }
+    }
+    count
 }
 
 // The places of the sizes that are m, in the order lent.

@@ -15,6 +15,7 @@ pub(crate) type Column = u16;
 
 pub(crate) type Cells = [Residue; MOST_COLUMNS];
 
+// A row of the table, or an equation on its way there: an array of its own type, with the steps on it as methods.
 #[derive(Clone, Copy)]
 pub(crate) struct Row {
     pub cells: Cells,
@@ -28,7 +29,7 @@ pub(crate) struct Table {
 }
 
 // What is left of an equation: the row to keep, and the column to keep it in.
-#[derive(Clone, Copy)]
+#[derive(Drop)]
 struct Reduced {
     pub row: Row,
     pub column: Column,

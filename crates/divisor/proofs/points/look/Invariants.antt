@@ -1,4 +1,4 @@
--- The loop keeps `Looks`: the sizes and the images of the points passed stand; the measure is how many points are left.
+-- The loop keeps `Looks`: the sizes and the images of the points passed stand.
 use Rattle.std.proofs.Common.{◌/◌, ◌≤◌, length}
 use Rattle.divisor.specs.Points.Model.{Looks}
 use Rattle.divisor.proofs.points.look.Given as goal

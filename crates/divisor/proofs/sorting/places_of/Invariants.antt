@@ -1,4 +1,4 @@
--- The loop keeps that the array has the places before i, as many as are counted. The measure is the number of sizes left.
+-- The loop keeps that the array has the places before i, as many as are counted.
 use Rattle.std.proofs.Common.{◌≡◌, ◌≤◌, length}
 use Rattle.divisor.specs.Sorting.Model.{places_before, HasPlaces}
 use Rattle.divisor.proofs.sorting.places_of.Given as goal

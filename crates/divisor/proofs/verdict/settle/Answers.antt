@@ -1,4 +1,4 @@
--- `divisor::verdict::settle` meets its contract, by the kind of the solution.
+-- `divisor::verdict::settle` meets its contract: what a refusal settles.
 use Rattle.divisor.specs.Verdict.Model.{unsolvable, several}
 use Rattle.divisor.specs.Verdict.Laws.{settled_refused}
 use Rattle.divisor.proofs.verdict.settle.Goals as goal
