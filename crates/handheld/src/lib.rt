@@ -195,7 +195,7 @@ pub extern "C" fn balungkiro_check_lists(first: &[Term], second: &[Term], number
 {
     match poly::list::check_lists(first, second) {
         Ok(()) => lay(Fault::none(), &[], numbers),
-        Err(fault) => lay(fault, &[], numbers),
+        Err(found) => lay(found, &[], numbers),
     }
 }
 
