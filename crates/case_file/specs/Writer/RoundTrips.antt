@@ -3,14 +3,12 @@ use Rattle.std.specs.Prelude.{ℕ, ◌≤◌, ◌≡◌, refl, List, length, tak
 use Rattle.std.proofs.Common.{ap, ◌∙◌, arith, length-append, take_at}
 use Rattle.field.specs.Refusal.{Passes}
 use Rattle.field.specs.Faults.Laws.{placed_never, never_placed, not_passes_and_refuses, refuses_numbered}
-use Rattle.case_file.specs.declared.Contents.{Contents}
-use Rattle.case_file.specs.declared.Counts.{Counts}
 use Rattle.case_file.specs.Format.{modulus_kind, first_kind, second_kind, skeleton_kind, point_kind, today}
 use Rattle.case_file.specs.Case.{Case, added, flat}
 use Rattle.case_file.specs.Reading.{Reading, whole, read_one, read}
 use Rattle.case_file.specs.Reading as reading
 use Rattle.case_file.specs.Written.{file_of, Storable}
-use Rattle.case_file.specs.Handed.{padded, contents, Gives}
+use Rattle.case_file.specs.Handed.{Contents, Counts, padded, contents, Gives}
 use Rattle.case_file.specs.WriteCall.{WriteCall, write_call, call_case, file, write_table, WriteResult, wrote, Write, refused, accepted}
 use Rattle.case_file.specs.RoundTrips.{OfWidth, lists_of, call_of, ReadOfWritten, WrittenOfRead, NeverLonger}
 use Rattle.case_file.specs.RoundTrips.{together, HandsBack, ReadIntoOfWritten, ReadOneIntoOfWritten, WrittenOfReadInto, WrittenOfReadOneInto}
