@@ -8,6 +8,7 @@ pub mod ReadBack
 pub mod Accepted
 pub mod Settled
 pub mod Within
+pub mod Lent
 pub mod Today
 pub mod Adding
 pub mod Progress

@@ -1,12 +1,10 @@
 -- The two round trips and the greatest length, stated over the promises of the calls alone: of `write`, and of `read`, `read_into` and `read_one_into`.
 use Rattle.std.specs.Prelude.{◌≡◌, List, length, take, ℕ, ◌^◌, ◌≤◌, ◌<◌}
 use Rattle.field.specs.Refusal.{none}
-use Rattle.case_file.specs.declared.Counts.{Counts}
-use Rattle.case_file.specs.declared.Contents.{Contents}
 use Rattle.case_file.specs.Format.{base, first_kind, second_kind, skeleton_kind, point_kind, fullest, today}
 use Rattle.case_file.specs.Reading.{Reading, read_one, read}
 use Rattle.case_file.specs.Written.{Below}
-use Rattle.case_file.specs.Handed.{in_array, contents, Gives}
+use Rattle.case_file.specs.Handed.{Counts, Contents, in_array, contents, Gives}
 use Rattle.case_file.specs.WriteCall.{WriteCall, write_call, WriteResult, wrote, Write}
 
 -- the numbers of a call are of their widths, as their types say: modulus, keys and point numbers of two bytes, terms of four

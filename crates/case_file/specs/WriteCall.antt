@@ -4,10 +4,23 @@ use Rattle.field.specs.Numbers.{NOT_WRITABLE, BUFFER_SHORT}
 use Rattle.field.specs.Refusal.{Line, line, whole, none, Refuses, Passes}
 use Rattle.field.specs.Lent.{written}
 use Rattle.field.specs.declared.faults.Fault.{Fault}
-use Rattle.case_file.specs.declared.WriteRecord.{WriteRecord}
+use Rattle.field.specs.declared.case.Case.{Case as Lent}
 use Rattle.case_file.specs.Format.{modulus_kind, first_kind, second_kind, skeleton_kind, point_kind, end_kind, count, limit, today}
 use Rattle.case_file.specs.Case.{Case, no_records, added}
 use Rattle.case_file.specs.Written.{file_of}
+
+-- What the writer tells: a fault, and how many bytes the file has.
+pub record WriteRecord : Type 0 where
+  pub fault : Fault
+  pub length : ℕ
+
+-- told of a refusal
+abbrev pub refused_write : Fault → WriteRecord
+refused_write f = record { fault = f; length = 0 }
+
+-- told of a file that was written
+abbrev pub written_length : ℕ → WriteRecord
+written_length n = record { fault = none; length = n }
 
 -- what the writer is lent
 pub record WriteCall : Type 0 where
@@ -22,6 +35,10 @@ pub record WriteCall : Type 0 where
 abbrev pub write_call : ℕ → List ℕ → List ℕ → List ℕ → List ℕ → List ℕ → WriteCall
 write_call p A B skeleton points buffer =
     record { modulus = p; first_list = A; second_list = B; skeleton = skeleton; points = points; buffer = buffer }
+
+-- a call about a case
+abbrev pub write_call_of : Lent → List ℕ → WriteCall
+write_call_of c = write_call c.modulus c.first.now c.second.now c.skeleton.now c.points.now
 
 -- records of one number each
 abbrev pub singles_of : {A : Type 0} → (A → ℕ) → List A → List (List ℕ)
@@ -82,9 +99,9 @@ write_result found buffer = record { found = found; buffer = buffer }
 
 -- these bytes are written first in the buffer
 abbrev pub wrote : List ℕ → List ℕ → WriteResult
-wrote bytes buffer = write_result (record { fault = none; length = length bytes }) (written bytes buffer)
+wrote bytes buffer = write_result (written_length (length bytes)) (written bytes buffer)
 
 -- the promise of the writer
 pub data Write (c : WriteCall) : WriteResult → Type 0 where
-  refused : (f : Fault) → Refuses (write_table c) f → Write c (write_result (record { fault = f; length = 0 }) c.buffer)
+  refused : (f : Fault) → Refuses (write_table c) f → Write c (write_result (refused_write f) c.buffer)
   accepted : Passes (write_table c) → Write c (wrote (file c) c.buffer)

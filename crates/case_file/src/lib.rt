@@ -1,7 +1,9 @@
 // Case files. The reader: from bytes to the modulus and the four lists, or a refusal. The writer: the way back.
 #![tactic(auto)]
 
-use field::{Fault, KeyBits, MOST_KEYS, MOST_POINT_NUMBERS, MOST_TERMS, Residue, Term};
+ghost use Rattle.case_file.specs.Handed.{Lends};
+
+use field::{Case, KeyBits, MOST_KEYS, MOST_POINT_NUMBERS, MOST_TERMS, Residue, Term};
 
 mod reader;
 mod record;
@@ -18,10 +20,9 @@ pub type Keys = [KeyBits; MOST_KEYS];
 
 pub type PointNumbers = [Residue; MOST_POINT_NUMBERS];
 
-// What is read beside the lists: how many numbers each of them has, and the offset after the end record (0 on refusal).
+// What is read beside the lists: how many numbers each of them has, and the offset after the end record.
 #[derive(Clone, Copy)]
 pub struct Counts {
-    pub fault: Fault,
     pub next: usize,
     pub modulus: Residue,
     pub first: usize,
@@ -32,7 +33,6 @@ pub struct Counts {
 
 #[derive(Clone, Copy)]
 pub struct Contents {
-    pub fault: Fault,
     pub modulus: Residue,
     pub first: Terms,
     pub first_count: usize,
@@ -44,9 +44,17 @@ pub struct Contents {
     pub points_count: usize,
 }
 
-// What the writer answers: how many bytes the file has (0 on refusal).
-#[derive(Clone, Copy)]
-pub struct WriteRecord {
-    pub fault: Fault,
-    pub length: usize,
+impl Contents {
+    // What was read, to be lent on.
+    pub fn case(&self) -> Case<'_>
+        ensures { Lends self.now result }
+    {
+        Case {
+            modulus: self.modulus,
+            first: &self.first[..self.first_count.min(MOST_TERMS)],
+            second: &self.second[..self.second_count.min(MOST_TERMS)],
+            skeleton: &self.skeleton[..self.skeleton_count.min(MOST_KEYS)],
+            points: &self.points[..self.points_count.min(MOST_POINT_NUMBERS)],
+        }
+    }
 }

@@ -1,7 +1,8 @@
 // Reading a case file: record by record, up to the end record or the first fault.
 ghost use Rattle.std.specs.Prelude.{◌≡◌};
 ghost use Rattle.case_file.specs.Reading.{refused, read_one, read as read_of};
-ghost use Rattle.case_file.specs.Handed.{contents, Gives};
+ghost use Rattle.field.specs.Refusal.{StandsFor};
+ghost use Rattle.case_file.specs.Handed.{contents, Gives, counted, refused_counts, contained, refused_contents};
 ghost use Rattle.case_file.specs.Record.Kinds.{kind_byte};
 ghost use Rattle.case_file.specs.Reader.Adding.{Ready, Adds};
 
@@ -10,23 +11,20 @@ use crate::{Contents, Counts, Keys, PointNumbers, Terms};
 use field::{Fault, MOST_KEYS, MOST_POINT_NUMBERS, MOST_TERMS, RefusalNumber};
 
 // The four arrays stay four parameters: were they lent in a struct, each function would have to promise besides that its references stay the same.
-// A refusal: zeros, with counts 0. With number 0 it is what stands before the first record.
-fn nothing(
-    number: RefusalNumber,
-    place: usize,
+// Zeros, with counts 0: what stands before the first record.
+fn emptied(
     first: &mut Terms,
     second: &mut Terms,
     skeleton: &mut Keys,
     points: &mut PointNumbers,
 ) -> Counts
-    ensures { Gives (refused number place) result first.new second.new skeleton.new points.new }
+    ensures { Gives (refused 0 0) (counted result) first.new second.new skeleton.new points.new }
 {
     *first = [0; MOST_TERMS];
     *second = [0; MOST_TERMS];
     *skeleton = [0; MOST_KEYS];
     *points = [0; MOST_POINT_NUMBERS];
     Counts {
-        fault: Fault::at(number, place),
         next: 0,
         modulus: 0,
         first: 0,
@@ -34,6 +32,21 @@ fn nothing(
         skeleton: 0,
         points: 0,
     }
+}
+
+// A refusal leaves zeros.
+fn refused(
+    number: RefusalNumber,
+    place: usize,
+    first: &mut Terms,
+    second: &mut Terms,
+    skeleton: &mut Keys,
+    points: &mut PointNumbers,
+) -> Fault
+    ensures { Gives (refused number place) (refused_counts result) first.new second.new skeleton.new points.new }
+{
+    emptied(first, second, skeleton, points);
+    Fault::at(number, place)
 }
 
 // The record of this kind, whose body begins at the offset, goes to its list.
@@ -47,8 +60,8 @@ fn with_record(
     skeleton: &mut Keys,
     points: &mut PointNumbers,
 ) -> Counts
-    requires { Ready bytes.now (kind_byte kind) at counts }
-    ensures { Adds bytes.now (kind_byte kind) at counts result first.old second.old skeleton.old
+    requires { Ready bytes.now (kind_byte kind) at (counted counts) }
+    ensures { Adds bytes.now (kind_byte kind) at (counted counts) (counted result) first.old second.old skeleton.old
         points.old first.new second.new skeleton.new points.new }
 {
     let mut next = counts;
@@ -82,10 +95,11 @@ pub fn read_one_into(
     second: &mut Terms,
     skeleton: &mut Keys,
     points: &mut PointNumbers,
-) -> Counts
-    ensures { Gives (read_one bytes.now) result first.new second.new skeleton.new points.new }
+) -> Result<Counts, Fault>
+    ensures { StandsFor refused_counts counted
+        (λ r. Gives (read_one bytes.now) r first.new second.new skeleton.new points.new) result }
 {
-    let mut counts = nothing(0, 0, first, second, skeleton, points);
+    let mut counts = emptied(first, second, skeleton, points);
     let mut before = None;
     let mut at: usize = 0;
     // Records have several lengths, so no range and no iterator of a slice has these steps.
@@ -93,17 +107,17 @@ pub fn read_one_into(
         let start = at + 1;
         let kind = match record::tested(before, bytes[at], counts, bytes.len() - start) {
             Ok(kind) => kind,
-            Err(number) => return nothing(number, at, first, second, skeleton, points),
+            Err(number) => return Err(refused(number, at, first, second, skeleton, points)),
         };
         if kind == Kind::End {
             counts.next = start;
-            return counts;
+            return Ok(counts);
         }
         counts = with_record(bytes, kind, start, counts, first, second, skeleton, points);
         before = Some(kind);
         at = start + kind.body();
     }
-    nothing(Fault::NO_END, at, first, second, skeleton, points)
+    Err(refused(Fault::NO_END, at, first, second, skeleton, points))
 }
 
 // A case file: one case, and nothing after it. The first 4,096 bytes settle the answer, so that a program need read no more.
@@ -113,38 +127,28 @@ pub fn read_into(
     second: &mut Terms,
     skeleton: &mut Keys,
     points: &mut PointNumbers,
-) -> Counts
-    ensures { Gives (read_of bytes.now) result first.new second.new skeleton.new points.new }
+) -> Result<Counts, Fault>
+    ensures { StandsFor refused_counts counted
+        (λ r. Gives (read_of bytes.now) r first.new second.new skeleton.new points.new) result }
 {
-    let counts = read_one_into(bytes, first, second, skeleton, points);
-    if bytes.len() <= counts.next {
-        return counts;
+    let counts = read_one_into(bytes, first, second, skeleton, points)?;
+    let end = counts.next;
+    if end < bytes.len() {
+        return Err(refused(Fault::AFTER_END, end, first, second, skeleton, points));
     }
-    if counts.fault.number != 0 {
-        return counts;
-    }
-    nothing(
-        Fault::AFTER_END,
-        counts.next,
-        first,
-        second,
-        skeleton,
-        points,
-    )
+    Ok(counts)
 }
 
-// The same in one record.
-pub fn read(bytes: &[u8]) -> Contents
-    ensures { result ≡ contents (read_of bytes.now) }
+// The same in one value.
+pub fn read(bytes: &[u8]) -> Result<Contents, Fault>
+    ensures { StandsFor refused_contents contained (λ r. r ≡ contents (read_of bytes.now)) result }
 {
     let mut first = [0; MOST_TERMS];
     let mut second = [0; MOST_TERMS];
     let mut skeleton = [0; MOST_KEYS];
     let mut points = [0; MOST_POINT_NUMBERS];
-    let counts = read_into(bytes, &mut first, &mut second, &mut skeleton, &mut points);
-    let fault = counts.fault;
-    Contents {
-        fault,
+    let counts = read_into(bytes, &mut first, &mut second, &mut skeleton, &mut points)?;
+    Ok(Contents {
         modulus: counts.modulus,
         first,
         first_count: counts.first,
@@ -154,5 +158,5 @@ pub fn read(bytes: &[u8]) -> Contents
         skeleton_count: counts.skeleton,
         points,
         points_count: counts.points,
-    }
+    })
 }

@@ -2,6 +2,7 @@
 ghost use Rattle.std.specs.Prelude.{◌≡◌, ◌+◌, ◌≤◌, length};
 ghost use Rattle.std.proofs.lemmas.List.Edits.{sets};
 ghost use Rattle.case_file.specs.Format.{body as body_of, limit as limit_of, follows as follows_of, today};
+ghost use Rattle.case_file.specs.Handed.{counted};
 ghost use Rattle.case_file.specs.Record.Kinds.{kind_byte, standing, Decodes, Tests};
 ghost use Rattle.case_file.specs.Record.Room.{held as held_of, two, four};
 
@@ -75,7 +76,7 @@ impl Kind {
 
     // How many records of the kind were read. Those of modulus and end have no count: the order of kinds bounds them.
     fn held(self, counts: Counts) -> usize
-        ensures { result ≡ held_of counts (kind_byte self) }
+        ensures { result ≡ held_of (counted counts) (kind_byte self) }
     {
         match self {
             Kind::Modulus | Kind::End => 0,
@@ -94,7 +95,7 @@ pub(crate) fn tested(
     counts: Counts,
     left: usize,
 ) -> Result<Kind, RefusalNumber>
-    ensures { Tests (standing before) byte (held_of counts byte) left result }
+    ensures { Tests (standing before) byte (held_of (counted counts) byte) left result }
 {
     let kind = Kind::try_from(byte)?;
     if !kind.follows(before) {

@@ -2,21 +2,18 @@
 #![tactic(auto, unfolding(crate::specs::Format::kind_of))]
 
 ghost use Rattle.std.specs.Prelude.{◌≡◌, ℕ, [], ◌∷◌, ◌+◌, ◌≤◌, length};
-ghost use Rattle.field.specs.Refusal.{Tested};
+ghost use Rattle.field.specs.Refusal.{Checked, StandsFor};
 ghost use Rattle.case_file.specs.Format.{point_kind, today};
 ghost use Rattle.case_file.specs.Written.{bytes, packed, records};
-ghost use Rattle.case_file.specs.WriteCall.{write_call, singles_of, triples, of_lengths, file, write_result, Write};
+ghost use Rattle.case_file.specs.WriteCall.{write_call_of, singles_of, triples, file, write_result, refused_write, written_length, Write};
 ghost use Rattle.field.specs.Loops.Putting.{Puts};
 ghost use Rattle.case_file.specs.Writer.Cases.{Writable};
-ghost use Rattle.case_file.specs.Writer.Length.{file_length};
+ghost use Rattle.case_file.specs.Writer.Length.{file_length, of_case};
 ghost use Rattle.case_file.specs.Record.Kinds.{kind_byte};
 ghost use Rattle.case_file.specs.Writer.Room.{NumbersFit};
 
-use crate::WriteRecord;
 use crate::record::{self, Kind};
-use field::{
-    COORDINATES, Fault, KeyBits, MOST_KEYS, MOST_POINT_NUMBERS, MOST_TERMS, Residue, Term,
-};
+use field::{COORDINATES, Case, Fault, MOST_KEYS, MOST_POINT_NUMBERS, MOST_TERMS, Residue};
 
 // The bytes of the file, by how many numbers each list has: of each record its kind byte and its body.
 fn file_length(first: usize, second: usize, skeleton: usize, points: usize) -> usize
@@ -30,21 +27,25 @@ fn file_length(first: usize, second: usize, skeleton: usize, points: usize) -> u
 }
 
 // The refusals 26 and 27: of what is lent only the lengths matter.
-fn write_fault(first: usize, second: usize, skeleton: usize, points: usize, buffer: usize) -> Fault
-    ensures { Tested (of_lengths first second skeleton points (file_length first second skeleton points) buffer) result }
+fn check_lengths(case: &Case<'_>, buffer: usize) -> Result<(), Fault>
+    ensures { Checked (of_case case.now buffer) result }
 {
+    let first = case.first.len();
+    let second = case.second.len();
+    let skeleton = case.skeleton.len();
+    let points = case.points.len();
     let few = (first <= MOST_TERMS)
         & (second <= MOST_TERMS)
         & (skeleton <= MOST_KEYS)
         & (points <= MOST_POINT_NUMBERS)
         & (points % COORDINATES == 0);
     if !few {
-        return Fault::at(Fault::NOT_WRITABLE, 0);
+        return Err(Fault::at(Fault::NOT_WRITABLE, 0));
     }
     if buffer < file_length(first, second, skeleton, points) {
-        return Fault::at(Fault::BUFFER_SHORT, 0);
+        return Err(Fault::at(Fault::BUFFER_SHORT, 0));
     }
-    Fault::none()
+    Ok(())
 }
 
 // A number of a record.
@@ -122,48 +123,23 @@ fn write_points(numbers: &[Residue], at: usize, buffer: &mut [u8]) -> usize
 }
 
 // The file, in a buffer that is long enough; its length.
-fn write_case(
-    modulus: Residue,
-    first: &[Term],
-    second: &[Term],
-    skeleton: &[KeyBits],
-    points: &[Residue],
-    buffer: &mut [u8],
-) -> usize
-    requires { length (file (write_call modulus first.now second.now skeleton.now points.now buffer.old)) ≤ length buffer.old }
-    ensures { Puts (file (write_call modulus first.now second.now skeleton.now points.now
-        buffer.old)) 0 result buffer.old buffer.new }
+fn write_case(case: &Case<'_>, buffer: &mut [u8]) -> usize
+    requires { length (file (write_call_of case.now buffer.old)) ≤ length buffer.old }
+    ensures { Puts (file (write_call_of case.now buffer.old)) 0 result buffer.old buffer.new }
 {
-    let after_modulus = write_record(Kind::Modulus, modulus, 0, buffer);
-    let after_first = write_numbers(Kind::First, first, after_modulus, buffer);
-    let after_second = write_numbers(Kind::Second, second, after_first, buffer);
-    let after_skeleton = write_numbers(Kind::Skeleton, skeleton, after_second, buffer);
-    let end = write_points(points, after_skeleton, buffer);
+    let after_modulus = write_record(Kind::Modulus, case.modulus, 0, buffer);
+    let after_first = write_numbers(Kind::First, case.first, after_modulus, buffer);
+    let after_second = write_numbers(Kind::Second, case.second, after_first, buffer);
+    let after_skeleton = write_numbers(Kind::Skeleton, case.skeleton, after_second, buffer);
+    let end = write_points(case.points, after_skeleton, buffer);
     record::put(&[Kind::End as u8], buffer, end)
 }
 
-// The file of a modulus and four lists, or a refusal, which leaves the buffer unchanged. It checks counts only.
-pub fn write(
-    modulus: Residue,
-    first: &[Term],
-    second: &[Term],
-    skeleton: &[KeyBits],
-    points: &[Residue],
-    buffer: &mut [u8],
-) -> WriteRecord
-    ensures { Write (write_call modulus first.now second.now skeleton.now points.now
-        buffer.old) (write_result result buffer.new) }
+// The file of a case, and its length; or a refusal, which leaves the buffer unchanged. It checks counts only.
+pub fn write(case: &Case<'_>, buffer: &mut [u8]) -> Result<usize, Fault>
+    ensures { StandsFor refused_write written_length
+        (λ r. Write (write_call_of case.now buffer.old) (write_result r buffer.new)) result }
 {
-    let fault = write_fault(
-        first.len(),
-        second.len(),
-        skeleton.len(),
-        points.len(),
-        buffer.len(),
-    );
-    if fault.number != 0 {
-        return WriteRecord { fault, length: 0 };
-    }
-    let length = write_case(modulus, first, second, skeleton, points, buffer);
-    WriteRecord { fault, length }
+    check_lengths(case, buffer.len())?;
+    Ok(write_case(case, buffer))
 }

@@ -9,7 +9,7 @@ use Rattle.poly.specs.ShorterPart.{Head}
 use Rattle.poly.specs.QuotientCall.{QuotientResult}
 use Rattle.divisor.specs.Candidate.{Result}
 use Rattle.cancel.specs.CancelCall.{CancelResult}
-use Rattle.case_file.specs.declared.Contents.{Contents}
+use Rattle.case_file.specs.Handed.{Contents}
 use Rattle.case_file.specs.WriteCall.{WriteResult}
 
 -- the promise of a call: what is left is an answer that the service promises, laid out

@@ -6,8 +6,7 @@ use Rattle.field.specs.Refusal.{fault, none}
 use Rattle.field.specs.declared.faults.Fault.{Fault}
 use Rattle.poly.specs.ImageCall.{image_call, refused_image}
 use Rattle.divisor.specs.Rule.{report}
-use Rattle.case_file.specs.declared.Contents.{Contents}
-use Rattle.case_file.specs.Handed.{padded}
+use Rattle.case_file.specs.Handed.{Contents, padded}
 use Rattle.case_file.specs.Format.{today}
 use Rattle.case_file.specs.Written.{records}
 use Rattle.case_file.specs.WriteCall.{WriteCall, write_call, write_result}

@@ -20,9 +20,8 @@ use Rattle.divisor.specs.declared.CandidateRecord.{CandidateRecord}
 use Rattle.divisor.specs.Candidate.{Call, Result, refused_record, Candidate}
 use Rattle.cancel.specs.declared.CancelRecord.{CancelRecord}
 use Rattle.cancel.specs.CancelCall.{CancelCall, cancel_call, CancelResult, cancel_result, with_both, Cancel}
-use Rattle.case_file.specs.declared.Contents.{Contents}
 use Rattle.case_file.specs.Reading.{read}
-use Rattle.case_file.specs.Handed.{contents}
+use Rattle.case_file.specs.Handed.{Contents, contents}
 use Rattle.case_file.specs.WriteCall.{WriteCall, WriteResult, Write}
 
 pub record Row : Type 0 where

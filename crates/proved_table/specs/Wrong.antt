@@ -12,9 +12,8 @@ use Rattle.field.specs.declared.faults.Fault.{Fault}
 use Rattle.poly.specs.Room.{work_room, cleared}
 use Rattle.divisor.specs.declared.CandidateRecord.{CandidateRecord}
 use Rattle.divisor.specs.Candidate.{candidate_result, Candidate}
-use Rattle.case_file.specs.declared.Contents.{Contents}
 use Rattle.case_file.specs.Reading.{read}
-use Rattle.case_file.specs.Handed.{contents}
+use Rattle.case_file.specs.Handed.{Contents, contents}
 use Rattle.cancel.specs.declared.CancelRecord.{CancelRecord}
 use Rattle.cancel.specs.CancelCall.{cancel_result, Cancel}
 use Rattle.proved_table.specs.Row.{Row, call, QuotientRow, quotient_call_of, CancelRow, cancel_call_of}

@@ -5,8 +5,7 @@ use Rattle.field.specs.Refusal.{fault, none}
 use Rattle.poly.specs.ImageCall.{ImageRecord}
 use Rattle.poly.specs.QuotientCall.{QuotientRecord}
 use Rattle.poly.specs.ImageCall.{refused_image}
-use Rattle.case_file.specs.declared.Contents.{Contents}
-use Rattle.case_file.specs.Handed.{padded}
+use Rattle.case_file.specs.Handed.{Contents, padded}
 use Rattle.proved_table.specs.Row.{QuotientRow, ImageRow, FileRow}
 use Rattle.proved_table.specs.Table.{term_xy, at}
 use Rattle.proved_table.specs.MoreRows.{f_over_e, e_over_f, k_over_e, a₂_over_factor, equal_as_values, image_bad, image_two, image_k, image_of_first}

@@ -5,8 +5,7 @@ use Rattle.case_file.specs.Format.{modulus_kind, first_kind, second_kind, skelet
 use Rattle.case_file.specs.Format.{kind_of, first_term, key, point, limit, body, content, today}
 use Rattle.case_file.specs.Case.{Case, added, flat}
 use Rattle.case_file.specs.Reading.{whole}
-use Rattle.case_file.specs.Handed.{Gives}
-use Rattle.case_file.specs.declared.Counts.{Counts}
+use Rattle.case_file.specs.Handed.{Counts, Gives}
 use Rattle.field.specs.Loops.Putting.{Puts}
 use Rattle.case_file.specs.Record.Room.{held, Place, two, four}
 use Rattle.case_file.specs.Record.Packing.{of_two, of_four, of_three}

@@ -1,18 +1,21 @@
 -- From the case at the start of the bytes to a case file: nothing may stand after it.
 use Prim.Native.Nat.{ℕ, zero, suc, ◌+◌, ◌≤◌, ◌<◌}
-use Rattle.std.specs.Prelude.{◌≡◌, Bool, length}
-use Rattle.std.proofs.Math.Path.{refl}
+use Rattle.std.specs.Prelude.{◌≡◌, Bool, Result, Err, length}
+use Rattle.std.proofs.Math.Path.{refl, ap}
 use Rattle.std.proofs.Math.Bool.{true, false}
 use mathlib.Core.List.{List, [], ◌∷◌}
 use native.Mathlib.Omega.{arith}
 use borrow.Author.Tests.{lt-ltb, le-ltb, ltb-false}
 use Rattle.std.proofs.Math.Dec.{ltb}
 use Rattle.field.specs.Numbers.{AFTER_END}
+use Rattle.field.specs.declared.faults.Fault.{Fault}
+use Rattle.field.specs.Refusal.{StandsFor}
+use Rattle.field.specs.Faults.Laws.{stands_err}
+use Rattle.case_file.specs.declared.Counts.{Counts as ReadCounts}
 use Rattle.case_file.specs.Format.{Format, body, content, today}
 use Rattle.case_file.specs.Case.{Case, no_records, added}
 use Rattle.case_file.specs.Reading.{Reading, whole, refused, alone, reading, read_one_in, read_in, read_one, read}
-use Rattle.case_file.specs.Handed.{fault, next, Gives}
-use Rattle.case_file.specs.declared.Counts.{Counts}
+use Rattle.case_file.specs.Handed.{Counts, fault, next, Gives, counted, refused_counts}
 use Rattle.case_file.specs.Reader.Steps.{refused_no_case, by_record}
 
 -- a refusal's number is not 0, so that number 0 says that a case was read
@@ -74,6 +77,11 @@ module _ (f : Format) where
   unfolding read_in
   read_numbered bs = alone_each Numbered (length bs) (read_one_in f bs) (λ at z. omega arith) (read_one_numbered bs)
 
+-- a refusal with its number is told of what is refused so
+pub refused_told : {o : Reading} {e i : ℕ} {x : Fault} {f s k p : List ℕ} → o ≡ refused e i → ¬ (e ≡ 0)
+    → Gives (refused e i) (refused_counts x) f s k p → (0 < x.number) × Gives o (refused_counts x) f s k p
+refused_told q z g = (omega (arith, z, ap (λ (r : Counts). r.fault.number) g.record_is), rw q g)
+
 module _ (bs : List ℕ) {r : Counts} {f s k p : List ℕ} (g : Gives (read_one bs) r f s k p) where
   pub nothing_after : length bs ≤ r.next → Gives (read bs) r f s k p
   unfolding read_in
@@ -88,3 +96,9 @@ module _ (bs : List ℕ) {r : Counts} {f s k p : List ℕ} (g : Gives (read_one 
   bytes_after h z =
       rw g.record_is
       (becomes_refused (length bs) (read_one bs) (read_one_numbered today bs) (rw g.record_is at h) (rw g.record_is at z))
+
+-- a refusal of the case at the start is one of the file
+pub refused_alike : (bs : List ℕ) {x : Fault} {f s k p : List ℕ} {r : Result ReadCounts Fault} → r ≡ Err x
+    → (0 < x.number) × Gives (read_one bs) (refused_counts x) f s k p → StandsFor refused_counts counted (λ t. Gives (read bs) t f s k p) r
+refused_alike bs {x} {f} {s} {k} {p} e told =
+    stands_err refused_counts counted (λ t. Gives (read bs) t f s k p) e told.0 (refused_before bs told.1 (λ z. omega (arith, told.0)))

@@ -9,9 +9,7 @@ use Rattle.field.specs.Refusal.{RefutesAnotherList}
 use Rattle.case_file.specs.Format.{Format, body, content, today}
 use Rattle.case_file.specs.Case.{Case, no_records, added}
 use Rattle.case_file.specs.Reading.{Reading, whole, refused, reading, read_one_in, read_in, read}
-use Rattle.case_file.specs.Handed.{fault, Gives, contents}
-use Rattle.case_file.specs.declared.Counts.{Counts}
-use Rattle.case_file.specs.declared.Contents.{Contents}
+use Rattle.case_file.specs.Handed.{Counts, Contents, fault, Gives, contents}
 use Rattle.case_file.specs.Record.Tests.{tests_no_list}
 use Rattle.case_file.specs.Reader.Steps.{by_record}
 use Rattle.case_file.specs.Reader.Alone.{alone_each}

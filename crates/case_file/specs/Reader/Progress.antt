@@ -9,11 +9,10 @@ use Rattle.case_file.specs.Format.{modulus_kind, first_kind, second_kind, skelet
 use Rattle.case_file.specs.Format.{known, follows, kind_of, body, content, today}
 use Rattle.case_file.specs.Case.{Case, no_records, added}
 use Rattle.case_file.specs.Reading.{whole, refused, fault_number, reading, read_one_in, read_one}
-use Rattle.case_file.specs.Handed.{Gives, counts}
+use Rattle.case_file.specs.Handed.{Counts, Gives, counts}
 use Rattle.case_file.specs.Record.Room.{held}
 use Rattle.case_file.specs.Record.Arrays.{gives}
 use Rattle.case_file.specs.Reader.Adding.{Ready, Adds}
-use Rattle.case_file.specs.declared.Counts.{Counts}
 use Rattle.case_file.specs.Record.Tests.{Passed, passed, fault_same, not_second}
 use Rattle.case_file.specs.Record.Today.{by_kind, range}
 use Rattle.case_file.specs.Reader.Steps.{runs_out, passed_over, stops, ends, goes_on}

@@ -7,8 +7,7 @@ use Rattle.field.specs.Numbers.{AFTER_END, NO_END}
 use Rattle.case_file.specs.Format.{Format, first_kind, second_kind, skeleton_kind, point_kind, count, body, limit, content, today}
 use Rattle.case_file.specs.Case.{Case, no_records, added, flat}
 use Rattle.case_file.specs.Reading.{Reading, refused, reading, read_one_in, read_in, read_one, read}
-use Rattle.case_file.specs.Handed.{list, Gives}
-use Rattle.case_file.specs.declared.Counts.{Counts}
+use Rattle.case_file.specs.Handed.{Counts, list, Gives}
 use Rattle.case_file.specs.Record.Tests.{passed}
 use Rattle.case_file.specs.Reader.Steps.{by_record}
 use Rattle.case_file.specs.Reader.Alone.{alone_each}

@@ -6,8 +6,7 @@ use Rattle.std.proofs.lemmas.List.Edits.{sets}
 use Rattle.case_file.specs.Format.{Kind, numbers, first_kind, second_kind, skeleton_kind, point_kind}
 use Rattle.case_file.specs.Case.{flat}
 use Rattle.case_file.specs.Reading.{Reading}
-use Rattle.case_file.specs.Handed.{padded, counts, array, Gives}
-use Rattle.case_file.specs.declared.Counts.{Counts}
+use Rattle.case_file.specs.Handed.{Counts, padded, counts, array, Gives}
 use Rattle.field.specs.Loops.Putting.{Puts}
 use Rattle.case_file.specs.Record.Room.{most, Place}
 use Rattle.case_file.specs.Record.Packing.{length_numbers}

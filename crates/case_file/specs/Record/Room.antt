@@ -1,7 +1,7 @@
 -- What the functions of a record ask and promise: room for its numbers, and the numbers in their list.
 use Rattle.std.specs.Prelude.{ℕ, ◌+◌, ◌*◌, ◌/◌, ◌≤◌, List, [], ◌∷◌, length, get_or}
 use Rattle.case_file.specs.Format.{Kind, base, sum}
-use Rattle.case_file.specs.declared.Counts.{Counts}
+use Rattle.case_file.specs.Handed.{Counts}
 
 -- by kind, the records that the counts say, of a point three numbers; those of modulus and end have no count, and the order of kinds bounds them
 abbrev pub held : Counts → ℕ → ℕ

@@ -5,10 +5,12 @@ use mathlib.Core.List.{List, [], ◌∷◌, map}
 use Rattle.std.proofs.Common.{mul-suc, mul-le-mul_left, arith, length-append}
 use Rattle.std.proofs.Math.Nat.{mul-zero}
 use Rattle.std.proofs.Math.ListN.{length-map}
+use Rattle.field.specs.Refusal.{Line}
+use Rattle.field.specs.declared.case.Case.{Case as Lent}
 use Rattle.case_file.specs.Format.{Format, order, kind_of, widths, count, limit, sum, body, fullest, today}
 use Rattle.case_file.specs.Case.{Case, added}
 use Rattle.case_file.specs.Written.{records, in_order, file_of}
-use Rattle.case_file.specs.WriteCall.{WriteCall, call_case, file}
+use Rattle.case_file.specs.WriteCall.{WriteCall, call_case, of_lengths, file}
 use Rattle.case_file.specs.Record.Packing.{length_packed}
 use Rattle.case_file.specs.Writer.Cases.{EachHas, singles_have, triples_have, length_triples, case_each}
 
@@ -41,6 +43,12 @@ module _ (f : Format) where
 -- the length of the file of lists of these lengths: of each record its kind byte and its body
 abbrev pub file_length : (first second skeleton points : ℕ) → ℕ
 file_length first second skeleton points = 3 + 5 * first + 5 * second + 3 * skeleton + 7 * (points / 3) + 1
+
+-- the lines of the writer for a case and a buffer of this length
+abbrev pub of_case : Lent → ℕ → List Line
+of_case c buffer =
+    of_lengths (length c.first.now) (length c.second.now) (length c.skeleton.now) (length c.points.now)
+    (file_length (length c.first.now) (length c.second.now) (length c.skeleton.now) (length c.points.now)) buffer
 
 module _ (c : WriteCall) where
   pub case_has : (k : ℕ) → EachHas (count today k) (call_case c k)

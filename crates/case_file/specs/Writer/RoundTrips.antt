@@ -1,20 +1,21 @@
 -- The two round trips and the greatest length, of the calls: reading what was written gives the lists, and writing what was read gives the bytes.
 use Rattle.std.specs.Prelude.{ℕ, ◌≤◌, ◌≡◌, refl, List, length, take, drop, get_or}
-use Rattle.std.proofs.Common.{ap, ◌∙◌, arith, length-append, take_at}
+use Rattle.std.proofs.Common.{sym, ap, ◌∙◌, arith, length-append, take_at}
 use Rattle.field.specs.Refusal.{Passes}
 use Rattle.field.specs.Faults.Laws.{placed_never, never_placed, not_passes_and_refuses, refuses_numbered}
-use Rattle.case_file.specs.declared.Contents.{Contents}
-use Rattle.case_file.specs.declared.Counts.{Counts}
+use Rattle.field.specs.declared.case.Case.{Case as Lent}
+use Rattle.case_file.specs.declared.Contents.{Contents as ReadContents}
 use Rattle.case_file.specs.Format.{modulus_kind, first_kind, second_kind, skeleton_kind, point_kind, today}
 use Rattle.case_file.specs.Case.{Case, added, flat}
 use Rattle.case_file.specs.Reading.{Reading, whole, read_one, read}
 use Rattle.case_file.specs.Reading as reading
 use Rattle.case_file.specs.Written.{file_of, Storable}
-use Rattle.case_file.specs.Handed.{padded, contents, Gives}
-use Rattle.case_file.specs.WriteCall.{WriteCall, write_call, call_case, file, write_table, WriteResult, wrote, Write, refused, accepted}
+use Rattle.case_file.specs.Handed.{Contents, Counts, padded, contents, contained, Gives, Lends}
+use Rattle.case_file.specs.WriteCall.{WriteCall, write_call, write_call_of, call_case, file, write_table, WriteResult, wrote, Write, refused, accepted}
 use Rattle.case_file.specs.RoundTrips.{OfWidth, lists_of, call_of, ReadOfWritten, WrittenOfRead, NeverLonger}
 use Rattle.case_file.specs.RoundTrips.{together, HandsBack, ReadIntoOfWritten, ReadOneIntoOfWritten, WrittenOfReadInto, WrittenOfReadOneInto}
 use Rattle.case_file.specs.Reader.Alone.{Numbered, read_one_numbered}
+use Rattle.case_file.specs.Reader.Lent.{lends_read}
 use Rattle.case_file.specs.Reader.Today as reader
 use Rattle.case_file.specs.Writer.Cases.{flat_singles, flat_triples, CanWrite, writable, not_unwritable, case_within, case_storable}
 use Rattle.case_file.specs.Writer.Cases.{lists_writable, case_of_lists}
@@ -66,6 +67,15 @@ read_of_written c o w h z r e =
 take_padded : (n : ℕ) (ns : List ℕ) → take (length ns) (padded n ns) ≡ ns
 unfolding padded
 take_padded n ns = take_at ns _ (length ns) refl
+
+-- a case that is lent of what was read is written back as what was handed back
+pub lent_call : (bs : List ℕ) {r : ReadContents} {k : Lent} → contained r ≡ contents (read bs) → Lends r k → (buffer : List ℕ)
+    → write_call_of k buffer ≡ call_of (contained r) buffer
+lent_call bs {k = k} e l buffer =
+    let h = lends_read bs e l in
+    let again : write_call_of k buffer ≡ call_of (contents (read bs)) buffer =
+    rw (h.modulus, h.first, h.second, h.skeleton, h.points, take_padded, take_padded, take_padded, take_padded) refl in
+    again ∙ ap (λ (c : Contents). call_of c buffer) (sym e)
 
 -- a case that can be stored, handed back and written again, gives its file
 written_again : (c : Case) (n : ℕ) → Storable today c → (r : Contents) → r ≡ contents (whole c n) → (buffer : List ℕ)

@@ -2,9 +2,8 @@
 -- refusal names no list.
 use Rattle.std.specs.Prelude.{ℕ, ◌≡◌, List}
 use Rattle.field.specs.Numbers.{LIST_NONE}
-use Rattle.case_file.specs.declared.Counts.{Counts as CaseCounts}
 use Rattle.case_file.specs.Reading.{read}
-use Rattle.case_file.specs.Handed.{fault, Gives}
+use Rattle.case_file.specs.Handed.{Counts as CaseCounts, fault, Gives}
 use Rattle.case_file.specs.Reader.AnotherList.{read_names_none}
 use Rattle.divisor.specs.Candidate.{candidate_call, most_steps, Result, Candidate}
 use Rattle.divisor.specs.Answer.CandidateDetermined.{candidate_determined}

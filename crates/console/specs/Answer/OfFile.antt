@@ -1,10 +1,9 @@
 -- What is found of a file: a refusal and an answer meet the promise, and two results that meet it are equal if two answers of the service are.
 use Rattle.std.specs.Prelude.{ℕ, ◌≡◌, refl, List, get_or, take}
 use Rattle.field.specs.declared.faults.Fault.{Fault}
-use Rattle.case_file.specs.declared.Counts.{Counts as CaseCounts}
 use Rattle.case_file.specs.Format.{modulus_kind, first_kind, second_kind, skeleton_kind, point_kind}
 use Rattle.case_file.specs.Reading.{Reading, read}
-use Rattle.case_file.specs.Handed.{list, Gives}
+use Rattle.case_file.specs.Handed.{Counts as CaseCounts, list, Gives}
 use Rattle.console.specs.Counts.{IsPrefixLen}
 use Rattle.console.specs.Input.Lists.{lists_read}
 use Rattle.console.specs.OfFile.{OfFile, refused, asked, Answered}

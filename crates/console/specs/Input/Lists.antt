@@ -2,8 +2,7 @@
 use Rattle.std.specs.Prelude.{ℕ, List}
 use Rattle.case_file.specs.Format.{first_kind, second_kind, skeleton_kind, point_kind}
 use Rattle.case_file.specs.Reading.{Reading}
-use Rattle.case_file.specs.Handed.{Gives, list}
-use Rattle.case_file.specs.declared.Counts.{Counts}
+use Rattle.case_file.specs.Handed.{Counts, Gives, list}
 use Rattle.console.specs.Input.First.{First, padded_first}
 
 pub record Lists (o : Reading) (r : Counts) (first second skeleton points : List ℕ) : Type 0 where

@@ -3,9 +3,8 @@
 use Rattle.std.specs.Prelude.{Bool, true, false, ◌&&◌, ◌||◌, List, [], ◌∷◌, ◌++◌, ℕ, eqb}
 use Rattle.field.specs.Lent.{written}
 use Rattle.field.specs.Refusal.{after_fault}
-use Rattle.case_file.specs.declared.Contents.{Contents}
 use Rattle.case_file.specs.Reading.{read}
-use Rattle.case_file.specs.Handed.{contents}
+use Rattle.case_file.specs.Handed.{Contents, contents}
 use Rattle.case_file.specs.WriteCall.{WriteResult}
 use Rattle.cancel.specs.declared.CancelRecord.{CancelRecord}
 use Rattle.proved_table.specs.Row.{CancelRow, WriteRow}

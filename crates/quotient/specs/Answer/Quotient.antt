@@ -1,8 +1,7 @@
 -- A reader's refusal, and the quotient service's answer to what was read, meet the promise of a call on a file; two results that meet it are equal.
 use Rattle.std.specs.Prelude.{ℕ, ◌≡◌, List}
-use Rattle.case_file.specs.declared.Counts.{Counts as CaseCounts}
 use Rattle.case_file.specs.Reading.{read}
-use Rattle.case_file.specs.Handed.{Gives}
+use Rattle.case_file.specs.Handed.{Counts as CaseCounts, Gives}
 use Rattle.poly.specs.QuotientCall.{quotient_call, QuotientResult, Quotient}
 use Rattle.poly.specs.Quotient.Laws.{quotient_determined}
 use Rattle.console.specs.Answer.OfFile.{Meets, meets, of_file_determined}

@@ -4,6 +4,7 @@ use Rattle.case_file.specs.Format.{today}
 use Rattle.case_file.specs.Record.Tests.{fails_known, fails_order, fails_whole, fails_limit, passes}
 use Rattle.std.specs.Prelude.{Result, Ok, Err, IsErr, IsErrAnd, ℕ, ◌≡◌}
 use Rattle.case_file.specs.declared.record.Kind.{Kind}
+use Rattle.case_file.specs.Handed.{counted}
 use Rattle.case_file.specs.Record.Room.{held as held_of}
 use Rattle.case_file.specs.Record.Kinds.{kind_known, standing, Tests}
 use Rattle.case_file.proofs.record.tested.Goals as goal
@@ -38,6 +39,6 @@ returns c = (
 pub returns-in_err-kind : goal.returns-in_err-kind
 returns-in_err-kind c = let h = c.from_residual.ensures in go c.from_residual.result h.0 h.1
   where
-    go : (r : Result Kind ℕ) → IsErr r → IsErrAnd r (λ e. e ≡ c.in_err-kind.field-0.0) → Tests (standing c.args.before) c.args.byte (held_of c.args.counts c.args.byte) c.args.left r
+    go : (r : Result Kind ℕ) → IsErr r → IsErrAnd r (λ e. e ≡ c.in_err-kind.field-0.0) → Tests (standing c.args.before) c.args.byte (held_of (counted c.args.counts) c.args.byte) c.args.left r
     go (Ok k) a b = absurd (true≢false (sym a))
     go (Err e) a b = rw b (rw c.in_err-kind.ensures.0 (fails_known today _ _ _ _ c.in_err-kind.ensures.1), λ z. omega (arith, c.in_err-kind.ensures.0))

@@ -1,19 +1,14 @@
 -- `write` refuses by its check, or writes the file into a buffer that the check found long enough.
-use Rattle.case_file.specs.WriteCall.{WriteCall, write_call}
+use Rattle.field.specs.Faults.Laws.{exit_err}
 use Rattle.case_file.specs.Writer.Check.{write_refused, write_room, write_done}
 use Rattle.case_file.proofs.writer.write.Goals as goal
 
-pub returns-then-fault-ne0 : goal.returns-then-fault-ne0
-returns-then-fault-ne0 c =
-    let z : WriteCall = write_call c.args.modulus c.args.first.now c.args.second.now c.args.skeleton.now c.args.points.now c.args.buffer.now in
-    write_refused z c.write_fault-fault.ensures c.if-fault-ne0.true
+pub returns-in_err-check_lengths : goal.returns-in_err-check_lengths
+returns-in_err-check_lengths c =
+    write_refused c.args.case.now c.args.buffer.now _ c.in_err-check_lengths.ensures (exit_err _ c.from_residual.ensures.1)
 
-pub write_case-length-requires : goal.write_case-length-requires
-write_case-length-requires c =
-    let z : WriteCall = write_call c.args.modulus c.args.first.now c.args.second.now c.args.skeleton.now c.args.points.now c.args.buffer.now in
-    write_room z c.write_fault-fault.ensures c.if-fault-ne0.false
+pub write_case-requires : goal.write_case-requires
+write_case-requires c = write_room c.args.case.now c.args.buffer.now c.in_ok-check_lengths.ensures
 
 pub returns : goal.returns
-returns c =
-    let z : WriteCall = write_call c.args.modulus c.args.first.now c.args.second.now c.args.skeleton.now c.args.points.now c.args.buffer.now in
-    write_done z c.write_fault-fault.ensures c.if-fault-ne0.false c.write_case-length.ensures
+returns c = write_done c.args.case.now c.args.buffer.now c.in_ok-check_lengths.ensures c.write_case.ensures

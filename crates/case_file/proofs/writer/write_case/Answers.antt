@@ -3,7 +3,7 @@ use Rattle.std.proofs.Common.{refl, ℕ, List, [], ◌∷◌, arith}
 use Rattle.field.specs.Loops.Putting.{Puts, Putting, putting_start, putting_next, putting_room, putting_end}
 use Rattle.case_file.specs.Format.{modulus_kind, end_kind, kind_of}
 use Rattle.case_file.specs.Written.{bytes}
-use Rattle.case_file.specs.WriteCall.{WriteCall, write_call, file}
+use Rattle.case_file.specs.WriteCall.{WriteCall, write_call_of, file}
 use Rattle.case_file.specs.Writer.Turns.{first_part, second_part, skeleton_part, points_part, file_parts}
 use Rattle.case_file.specs.Writer.Turns.{from_first, from_second, from_skeleton, from_points}
 use Rattle.case_file.proofs.writer.write_case.Goals as goal
@@ -34,33 +34,33 @@ module _ (z : WriteCall) {k : ℕ} {a : List ℕ} (m : Puts (modulus_kind ∷ by
 pub write_record-after_modulus-requires : goal.write_record-after_modulus-requires
 unfolding bytes
 write_record-after_modulus-requires c =
-    let z : WriteCall = write_call c.args.modulus c.args.first.now c.args.second.now c.args.skeleton.now c.args.points.now c.args.buffer.now in
+    let z : WriteCall = write_call_of c.args.case.now c.args.buffer.now in
     putting_room {n = 0} {before = z.buffer} putting_start (modulus_kind ∷ bytes 2 z.modulus) (from_first z) (file_parts z) (omega (arith, c.requires))
 
 pub write_numbers-after_first-requires : goal.write_numbers-after_first-requires
 unfolding kind_of
 write_numbers-after_first-requires c =
-    let z : WriteCall = write_call c.args.modulus c.args.first.now c.args.second.now c.args.skeleton.now c.args.points.now c.args.buffer.now in
+    let z : WriteCall = write_call_of c.args.case.now c.args.buffer.now in
     let p = put_modulus z c.write_record-after_modulus.ensures in
     record { of_width = refl; room = putting_room p (first_part z) (from_second z) refl (omega (arith, c.requires)) }
 
 pub write_numbers-after_second-requires : goal.write_numbers-after_second-requires
 unfolding kind_of
 write_numbers-after_second-requires c =
-    let z : WriteCall = write_call c.args.modulus c.args.first.now c.args.second.now c.args.skeleton.now c.args.points.now c.args.buffer.now in
+    let z : WriteCall = write_call_of c.args.case.now c.args.buffer.now in
     let p = put_first z c.write_record-after_modulus.ensures c.write_numbers-after_first.ensures in
     record { of_width = refl; room = putting_room p (second_part z) (from_skeleton z) refl (omega (arith, c.requires)) }
 
 pub write_numbers-after_skeleton-requires : goal.write_numbers-after_skeleton-requires
 unfolding kind_of
 write_numbers-after_skeleton-requires c =
-    let z : WriteCall = write_call c.args.modulus c.args.first.now c.args.second.now c.args.skeleton.now c.args.points.now c.args.buffer.now in
+    let z : WriteCall = write_call_of c.args.case.now c.args.buffer.now in
     let p = put_second z c.write_record-after_modulus.ensures c.write_numbers-after_first.ensures c.write_numbers-after_second.ensures in
     record { of_width = refl; room = putting_room p (skeleton_part z) (from_points z) refl (omega (arith, c.requires)) }
 
 pub write_points-end-requires : goal.write_points-end-requires
 write_points-end-requires c =
-    let z : WriteCall = write_call c.args.modulus c.args.first.now c.args.second.now c.args.skeleton.now c.args.points.now c.args.buffer.now in
+    let z : WriteCall = write_call_of c.args.case.now c.args.buffer.now in
     let p =
     put_skeleton z c.write_record-after_modulus.ensures c.write_numbers-after_first.ensures c.write_numbers-after_second.ensures
     c.write_numbers-after_skeleton.ensures
@@ -69,7 +69,7 @@ write_points-end-requires c =
 
 pub put-requires : goal.put-requires
 put-requires c =
-    let z : WriteCall = write_call c.args.modulus c.args.first.now c.args.second.now c.args.skeleton.now c.args.points.now c.args.buffer.now in
+    let z : WriteCall = write_call_of c.args.case.now c.args.buffer.now in
     let p =
     put_points z c.write_record-after_modulus.ensures c.write_numbers-after_first.ensures c.write_numbers-after_second.ensures
     c.write_numbers-after_skeleton.ensures c.write_points-end.ensures
@@ -78,7 +78,7 @@ put-requires c =
 
 pub returns : goal.returns
 returns c =
-    let z : WriteCall = write_call c.args.modulus c.args.first.now c.args.second.now c.args.skeleton.now c.args.points.now c.args.buffer.now in
+    let z : WriteCall = write_call_of c.args.case.now c.args.buffer.now in
     let p =
     put_points z c.write_record-after_modulus.ensures c.write_numbers-after_first.ensures c.write_numbers-after_second.ensures
     c.write_numbers-after_skeleton.ensures c.write_points-end.ensures
