@@ -293,15 +293,19 @@ pub extern "C" fn balungkiro_read(
           points = points.new;
         }) }
 {
-    let counts = case_file::read_into(bytes, first, second, skeleton, points);
-    let rest = [
-        counts.modulus as usize,
-        counts.first,
-        counts.second,
-        counts.skeleton,
-        counts.points,
-    ];
-    lay(counts.fault, &rest, numbers);
+    match case_file::read_into(bytes, first, second, skeleton, points) {
+        Ok(counts) => {
+            let rest = [
+                counts.modulus as usize,
+                counts.first,
+                counts.second,
+                counts.skeleton,
+                counts.points,
+            ];
+            lay(Fault::none(), &rest, numbers);
+        }
+        Err(refused) => lay(refused, &[0; 5], numbers),
+    }
 }
 
 // Numbers: number, list, place, length.
@@ -318,6 +322,15 @@ pub extern "C" fn balungkiro_write(
     ensures { Laid of_write (Write (write_call modulus first.now second.now skeleton.now
         points.now buffer.old)) (record { numbers = numbers.new; buffer = buffer.new }) }
 {
-    let wrote = case_file::write(modulus, first, second, skeleton, points, buffer);
-    lay(wrote.fault, &[wrote.length], numbers);
+    let case = Case {
+        modulus,
+        first,
+        second,
+        skeleton,
+        points,
+    };
+    match case_file::write(&case, buffer) {
+        Ok(length) => lay(Fault::none(), &[length], numbers),
+        Err(unwritten) => lay(unwritten, &[0], numbers),
+    }
 }

@@ -2,5 +2,8 @@
 use Rattle.handheld.specs.Layout.{laid}
 use Rattle.handheld.proofs.balungkiro_write.Goals as goal
 
-pub returns : goal.returns
-returns c = rw c.lay.ensures (laid _ c.write-wrote.ensures)
+pub returns-in-Ok : goal.returns-in-Ok
+returns-in-Ok c = rw (c.lay.ensures, c.none.ensures) (laid _ c.in-Ok.ensures)
+
+pub returns-in-Err : goal.returns-in-Err
+returns-in-Err c = rw c.lay-in-Err.ensures (laid _ c.in-Err.ensures.1)

@@ -1,5 +1,5 @@
 -- `lay` meets its contract: the three numbers of the fault are put first, and the rest behind them, up to the end.
-use Rattle.std.proofs.Common.{◌≡◌, ap, ◌∙◌, List, ℕ, ◌∷◌, ◌++◌, [], ◌-◌, length, drop, arith, append-nil}
+use Rattle.std.proofs.Common.{◌≡◌, ap, ◌∙◌, List, ℕ, ◌∷◌, ◌++◌, ◌-◌, length, drop, arith, append-nil}
 use Rattle.std.proofs.Math.ListN.{drop_of_length-le}
 use borrow.Rule.Slice.PartMut.{put_mid}
 use Rattle.handheld.proofs.lay.Goals as goal
