@@ -12,29 +12,10 @@ use std::io;
 pub fn candidate_of(bytes: &[u8], out: &mut [Term], work: &mut [Residue]) -> CandidateRecord
     ensures { CandidateAnswered out.old work.old bytes.now (candidate_result result out.new work.new) }
 {
-    let mut first = [0; field::MOST_TERMS];
-    let mut second = [0; field::MOST_TERMS];
-    let mut skeleton = [0; field::MOST_KEYS];
-    let mut points = [0; field::MOST_POINT_NUMBERS];
-    let counts = case_file::read_into(bytes, &mut first, &mut second, &mut skeleton, &mut points);
-    let fault = counts.fault;
-    if fault.number != 0 {
-        return CandidateRecord::refused(fault);
+    match case_file::read(bytes) {
+        Ok(contents) => divisor::candidate(&contents.case(), MOST_STEPS, out, work),
+        Err(fault) => CandidateRecord::refused(fault),
     }
-    let a = counts.first;
-    let b = counts.second;
-    let keys = counts.skeleton;
-    let numbers = counts.points;
-    divisor::candidate(
-        counts.modulus,
-        &first[..a],
-        &second[..b],
-        &skeleton[..keys],
-        &points[..numbers],
-        MOST_STEPS,
-        out,
-        work,
-    )
 }
 
 // Prints what is found: the first line, and a line for each term.

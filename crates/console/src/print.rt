@@ -4,7 +4,7 @@ ghost use Rattle.console.specs.Printed.{spaced};
 
 use divisor::CandidateRecord;
 use field::{Fault, Term};
-use poly::ImageRecord;
+use poly::MonicImage;
 use poly::key::Key;
 use std::{fmt, io};
 
@@ -74,14 +74,14 @@ pub fn candidate(rt: &impl Print, r: CandidateRecord) -> io::Result<()> {
     )
 }
 
-// Number, place, degree, and the eight coefficients.
-fn coefficients(rt: &impl Print, r: ImageRecord) -> io::Result<()> {
+// Number and place, both 0, degree, and the eight coefficients.
+fn coefficients(rt: &impl Print, r: MonicImage) -> io::Result<()> {
     let u = r.coefficients;
     line(
         rt,
         &[
-            r.fault.number as usize,
-            r.fault.place,
+            0,
+            0,
             r.degree,
             u[0] as usize,
             u[1] as usize,
@@ -96,10 +96,9 @@ fn coefficients(rt: &impl Print, r: ImageRecord) -> io::Result<()> {
 }
 
 // An image, or a refusal as number and place.
-pub fn image(rt: &impl Print, r: ImageRecord) -> io::Result<()> {
-    let refused = r.fault;
-    if refused.number != 0 {
-        return fault(rt, refused);
+pub fn image(rt: &impl Print, found: Result<MonicImage, Fault>) -> io::Result<()> {
+    match found {
+        Ok(seen) => coefficients(rt, seen),
+        Err(refused) => fault(rt, refused),
     }
-    coefficients(rt, r)
 }

@@ -1,11 +1,14 @@
 -- What is found of a file: a refusal and an answer meet the promise, and two results that meet it are equal if two answers of the service are.
-use Rattle.std.specs.Prelude.{ℕ, ◌≡◌, refl, List, get_or, take}
+use Rattle.std.specs.Prelude.{ℕ, ◌≡◌, ◌<◌, refl, List, get_or}
+use Rattle.std.proofs.Common.{sym, ap, arith}
+use Rattle.field.specs.declared.case.Case.{Case}
 use Rattle.field.specs.declared.faults.Fault.{Fault}
 use Rattle.case_file.specs.Format.{modulus_kind, first_kind, second_kind, skeleton_kind, point_kind}
 use Rattle.case_file.specs.Reading.{Reading, read}
-use Rattle.case_file.specs.Handed.{Counts as CaseCounts, list, Gives}
+use Rattle.case_file.specs.declared.Contents.{Contents as ReadContents}
+use Rattle.case_file.specs.Handed.{Contents, list, fault, contents, contained, refused_contents, Lends}
+use Rattle.case_file.specs.Reader.Lent.{lends_read}
 use Rattle.console.specs.Counts.{IsPrefixLen}
-use Rattle.console.specs.Input.Lists.{lists_read}
 use Rattle.console.specs.OfFile.{OfFile, refused, asked, Answered}
 
 -- a service that is asked of a modulus and four lists
@@ -16,27 +19,27 @@ module _ {Found : Type 0} (unread : Fault → Found) (Asked : (p : ℕ) (first s
       Answered unread (λ (o : Reading). Asked (get_or (list o modulus_kind) 0 0) (list o first_kind) (list o second_kind) (list o skeleton_kind)
       (list o point_kind)) terms output bytes
 
-  -- the promise is met by the reader's refusal, and by the service's answer to the lists that stand first in the reader's arrays
-  pub record Meets (counts : CaseCounts) (first second skeleton points : List ℕ) : Type 0 where
-    pub by_refusal : ¬ (counts.fault.number ≡ 0) → Promise (unread counts.fault)
-    pub by_answer : counts.fault.number ≡ 0 → (r : Found) → Asked counts.modulus (take counts.first first) (take counts.second second)
-        (take counts.skeleton skeleton) (take counts.points points) r → Promise r
+  -- The promise is met by the reader's refusal, and by the service's answer to the case that was read, where the terms stand first in the output of each
+  -- refusal and of each answer.
+  module _ (none_first : (f : Fault) → IsPrefixLen (terms (unread f)) (output (unread f)))
+      (some_first : (p : ℕ) (first second skeleton points : List ℕ) (r : Found) → Asked p first second skeleton points r
+      → IsPrefixLen (terms r) (output r)) where
+    pub by_refusal : (f : Fault) → 0 < f.number → refused_contents f ≡ contents (read bytes) → Promise (unread f)
+    by_refusal f l e =
+        let is : f ≡ fault (read bytes) = ap (λ (c : Contents). c.fault) e in
+        record {
+          is = rw is (refused (λ z. omega (arith, l, ap (λ (g : Fault). g.number) is)));
+          terms_first = none_first f;
+        }
 
-  -- where the terms stand first in the output of each refusal and of each answer
-  pub meets : ((f : Fault) → IsPrefixLen (terms (unread f)) (output (unread f)))
-      → ((p : ℕ) (first second skeleton points : List ℕ) (r : Found) → Asked p first second skeleton points r → IsPrefixLen (terms r) (output r))
-      → {counts : CaseCounts} {first second skeleton points : List ℕ} → Gives (read bytes) counts first second skeleton points
-      → Meets counts first second skeleton points
-  meets none_first some_first g =
-      let l = lists_read g in
-      record {
-        by_refusal = λ n. record { is = rw g.record_is (refused (rw g.record_is at n)); terms_first = none_first _ };
-        by_answer = λ z r a. record {
-          is = asked (rw g.record_is at z) r
-              (rw (l.first_list.is, l.second_list.is, l.skeleton_list.is, l.point_list.is, g.record_is) at a);
+    pub by_answer : {c : ReadContents} {k : Case} → contained c ≡ contents (read bytes) → Lends c k
+        → (r : Found) → Asked k.modulus k.first.now k.second.now k.skeleton.now k.points.now r → Promise r
+    by_answer e l r a =
+        let q = lends_read bytes e l in
+        record {
+          is = asked (sym (ap (λ (c : Contents). c.fault.number) e)) r (rw (q.modulus, q.first, q.second, q.skeleton, q.points) at a);
           terms_first = some_first _ _ _ _ _ r a;
-        };
-      }
+        }
 
 module _ {Found : Type 0} (unread : Fault → Found) (Answer : Reading → Found → Type 0) (bytes : List ℕ) where
   pub of_file_determined : ((o : Reading) (r q : Found) → Answer o r → Answer o q → r ≡ q)
