@@ -27,11 +27,11 @@ read_into_determined bs = gives_determined (read bs)
 pub read_determined : (bs : List ℕ) (r r' : Contents) → r ≡ contents (read bs) → r' ≡ contents (read bs) → r ≡ r'
 read_determined bs r r' e e' = e ∙ sym e'
 
--- where nothing is told but a fault, the contents are those of a refusal
 no_numbers : (l : List ℕ) → 0 ≡ length l → [] ≡ l
 no_numbers [] e = refl
 no_numbers (n ∷ l) e = absurd (omega arith)
 
+-- where nothing is told but a fault, the contents are those of a refusal
 pub refused_is : (o : Reading) {x : Fault} {f s k p : List ℕ} → Gives o (refused_counts x) f s k p → refused_contents x ≡ contents o
 refused_is o g =
     let e = g.record_is in
