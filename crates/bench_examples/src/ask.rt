@@ -1,18 +1,14 @@
 // Asking a service and printing its answer behind a label.
-ghost use Rattle.poly.specs.declared.QuotientRecord.{QuotientRecord};
-ghost use Rattle.poly.specs.QuotientCall.{quotient_call, quotient_result, Quotient};
+ghost use Rattle.poly.specs.QuotientCall.{QuotientRecord, quotient_call, quotient_result, Quotient};
 ghost use Rattle.divisor.specs.declared.CandidateRecord.{CandidateRecord};
-ghost use Rattle.divisor.specs.Candidate.{candidate_call, candidate_result, Candidate};
+ghost use Rattle.divisor.specs.Candidate.{call_of, candidate_result, Candidate};
 
 use crate::lists::MODULUS;
 use console::print;
 use divisor::MOST_STEPS;
-use field::{Answer, KeyBits, Residue, Term};
+use field::{Case, Element, Fault, KeyBits, MOST_KEYS, Residue, Term};
 use poly::rooms::WORK_ROOM;
 use std::io;
-
-// The most keys of a skeleton.
-const SKELETON: usize = 32;
 
 fn print_label(rt: &impl Print, label: &str) -> io::Result<()> {
     print!(rt; "{label}: ")
@@ -25,55 +21,51 @@ fn print_found(rt: &impl Print, label: &str, numbers: &[usize], terms: &[Term]) 
     print::terms(rt, terms)
 }
 
-// The candidate with the programs' ceiling.
+// The candidate of a row, with the programs' ceiling.
 pub(crate) fn candidate(
     rt: &impl Print,
     label: &str,
-    p: Residue,
+    modulus: Residue,
     first: &[Term],
     second: &[Term],
     skeleton: &[KeyBits],
     points: &[Residue],
 ) -> io::Result<()> {
-    candidate_under(rt, label, p, first, second, skeleton, points, MOST_STEPS)
+    let case = Case {
+        modulus,
+        first,
+        second,
+        skeleton,
+        points,
+    };
+    candidate_under(rt, label, &case, MOST_STEPS)
 }
 
 // The candidate in rooms that are long enough.
 pub(crate) fn candidate_under(
     rt: &impl Print,
     label: &str,
-    p: Residue,
-    first: &[Term],
-    second: &[Term],
-    skeleton: &[KeyBits],
-    points: &[Residue],
+    case: &Case<'_>,
     ceiling: usize,
 ) -> io::Result<()> {
-    let mut out = [0; SKELETON];
+    let mut out = [0; MOST_KEYS];
     let mut work = [0; WORK_ROOM];
-    candidate_in(
-        rt, label, p, first, second, skeleton, points, ceiling, &mut out, &mut work,
-    )
+    candidate_in(rt, label, case, ceiling, &mut out, &mut work)
 }
 
 // The candidate in rooms of the caller's, which are left as the service leaves them.
 pub(crate) fn candidate_in(
     rt: &impl Print,
     label: &str,
-    p: Residue,
-    first: &[Term],
-    second: &[Term],
-    skeleton: &[KeyBits],
-    points: &[Residue],
+    case: &Case<'_>,
     ceiling: usize,
     out: &mut [Term],
     work: &mut [Residue],
 ) -> io::Result<()>
-    ensures { (found : CandidateRecord) × Candidate (candidate_call p first.now second.now skeleton.now
-        points.now ceiling out.old work.old)
+    ensures { (found : CandidateRecord) × Candidate (call_of case.now ceiling out.old work.old)
         (candidate_result found out.new work.new) }
 {
-    let found = divisor::candidate(p, first, second, skeleton, points, ceiling, out, work);
+    let found = divisor::candidate(case, ceiling, out, work);
     let number = found.fault.number as usize;
     let list = found.fault.list as usize;
     let terms = found.terms;
@@ -91,6 +83,14 @@ pub(crate) fn candidate_in(
     print_found(rt, label, &numbers, &out[..terms])
 }
 
+// Number, list and place of what is refused, or zeros; and how many terms there are, 0 on refusal.
+fn told(found: Result<usize, Fault>) -> [usize; 4] {
+    match found {
+        Ok(terms) => [0, 0, 0, terms],
+        Err(fault) => [fault.number as usize, fault.list as usize, fault.place, 0],
+    }
+}
+
 // The quotient, in rooms that are left as the service leaves them.
 pub(crate) fn quotient(
     rt: &impl Print,
@@ -104,11 +104,8 @@ pub(crate) fn quotient(
         work.old) (quotient_result found out.new work.new) }
 {
     let found = poly::quotient::quotient(MODULUS, first, second, out, work);
-    let number = found.fault.number as usize;
-    let list = found.fault.list as usize;
-    let terms = found.terms;
-    let numbers = [number, list, found.fault.place, terms];
-    print_found(rt, label, &numbers, &out[..terms])
+    let terms = found.unwrap_or(0);
+    print_found(rt, label, &told(found), &out[..terms])
 }
 
 pub(crate) fn image(
@@ -122,27 +119,39 @@ pub(crate) fn image(
     print::image(rt, poly::image::image(MODULUS, first, second, point))
 }
 
-// Number, list, place, modulus, value.
-pub(crate) fn arithmetic(rt: &impl Print, label: &str, found: Answer) -> io::Result<()> {
-    let fault = found.fault;
-    let element = found.element;
+// Number, list, place, modulus, value; on refusal the first operand's modulus, and 0.
+pub(crate) fn arithmetic(
+    rt: &impl Print,
+    label: &str,
+    modulus: Residue,
+    found: Result<Element, Fault>,
+) -> io::Result<()> {
     print_label(rt, label)?;
-    print::line(
-        rt,
-        &[
-            fault.number as usize,
-            fault.list as usize,
-            fault.place,
-            element.modulus as usize,
-            element.value as usize,
-        ],
-    )
+    match found {
+        Ok(outcome) => {
+            let rest = [outcome.modulus as usize, outcome.value as usize];
+            print::line(rt, &[0, 0, 0, rest[0], rest[1]])
+        }
+        Err(fault) => {
+            let number = fault.number as usize;
+            let list = fault.list as usize;
+            print::line(rt, &[number, list, fault.place, modulus as usize, 0])
+        }
+    }
+}
+
+// Number and place of what a check refuses, or zeros.
+fn print_check(rt: &impl Print, checked: Result<(), Fault>) -> io::Result<()> {
+    match checked {
+        Ok(()) => print::fault(rt, Fault::none()),
+        Err(fault) => print::fault(rt, fault),
+    }
 }
 
 // What the list check says, and the terms of the leading part.
 pub(crate) fn leading_part(rt: &impl Print, label: &str, terms: &[Term]) -> io::Result<()> {
     print_label(rt, label)?;
-    print::fault(rt, poly::list::check_list(terms))?;
+    print_check(rt, poly::list::check_list(terms))?;
     print::terms(rt, poly::list::leading_part(terms))
 }
 
@@ -154,6 +163,6 @@ pub(crate) fn shorter_part<'a>(
     second: &'a [Term],
 ) -> io::Result<()> {
     print_label(rt, label)?;
-    print::fault(rt, poly::list::check_lists(first, second))?;
+    print_check(rt, poly::list::check_lists(first, second))?;
     print::terms(rt, poly::list::shorter_part(first, second))
 }

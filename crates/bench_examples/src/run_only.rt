@@ -8,7 +8,7 @@ use crate::lists::{
 };
 use crate::{ask, lists};
 use divisor::MOST_STEPS;
-use field::{KeyBits, Residue, Term};
+use field::{Case, KeyBits, Residue, Term};
 use std::io;
 
 fn with_first(rt: &impl Print, label: &str, first: &[Term]) -> io::Result<()> {
@@ -42,10 +42,14 @@ fn with_rooms(
         (0 ∷ 0 ∷ 0 ∷ []) most_steps out.old work.old)
         (candidate_result found out.new work.new) }
 {
-    let origin = [0, 0, 0];
-    ask::candidate_in(
-        rt, label, MODULUS, &P1_FIRST, &P1_SECOND, &X_1, &origin, MOST_STEPS, out, work,
-    )
+    let case = Case {
+        modulus: MODULUS,
+        first: &P1_FIRST,
+        second: &P1_SECOND,
+        skeleton: &X_1,
+        points: &[0, 0, 0],
+    };
+    ask::candidate_in(rt, label, &case, MOST_STEPS, out, work)
 }
 
 pub(crate) fn lists(rt: &impl Print) -> io::Result<()> {
@@ -121,33 +125,36 @@ pub(crate) fn skeletons_and_points(rt: &impl Print) -> io::Result<()> {
 
 // P10, whose divisions take three steps each.
 fn with_ceiling(rt: &impl Print, label: &str, ceiling: usize) -> io::Result<()> {
-    ask::candidate_under(
-        rt,
-        label,
-        MODULUS,
-        &F,
-        &H,
-        &X3Y_X3_Y,
-        &[1, 0, 0, 0, 0, 0, 5, 0, 0, 2, 0, 0],
-        ceiling,
-    )
+    let case = Case {
+        modulus: MODULUS,
+        first: &F,
+        second: &H,
+        skeleton: &X3Y_X3_Y,
+        points: &[1, 0, 0, 0, 0, 0, 5, 0, 0, 2, 0, 0],
+    };
+    ask::candidate_under(rt, label, &case, ceiling)
 }
 
 // P10 at its steps and with one less; and P4 and P11, of which the one has a step to take and the other has none, with no step allowed.
 pub(crate) fn ceilings(rt: &impl Print) -> io::Result<()> {
     with_ceiling(rt, "P10, ceiling 6", 6)?;
     with_ceiling(rt, "P10, ceiling 5", 5)?;
-    ask::candidate_under(
-        rt,
-        "P4, ceiling 0",
-        MODULUS,
-        &P4_FIRST,
-        &P4_SECOND,
-        &ONLY_X,
-        &[0, 0, 0],
-        0,
-    )?;
-    ask::candidate_under(rt, "P11, ceiling 0", 7, &P11, &P11, &X_Y7, &[1, 0, 0], 0)
+    let p4 = Case {
+        modulus: MODULUS,
+        first: &P4_FIRST,
+        second: &P4_SECOND,
+        skeleton: &ONLY_X,
+        points: &[0, 0, 0],
+    };
+    ask::candidate_under(rt, "P4, ceiling 0", &p4, 0)?;
+    let p11 = Case {
+        modulus: 7,
+        first: &P11,
+        second: &P11,
+        skeleton: &X_Y7,
+        points: &[1, 0, 0],
+    };
+    ask::candidate_under(rt, "P11, ceiling 0", &p11, 0)
 }
 
 pub(crate) fn rooms(rt: &impl Print) -> io::Result<()> {

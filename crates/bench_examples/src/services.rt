@@ -17,20 +17,30 @@ pub(crate) fn arithmetic(rt: &impl Print) -> io::Result<()> {
     let three = element(MODULUS, 3);
     let five = element(MODULUS, 5);
     let sixteen = element(MODULUS, 16);
-    ask::arithmetic(rt, "5 + 16", field::ask_sum(five, sixteen))?;
-    ask::arithmetic(rt, "5 - 16", field::ask_difference(five, sixteen))?;
-    ask::arithmetic(rt, "16 * 16", field::ask_product(sixteen, sixteen))?;
-    ask::arithmetic(rt, "1 / 3", field::ask_inverse(three))
+    ask::arithmetic(rt, "5 + 16", MODULUS, field::ask_sum(five, sixteen))?;
+    ask::arithmetic(rt, "5 - 16", MODULUS, field::ask_difference(five, sixteen))?;
+    ask::arithmetic(rt, "16 * 16", MODULUS, field::ask_product(sixteen, sixteen))?;
+    ask::arithmetic(rt, "1 / 3", MODULUS, field::ask_inverse(three))
 }
 
 pub(crate) fn arithmetic_refused(rt: &impl Print) -> io::Result<()> {
     let five = element(MODULUS, 5);
     let large = element(MODULUS, 17);
-    ask::arithmetic(rt, "modulus 15", field::ask_sum(element(15, 5), five))?;
-    ask::arithmetic(rt, "17 + 5", field::ask_sum(large, five))?;
-    ask::arithmetic(rt, "5 + 17", field::ask_sum(five, large))?;
-    ask::arithmetic(rt, "two moduli", field::ask_sum(five, element(13, 5)))?;
-    ask::arithmetic(rt, "1 / 0", field::ask_inverse(element(MODULUS, 0)))
+    ask::arithmetic(rt, "modulus 15", 15, field::ask_sum(element(15, 5), five))?;
+    ask::arithmetic(rt, "17 + 5", MODULUS, field::ask_sum(large, five))?;
+    ask::arithmetic(rt, "5 + 17", MODULUS, field::ask_sum(five, large))?;
+    ask::arithmetic(
+        rt,
+        "two moduli",
+        MODULUS,
+        field::ask_sum(five, element(13, 5)),
+    )?;
+    ask::arithmetic(
+        rt,
+        "1 / 0",
+        MODULUS,
+        field::ask_inverse(element(MODULUS, 0)),
+    )
 }
 
 pub(crate) fn leading_parts(rt: &impl Print) -> io::Result<()> {

@@ -195,6 +195,12 @@ pub stands_told : {A B : Type 0} (of_fault : Fault → B) (of_value : A → B) (
 stands_told of_fault of_value Promise (Ok value) h = h
 stands_told of_fault of_value Promise (Err f) h = h.1
 
+-- a promise from which another follows
+pub stands_weaker : {A B : Type 0} (of_fault : Fault → B) (of_value : A → B) (Promise Weaker : B → Type 0) → ((b : B) → Promise b → Weaker b)
+    → (r : Result A Fault) → StandsFor of_fault of_value Promise r → StandsFor of_fault of_value Weaker r
+stands_weaker of_fault of_value Promise Weaker go (Ok value) h = go (of_value value) h
+stands_weaker of_fault of_value Promise Weaker go (Err f) h = (h.0, go (of_fault f) h.1)
+
 -- where no fault with a number is told like a value, and a fault and a value are known by what is told of them, a promise that settles what is told settles the `Result`
 pub stands_determined : {A B : Type 0} (of_fault : Fault → B) (of_value : A → B) (Promise : B → Type 0)
     → ((f g : Fault) → of_fault f ≡ of_fault g → f ≡ g) → ((x y : A) → of_value x ≡ of_value y → x ≡ y)
