@@ -5,9 +5,9 @@ use Rattle.std.proofs.lemmas.Bool.{false≢true, eqb-false}
 use Rattle.std.specs.Borrow.{Bor}
 use Rattle.field.specs.Refusal.{Tested}
 use Rattle.field.specs.declared.faults.Fault.{Fault}
-use Rattle.field.specs.Faults.Laws.{tested_refuses}
+use Rattle.field.specs.Faults.Laws.{tested_passes, tested_refuses}
 use Rattle.field.specs.Faults.Decision.{decided, decided_tested}
-use Rattle.poly.specs.declared.Picked.{Picked}
+use Rattle.poly.specs.ShorterPart.{Head}
 use Rattle.poly.specs.LeadingPart.{x_of}
 use Rattle.poly.specs.ShorterPart.{of_two_lists, Shorter, refused, of_first, of_second, picked, ShorterPart, part_of_first, part_of_second}
 use Rattle.poly.specs.Search.{Searched}
@@ -48,9 +48,9 @@ by_lengths_meets A B f t n m s u = go (eqb f.number 0) refl (ltb m n) refl
       | false ↦ pick_row A B 1 []
     ] in Shorter A B r.list r.terms
     go true z true l =
-        (picked_of_second (shorter_of_second A B f t (eqb-true f.number 0 z) n m s u (ltb-true m n l)) refl).1
+        (picked_of_second (shorter_of_second A B (tested_passes (of_two_lists A B) tt f t (eqb-true f.number 0 z)).0 n m s u (ltb-true m n l)) refl).1
     go true z false l =
-        (picked_of_first (shorter_of_first A B f t (eqb-true f.number 0 z) n m s u (ltb-false m n l)) (λ e. omega arith)).1
+        (picked_of_first (shorter_of_first A B (tested_passes (of_two_lists A B) tt f t (eqb-true f.number 0 z)).0 n m s u (ltb-false m n l)) (λ e. omega arith)).1
     go false z c l = refused f (tested_refuses (of_two_lists A B) f t (eqb-false f.number 0 z))
 
 pub right_pick_meets : (A B : List ℕ) → Shorter A B (right_pick A B).list (right_pick A B).terms
@@ -111,5 +111,5 @@ pub head_refuted : (w : PickRow) → wrong_head_test w ≡ true → HeadRefuted 
 unfolding wrong_head_test
 head_refuted w h meets =
     clash_differ (w.list ∷ length w.terms ∷ []) _ h
-    (ap (λ (r : Picked). r.list ∷ r.terms ∷ [])
+    (ap (λ (r : Head). r.list ∷ r.terms ∷ [])
     (shorter_head_determined meets (picked (right w).list (right w).terms (right_pick_meets w.first_list w.second_list))))

@@ -11,7 +11,7 @@ use Rattle.field.specs.Modulus.Laws.{every, listed_prime, listed_decided}
 use Rattle.field.specs.Modulo.{Modulo}
 use Rattle.field.specs.Numbers.{DOES_NOT_DIVIDE}
 use Rattle.field.specs.Refusal.{fault, none, Passes}
-use Rattle.field.specs.Faults.Laws.{after_fault_known, placed_never, passes_append}
+use Rattle.field.specs.Faults.Laws.{after_fault_known, placed_never, passes_append, tested_passes}
 use Rattle.field.specs.declared.faults.Fault.{Fault}
 use Rattle.field.specs.Faults.Decision.{decided_tested, decided_passes}
 use Rattle.poly.specs.ImageCall.{ImageRecord}
@@ -24,7 +24,7 @@ use Rattle.poly.specs.ImageCall.{image_table}
 use Rattle.field.specs.Lent.{written}
 use Rattle.poly.specs.Room.{room_lines, of_rooms, work_room, cleared}
 use Rattle.poly.specs.Image.Model.{image_of}
-use Rattle.poly.specs.Image.Call.{image_fine, image_passes as image_in_order, image_answered, model_answers}
+use Rattle.poly.specs.Image.Call.{image_fine, image_answered, model_answers}
 use Rattle.poly.specs.Division.Trial.{rule_says}
 use Rattle.poly.specs.List.Right.{lists_are_right}
 use Rattle.poly.specs.List.Falling.{falling_right}
@@ -170,8 +170,9 @@ image_tested r h =
     let tested = decided_tested (image_table r.call) (image_checks r.call) in
     let c = r.call in
     let passed = eqb-true _ 0 both.0 in
-    let lists = (image_fine _ _ _ _ (image_in_order c.modulus c.first_list c.second_list c.point _ tested passed)).lists in
-    image_answered c.modulus c.first_list c.second_list c.point _ tested passed (image_of c.modulus c.first_list c.second_list c.point)
+    let pass = (tested_passes (image_table c) tt _ tested passed).0 in
+    let lists = (image_fine _ _ _ _ pass).lists in
+    image_answered c.modulus c.first_list c.second_list c.point pass (image_of c.modulus c.first_list c.second_list c.point)
     (model_answers c.modulus c.first_list c.second_list c.point lists refl) (image_known r.found _ (same_is _ _ both.1))
   where
     image_known : (q s : ImageRecord) → image_numbers q ≡ image_numbers s → q ≡ s
