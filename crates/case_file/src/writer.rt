@@ -111,12 +111,15 @@ fn write_numbers<T: Number>(kind: Kind, list: &[T], at: usize, buffer: &mut [u8]
     next
 }
 
+// The records of the points. These are gone over by an index, and not by `chunks_exact`, as slices are in poly (the head of its lib.rt says why).
 fn write_points(numbers: &[Residue], at: usize, buffer: &mut [u8]) -> usize
     requires { at + length (records today point_kind (triples numbers.now)) ≤ length buffer.old }
     ensures { Puts (records today point_kind (triples numbers.now)) at result buffer.old buffer.new }
 {
     let mut next = at;
-    for point in numbers.chunks_exact(COORDINATES) {
+    for i in 0..numbers.len() / COORDINATES {
+        let first = COORDINATES * i;
+        let point = &numbers[first..first + COORDINATES];
         next = write_point(point[0], point[1], point[2], next, buffer);
     }
     next
