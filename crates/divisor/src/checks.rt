@@ -63,8 +63,8 @@ fn check_points(p: Residue, points: &[Residue]) -> Result<(), Fault>
 pub(crate) fn check_call(case: &Case<'_>, output: usize, work: usize) -> Result<(), Fault>
     ensures { Checked (of_case case.now output work) result }
 {
-    poly::list::check_modulo(case.modulus, case.first, case.second)?;
+    poly::list::lists_fault(case.modulus, case.first, case.second)?;
     check_skeleton(case.skeleton)?;
     check_points(case.modulus, case.points)?;
-    poly::rooms::check_rooms(output, case.skeleton.len(), work)
+    poly::rooms::rooms_fault(output, case.skeleton.len(), work)
 }

@@ -45,7 +45,7 @@ pub fn image_at(p: Residue, first: &[Term], second: &[Term], point: &[Residue]) 
 fn check_call(p: Residue, first: &[Term], second: &[Term], point: &[Residue]) -> Result<(), Fault>
     ensures { Checked (image_table (image_call p first.now second.now point.now)) result }
 {
-    list::check_modulo(p, first, second)?;
+    list::lists_fault(p, first, second)?;
     points::check_point(p, point)
 }
 

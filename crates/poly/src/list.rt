@@ -51,7 +51,7 @@ fn check_terms(
 }
 
 // The refusals 1 to 5, of the modulus and the two lists.
-pub fn check_modulo(p: Residue, first: &[Term], second: &[Term]) -> Result<(), Fault>
+pub fn lists_fault(p: Residue, first: &[Term], second: &[Term]) -> Result<(), Fault>
     ensures { Checked (of_lists p first.now second.now) result }
 {
     if !field::is_modulus(p) {

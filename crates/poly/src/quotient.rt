@@ -37,8 +37,8 @@ fn check_call(
 ) -> Result<(), Fault>
     ensures { Checked (of_lists p first.now second.now ++ of_rooms output keys work) result }
 {
-    crate::list::check_modulo(p, first, second)?;
-    rooms::check_rooms(output, CELLS, work)
+    crate::list::lists_fault(p, first, second)?;
+    rooms::rooms_fault(output, CELLS, work)
 }
 
 // The quotient of inputs that pass, or 15. The work room is left cleared.

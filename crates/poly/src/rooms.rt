@@ -13,7 +13,7 @@ pub const CELLS: usize = Key::LIMIT as usize;
 pub const WORK_ROOM: usize = 2 * CELLS;
 
 // The refusals 10 and 11: of the rooms that are lent only the lengths matter, and how many terms the output needs.
-pub fn check_rooms(output: usize, needed: usize, work: usize) -> Result<(), Fault>
+pub fn rooms_fault(output: usize, needed: usize, work: usize) -> Result<(), Fault>
     ensures { Checked (of_rooms output needed work) result }
 {
     if output < needed {
