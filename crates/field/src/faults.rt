@@ -14,6 +14,7 @@ pub struct Fault {
 }
 
 // The refusal numbers: those of the table, from 20 on the reader's, and from 26 on the writer's. Then the lists of a call.
+// They are numbers and no enum: C is handed them, `at` answers for any number (the law `list_none`), and there is one table of them.
 impl Fault {
     pub const MODULUS: RefusalNumber = 1;
 

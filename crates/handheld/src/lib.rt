@@ -212,6 +212,7 @@ fn lay_answer(modulus: Residue, answer: Result<Element, Fault>, numbers: &mut [u
     }
 }
 
+// C calls each of the four by its own name, with plain numbers.
 #[unsafe(no_mangle)]
 pub extern "C" fn balungkiro_sum(
     modulus: Residue,
