@@ -3,7 +3,7 @@
 ghost use Rattle.std.specs.Prelude.{◌≡◌, ◌+◌, ◌-◌};
 ghost use Rattle.divisor.specs.Equations.Model.{EquationReady, IsEquation, next_column, ColumnReady, OneOf, IsEquationAt, CanAdd, AddsFirst, CanSolve, Solves};
 
-use crate::sorting::Places;
+use crate::sorting::Place;
 use crate::table::{Column, MOST_COLUMNS, Row, Solution, Table};
 use field::{COORDINATES, Case, Element, KeyBits, Residue};
 use poly::POWERS;
@@ -12,7 +12,8 @@ use poly::key::Key;
 // Equations are counted in 16 bits, like columns: there are at most eight for each of 32 points.
 pub(crate) type Count = u16;
 
-// The equation of x^i at a point: a number for each key, u in the multiplier's column.
+// The equation of x^i at a point: a number for each key, u in the multiplier's column. The coordinates y, z and w go to `monomial_at` alone: a struct of
+// them would be made here and taken apart there.
 fn equation(
     y: Element,
     z: Element,
@@ -50,9 +51,9 @@ fn column_of(keys: usize, kept: usize, columns: usize) -> usize
 }
 
 // Equation k of n: of the kept point k / 8, for the power k % 8 of x.
-fn equation_at(case: &Case<'_>, places: Places, work: &[Residue], n: Count, k: Count) -> Row
-    requires { OneOf case.now.modulus case.now.skeleton.now case.now.points.now places work.now n k }
-    ensures { IsEquationAt case.now.modulus case.now.skeleton.now case.now.points.now places work.now n k result }
+fn equation_at(case: &Case<'_>, places: &[Place], work: &[Residue], n: Count, k: Count) -> Row
+    requires { OneOf case.now.modulus case.now.skeleton.now case.now.points.now places.now work.now n k }
+    ensures { IsEquationAt case.now.modulus case.now.skeleton.now case.now.points.now places.now work.now n k result }
 {
     let p = case.modulus;
     let points = case.points;
@@ -72,9 +73,9 @@ fn equation_at(case: &Case<'_>, places: Places, work: &[Residue], n: Count, k: C
 }
 
 // The n equations of the kept points into the table that is lent, one at a time.
-fn add_equations(t: &mut Table, case: &Case<'_>, places: Places, work: &[Residue], n: Count)
-    requires { CanAdd case.now.modulus t.old case.now.skeleton.now case.now.points.now places work.now n }
-    ensures { AddsFirst n case.now.modulus t.old case.now.skeleton.now case.now.points.now places work.now n t.new }
+fn add_equations(t: &mut Table, case: &Case<'_>, places: &[Place], work: &[Residue], n: Count)
+    requires { CanAdd case.now.modulus t.old case.now.skeleton.now case.now.points.now places.now work.now n }
+    ensures { AddsFirst n case.now.modulus t.old case.now.skeleton.now case.now.points.now places.now work.now n t.new }
 {
     for k in 0..n {
         let e = equation_at(case, places, work, n, k);
@@ -86,13 +87,13 @@ fn add_equations(t: &mut Table, case: &Case<'_>, places: Places, work: &[Residue
 // last column; the others' stand behind the skeleton, in the order lent. The one table is a local of this function.
 pub(crate) fn solved(
     case: &Case<'_>,
-    places: Places,
+    places: &[Place],
     work: &[Residue],
     n: Count,
     columns: Column,
 ) -> Solution
-    requires { CanSolve case.now.modulus case.now.skeleton.now case.now.points.now places work.now n columns }
-    ensures { Solves case.now.modulus case.now.skeleton.now case.now.points.now places work.now n columns result }
+    requires { CanSolve case.now.modulus case.now.skeleton.now case.now.points.now places.now work.now n columns }
+    ensures { Solves case.now.modulus case.now.skeleton.now case.now.points.now places.now work.now n columns result }
 {
     let mut t = Table::empty(columns);
     add_equations(&mut t, case, places, work, n);

@@ -25,6 +25,7 @@ mod verdict;
 pub const MOST_STEPS: usize = 2 * CELLS;
 
 // Number, list and place, the least degree of an image, the numbers of bad, unlucky and kept points, the count of terms, and the steps of division taken.
+// A record and no Result: what stands beside the fault is told with the numbers 12 to 15 and 18 too. The theorem `candidate_determined` speaks of it.
 #[derive(Clone, Copy)]
 pub struct CandidateRecord {
     pub fault: Fault,
@@ -87,7 +88,7 @@ fn answer(
     let places = sorting::places_of(sizes, least);
     let equations = (POWERS * kept) as Count;
     let columns = (case.skeleton.len() + kept) as Column;
-    let solved = equations::solved(case, places, work, equations, columns);
+    let solved = equations::solved(case, &places, work, equations, columns);
     let sorted = CandidateRecord {
         fault: Fault::none(),
         degree: least as usize - 1,

@@ -9,12 +9,12 @@ pub add_equations-requires : goal.add_equations-requires
 add_equations-requires c =
     let a = c.args in
     let k = a.case.now in
-    subst (λ (t : Table). CanAdd k.modulus t k.skeleton.now k.points.now a.places a.work.now a.n) (sym c.empty-t.ensures) (can_add_empty c.requires)
+    subst (λ (t : Table). CanAdd k.modulus t k.skeleton.now k.points.now a.places.now a.work.now a.n) (sym c.empty-t.ensures) (can_add_empty c.requires)
 
 pub solution-requires : goal.solution-requires
 solution-requires c =
     let a = c.args in
     let k = a.case.now in
     let t = c.add_equations.new.t in
-    (table_solvable c.requires (subst (λ (s : Table). AddsFirst a.n k.modulus s k.skeleton.now k.points.now a.places a.work.now a.n t) c.empty-t.ensures
+    (table_solvable c.requires (subst (λ (s : Table). AddsFirst a.n k.modulus s k.skeleton.now k.points.now a.places.now a.work.now a.n t) c.empty-t.ensures
     c.add_equations.ensures)).0
