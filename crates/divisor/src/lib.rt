@@ -7,10 +7,7 @@ ghost use Rattle.divisor.specs.Verdict.Model.{NoGoodPoint};
 ghost use Rattle.field.specs.Refusal.{Passes};
 ghost use Rattle.poly.specs.Room.{work_room};
 
-use crate::equations::Count;
-use crate::table::Column;
 use field::{COORDINATES, Case, Fault, Residue, Term};
-use poly::POWERS;
 use poly::rooms::{CELLS, WORK_ROOM};
 
 mod checks;
@@ -86,9 +83,7 @@ fn answer(
     let bad = sorting::alike(sizes, 0);
     let kept = sorting::alike(sizes, least);
     let places = sorting::places_of(sizes, least);
-    let equations = (POWERS * kept) as Count;
-    let columns = (case.skeleton.len() + kept) as Column;
-    let solved = equations::solved(case, &places, work, equations, columns);
+    let solved = equations::solved(case, &places[..kept], work);
     let sorted = CandidateRecord {
         fault: Fault::none(),
         degree: least as usize - 1,
