@@ -12,6 +12,7 @@ use poly::rooms::CELLS;
 mod scaling;
 
 // The candidate's record, with the counts of the terms of both results in place of one. The steps are those of the candidate's divisions.
+// A record and no Result: what stands beside the fault is told with the numbers 12 to 15 and 18 too. The theorem `cancel_determined` speaks of it.
 #[derive(Clone, Copy)]
 pub struct CancelRecord {
     pub fault: Fault,
@@ -29,9 +30,8 @@ impl CancelRecord {
     fn with_both(found: CandidateRecord, numerator: usize, denominator: usize) -> CancelRecord
         ensures { result ≡ with_both found numerator denominator }
     {
-        let fault = found.fault;
         CancelRecord {
-            fault,
+            fault: found.fault,
             degree: found.degree,
             bad: found.bad,
             unlucky: found.unlucky,
@@ -97,11 +97,10 @@ pub fn cancel(
     if found.fault.number != 0 {
         return CancelRecord::with_both(found, 0, 0);
     }
-    let terms = found.terms;
     reduce(
         case,
         found,
-        &mut divisor[..terms],
+        &mut divisor[..found.terms],
         numerator_out,
         denominator_out,
         work,

@@ -111,7 +111,7 @@ fn write_numbers<T: Number>(kind: Kind, list: &[T], at: usize, buffer: &mut [u8]
     next
 }
 
-// The records of the points. These are gone over by an index, and not by `chunks_exact`, as slices are in poly (the head of its lib.rt says why).
+// The records of the points. No `chunks_exact`: its `next` hands over an option of a reference, which a 32-bit core reads wrongly (bench/handheld).
 fn write_points(numbers: &[Residue], at: usize, buffer: &mut [u8]) -> usize
     requires { at + length (records today point_kind (triples numbers.now)) ≤ length buffer.old }
     ensures { Puts (records today point_kind (triples numbers.now)) at result buffer.old buffer.new }

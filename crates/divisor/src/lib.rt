@@ -7,10 +7,7 @@ ghost use Rattle.divisor.specs.Verdict.Model.{NoGoodPoint};
 ghost use Rattle.field.specs.Refusal.{Passes};
 ghost use Rattle.poly.specs.Room.{work_room};
 
-use crate::equations::Count;
-use crate::table::Column;
 use field::{COORDINATES, Case, Fault, Residue, Term};
-use poly::POWERS;
 use poly::rooms::{CELLS, WORK_ROOM};
 
 mod checks;
@@ -25,6 +22,7 @@ mod verdict;
 pub const MOST_STEPS: usize = 2 * CELLS;
 
 // Number, list and place, the least degree of an image, the numbers of bad, unlucky and kept points, the count of terms, and the steps of division taken.
+// A record and no Result: what stands beside the fault is told with the numbers 12 to 15 and 18 too. The theorem `candidate_determined` speaks of it.
 #[derive(Clone, Copy)]
 pub struct CandidateRecord {
     pub fault: Fault,
@@ -85,9 +83,7 @@ fn answer(
     let bad = sorting::alike(sizes, 0);
     let kept = sorting::alike(sizes, least);
     let places = sorting::places_of(sizes, least);
-    let equations = (POWERS * kept) as Count;
-    let columns = (case.skeleton.len() + kept) as Column;
-    let solved = equations::solved(case, places, work, equations, columns);
+    let solved = equations::solved(case, &places[..kept], work);
     let sorted = CandidateRecord {
         fault: Fault::none(),
         degree: least as usize - 1,

@@ -3,7 +3,6 @@ ghost use Rattle.std.specs.Prelude.{◌≡◌, ◌≤◌, ◌<◌, List, [], ◌
 ghost use Rattle.divisor.specs.Candidate.{most_keys};
 ghost use Rattle.divisor.specs.Monic.Model.{leading as leading_of, monic_terms, Solvable};
 
-use crate::table::Cells;
 use field::{Element, KeyBits, MOST_KEYS, Residue, Term};
 use std::marker::Model;
 
@@ -60,9 +59,9 @@ fn leading(coefficients: &[Residue]) -> Residue
 }
 
 // The terms of the keys whose coefficient is not 0, each coefficient times the inverse of the leading one.
-pub(crate) fn made_monic(p: Residue, skeleton: &[KeyBits], values: Cells) -> Divisor
-    requires { Solvable p skeleton.now values }
-    ensures { result ≡ monic_terms p skeleton.now (take (length skeleton.now) values) }
+pub(crate) fn made_monic(p: Residue, skeleton: &[KeyBits], values: &[Residue]) -> Divisor
+    requires { Solvable p skeleton.now values.now }
+    ensures { result ≡ monic_terms p skeleton.now (take (length skeleton.now) values.now) }
 {
     let lead = Element::of(p, leading(&values[..skeleton.len()]));
     let inverse = lead.inverse();

@@ -15,7 +15,7 @@ fn store(coefficients: Eight, at: usize, work: &mut [Residue])
     work[at..at + POWERS].copy_from_slice(&coefficients);
 }
 
-// The image at each point into the work room, and the sizes.
+// The image at each point into the work room, and the sizes. The points are gone over by an index, as in poly (its lib.rt says why).
 pub(crate) fn look(case: &Case<'_>, work: &mut [Residue]) -> Sizes
     requires { LookReady case.now.modulus case.now.first.now case.now.second.now case.now.points.now work.old }
     ensures { Looks (length case.now.points.now / 3) case.now.modulus case.now.first.now case.now.second.now case.now.points.now work.old

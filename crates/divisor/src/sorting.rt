@@ -1,5 +1,4 @@
-// Sorting the points by the sizes of their images: 0 for a bad point, else one more than the image's degree. A size stays a number, and no option of a
-// degree: it is the length of the image's list of coefficients, and it is compared and counted.
+// Sorting the points by the sizes of their images: 0 for a bad point, else one more than the image's degree.
 ghost use Rattle.std.specs.Prelude.{◌≡◌, ◌≤◌, length};
 ghost use Rattle.divisor.specs.Candidate.{most_points};
 ghost use Rattle.divisor.specs.Sorting.Model.{lesser as lesser_of, least, alike as alike_of, HasPlaces};
@@ -11,7 +10,7 @@ use poly::Size;
 pub(crate) type Sizes = [Size; MOST_POINTS];
 
 // A point's place among those lent.
-type Place = u16;
+pub(crate) type Place = u16;
 
 // A place for each point that can be kept.
 pub(crate) type Places = [Place; MOST_POINTS];

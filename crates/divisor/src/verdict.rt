@@ -69,7 +69,7 @@ fn divided(
     ensures { Settled case.now.modulus case.now.first.now case.now.second.now case.now.skeleton.now (Solution.One values) ceiling
         output.old output.new work.old work.new (ruling result) }
 {
-    let divisor = crate::monic::made_monic(case.modulus, case.skeleton, values);
+    let divisor = crate::monic::made_monic(case.modulus, case.skeleton, &values);
     let list = divisor.list();
     let steps = divides_both(case, list, ceiling, work)?;
     write(list, output);

@@ -21,7 +21,8 @@ pub const POWERS: usize = 8;
 // Eight numbers below the modulus: the coefficients of x^0 to x^7.
 pub type Eight = [Residue; POWERS];
 
-// 0 for a bad point, else one more than the degree of its image.
+// 0 for a bad point, else one more than the degree of its image. It stays a number, and no option of a degree: it is the length of the image's list of
+// coefficients, and it is compared and counted.
 pub type Size = u16;
 
 // The image at a point, for the layer above; at a bad point all is 0.

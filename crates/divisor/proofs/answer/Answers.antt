@@ -1,9 +1,9 @@
 -- `divisor::answer` meets its contract: the look at the points, their counts, the equations, the solution and the verdict, each as its call promises, make
 -- up what the rule answers.
-use Rattle.std.proofs.Common.{◌≡◌, ◌+◌, ◌/◌, ◌≤◌, length, sym, ◌∙◌, arith}
+use Rattle.std.proofs.Common.{◌≡◌, ◌+◌, ◌/◌, ◌≤◌, length, sym, ◌∙◌, length-take-le, arith}
 use Rattle.divisor.specs.Candidate.{Call, call_of}
 use Rattle.divisor.specs.Checks.Passed.{look_ready}
-use Rattle.divisor.specs.Sorting.Kept.{room_after, SomeGood, placed, can_solve, count_small, counts_fit, columns_fit}
+use Rattle.divisor.specs.Sorting.Kept.{room_after, SomeGood, placed, can_solve, count_small, counts_fit}
 use Rattle.divisor.specs.Answer.Laws.{nothing_good, ready_verdict, answered_so}
 use Rattle.divisor.proofs.answer.Goals as goal
 use Rattle.divisor.proofs.answer.Goals.{After-look-looked, After-alike-kept}
@@ -46,27 +46,24 @@ returns-then-least-eq0 c =
     nothing_good (looked (goal.at.returns-then-least-eq0 c).After-look-looked) c.requires _ c.look-looked.result c.look-looked.ensures
     (sym c.least_size-least.ensures ∙ c.if-least-eq0.true) _ c.no_good_point.result c.no_good_point.ensures
 
-pub overflow_mul-equations : goal.overflow_mul-equations
-overflow_mul-equations c = omega (arith, count_small (good (goal.at.overflow_mul-equations c).After-alike-kept c.if-least-eq0.false))
+pub slice_bounds-places-end : goal.slice_bounds-places-end
+slice_bounds-places-end c =
+    omega (arith, count_small (good (goal.at.slice_bounds-places-end c).After-alike-kept c.if-least-eq0.false), c.places_of-places.ensures.long)
 
-pub overflow_cast-equations : goal.overflow_cast-equations
-overflow_cast-equations c = omega (arith, count_small (good (goal.at.overflow_cast-equations c).After-alike-kept c.if-least-eq0.false))
-
-pub overflow_add-columns : goal.overflow_add-columns
-overflow_add-columns c = omega (arith, (columns_fit (good (goal.at.overflow_add-columns c).After-alike-kept c.if-least-eq0.false)).most)
-
-pub overflow_cast-columns : goal.overflow_cast-columns
-overflow_cast-columns c = omega (arith, (columns_fit (good (goal.at.overflow_cast-columns c).After-alike-kept c.if-least-eq0.false)).most)
+pub slice_bounds-solved-end : goal.slice_bounds-solved-end
+slice_bounds-solved-end c =
+    let g = good (goal.at.slice_bounds-solved-end c).After-alike-kept c.if-least-eq0.false in
+    sym (length-take-le c.alike-kept.result c.places_of-places.result (omega (arith, count_small g, c.places_of-places.ensures.long)))
 
 pub solved-solved-requires : goal.solved-solved-requires
 solved-solved-requires c =
     let g = good (goal.at.solved-solved-requires c).After-alike-kept c.if-least-eq0.false in
-    can_solve g c.places_of-places.result (placed g c.places_of-places.ensures)
+    can_solve g _ (placed g c.places_of-places.ensures)
 
 pub settle-requires : goal.settle-requires
 settle-requires c =
     let g = good (goal.at.settle-requires c).After-alike-kept c.if-least-eq0.false in
-    ready_verdict g c.places_of-places.result (placed g c.places_of-places.ensures)
+    ready_verdict g _ (placed g c.places_of-places.ensures)
     c.solved-solved.result c.solved-solved.ensures
 
 pub overflow_sub-sorted-2 : goal.overflow_sub-sorted-2
@@ -78,13 +75,13 @@ overflow_sub-sorted-3 c = omega (arith, fit (goal.at.overflow_sub-sorted-3 c).Af
 pub returns-in-Ok : goal.returns-in-Ok
 returns-in-Ok c =
     let g = good (goal.at.returns-in-Ok c).After-alike-kept c.if-least-eq0.false in
-    answered_so g c.places_of-places.result (placed g c.places_of-places.ensures)
+    answered_so g _ (placed g c.places_of-places.ensures)
     c.solved-solved.result c.solved-solved.ensures c.alike-bad.result c.alike-bad.ensures
     _ c.in-Ok.ensures c.none.result c.none.ensures
 
 pub returns-in-Err : goal.returns-in-Err
 returns-in-Err c =
     let g = good (goal.at.returns-in-Err c).After-alike-kept c.if-least-eq0.false in
-    answered_so g c.places_of-places.result (placed g c.places_of-places.ensures)
+    answered_so g _ (placed g c.places_of-places.ensures)
     c.solved-solved.result c.solved-solved.ensures c.alike-bad.result c.alike-bad.ensures
     _ c.in-Err.ensures c.at.result c.at.ensures

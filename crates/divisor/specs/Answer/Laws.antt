@@ -20,7 +20,7 @@ use Rattle.divisor.specs.Equations.Rows.{kept_rows, all_rows}
 use Rattle.divisor.specs.Equations.Model.{AddsFirst, Solves}
 use Rattle.divisor.specs.Equations.Adding.{rows_ready, table_solvable}
 use Rattle.divisor.specs.Equations.System.{system_rows}
-use Rattle.divisor.specs.Sorting.Model.{sizes_of, least, alike, places_before, HasPlaces}
+use Rattle.divisor.specs.Sorting.Model.{sizes_of, least, alike, places_before}
 use Rattle.divisor.specs.Points.Model.{Looks}
 use Rattle.divisor.specs.Verdict.Model.{NoGoodPoint, VerdictReady, Settles, Settled, OneReady, unsolvable, several, cut_off}
 use Rattle.divisor.specs.Verdict.Model.{rejected, accepted}
@@ -29,7 +29,7 @@ use Rattle.divisor.specs.Sorting.Laws.{least_is}
 use Rattle.divisor.specs.Monic.Terms.{AllBelow, all_below}
 use Rattle.divisor.specs.Answer.Assembled as assembled
 use Rattle.divisor.specs.Sorting.Kept.{SomeGood, KeptPoints, room_after, same_room, sizes_are, columns_fit, kept_points}
-use Rattle.divisor.specs.Sorting.Kept.{counted_places, place_is, ready_system, can_solve}
+use Rattle.divisor.specs.Sorting.Kept.{counted_places, long_places, ready_system, can_solve}
 
 module _ (c : Call) (pass : Passes (table c)) (after sizes : List ℕ)
     (look : Looks (point_count c) c.modulus c.first_list c.second_list c.points c.work after sizes) where
@@ -73,29 +73,29 @@ module _ {c : Call} {after sizes : List ℕ} {m count : ℕ} (good : SomeGood c 
   abbrev equations : List (List (Fp p))
   equations = all_rows (Numbers c listed) (monomials c listed) k ks
 
-  module _ (places : List ℕ) (at : HasPlaces m sizes (point_count c) places) where
+  module _ (places : List ℕ) (at : places ≡ places_before m sizes (point_count c)) where
     -- what a table of the equations says of those of the rule
-    module _ (t : Table) (made : AddsFirst (8 * count) c.modulus (empty_table (length c.skeleton + count)) c.skeleton c.points places after
-        (8 * count) t) where
+    module _ (t : Table) (made : AddsFirst (8 * length places) c.modulus (empty_table (length c.skeleton + length places)) c.skeleton c.points
+        places after (8 * length places) t) where
       means : rows_of p unknowns made.rows ≡ equations
       means =
-          let e = kept.count_is in
+          let e = long_places good places at ∙ kept.count_is in
           system_rows P c.skeleton c.points after (places_before m sizes (point_count c)) (ready_system good places at) (omega arith)
-          (omega (arith, counted_places good places at)) (λ a l. place_is good places at a (omega arith)) made
+          (omega (arith, counted_places good, long_places good places at)) (λ a l. ap (λ (ps : List ℕ). get_or ps a 0) at) made
           ∙ ap (kept_rows (Numbers c listed) (monomials c listed) (length ks)) kept.in_room
 
       -- what the solution says of the equations of the rule
       says : Says p P unknowns equations (solved p t)
       says =
-          let e = kept.count_is in
+          let e = long_places good places at in
           let l = (columns_fit good).most in
-          let a : length c.skeleton + count ≡ suc unknowns = omega arith in
+          let a : length c.skeleton + length places ≡ suc unknowns = omega (arith, kept.count_is) in
           subst (λ (rs : List (List (Fp p))). Says p P unknowns rs (solved p t)) means
           (subst (λ (u : Table). Says p P unknowns (rows_of p unknowns made.rows) (solved p u))
           (sym (made.is ∙ ap (λ (x : ℕ). added p (empty_table x) made.rows) a))
           (table_answers p P unknowns (omega arith) made.rows listed (rows_ready made (ready_system good places at))))
 
-    module _ (s : Solution) (h : Solves c.modulus c.skeleton c.points places after (8 * count) (length c.skeleton + count) s) where
+    module _ (s : Solution) (h : Solves c.modulus c.skeleton c.points places after (8 * length places) (length c.skeleton + length places) s) where
       says_as : (x : Solution) → s ≡ x → Says p P unknowns equations x
       says_as x e = subst (Says p P unknowns equations) (sym h.is ∙ e) (says h.table h.made)
 

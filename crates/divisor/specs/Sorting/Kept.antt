@@ -1,7 +1,6 @@
 -- The points that are kept: as many as the sizes say, the rule's, and what the equations ask for.
-use Rattle.std.specs.Prelude.{◌≡◌, refl, List, [], ◌∷◌, ℕ, suc, ◌+◌, ◌-◌, ◌*◌, ◌≤◌, ◌<◌, length, get_or, take, replicate}
-use Rattle.std.proofs.Common.{sym, ◌∙◌, ap, subst, inl, inr, arith, length-take-le}
-use Rattle.field.specs.Loops.Filled.{Filled}
+use Rattle.std.specs.Prelude.{◌≡◌, refl, List, [], ◌∷◌, ℕ, suc, ◌+◌, ◌-◌, ◌*◌, ◌≤◌, ◌<◌, length, get_or, take}
+use Rattle.std.proofs.Common.{sym, ◌∙◌, ap, subst, inl, inr, arith, length-take-le, ext_get_or, get_or-take}
 use Rattle.field.specs.Moduli.{Listed}
 use Rattle.field.specs.Prime.{Prime}
 use Rattle.field.specs.Refusal.{Passes}
@@ -79,12 +78,6 @@ module _ {c : Call} {after sizes : List ℕ} {m count : ℕ} (good : SomeGood c 
   sized : length (take n sizes) ≡ n
   sized = length-take-le n sizes (within c pass after sizes good.look)
 
-  -- the places among all sizes, from those among the first
-  pub placed : {places : List ℕ} → HasPlaces m (take n sizes) (length (take n sizes)) places → HasPlaces m sizes n places
-  placed {places} =
-      subst (λ (ps : List ℕ). Filled (λ a. get_or ps a 0) most_points (replicate most_points 0) (length ps) places)
-      (ap (places_before m (take n sizes)) sized ∙ places_first m sizes n n (omega arith))
-
   pub count_small : count ≤ most_points
   count_small = let l = alike_most m (take n sizes) in let e = sized in let f = few_points c pass in let i = good.is_count in omega arith
 
@@ -96,36 +89,47 @@ module _ {c : Call} {after sizes : List ℕ} {m count : ℕ} (good : SomeGood c 
   columns_fit =
       record { some = let k = some_kept in let i = good.is_count in omega arith; most = let k = count_small in let s = keys_most c pass in omega arith }
 
-  -- the kept points' places, in an array
-  module _ (places : List ℕ) (at : HasPlaces m sizes (point_count c) places) where
-    long : n ≤ length sizes
-    long = within c pass after sizes good.look
+  long : n ≤ length sizes
+  long = within c pass after sizes good.look
 
-    pub counted_places : length (places_before m sizes (point_count c)) ≡ count
-    counted_places = places_count m sizes n long ∙ sym good.is_count
+  pub counted_places : length (places_before m sizes (point_count c)) ≡ count
+  counted_places = places_count m sizes n long ∙ sym good.is_count
 
-    pub place_is : (a : ℕ) → a < count → get_or places a 0 ≡ get_or (places_before m sizes (point_count c)) a 0
-    place_is a l = at.done a (omega (arith, counted_places))
+  -- the places among all sizes, from an array with those among the first
+  pub placed : {places : List ℕ} → HasPlaces m (take n sizes) (length (take n sizes)) places
+      → take count places ≡ places_before m sizes (point_count c)
+  placed {places} h =
+      let same = ap (places_before m (take n sizes)) sized ∙ places_first m sizes n n (omega arith) in
+      let fits = length-take-le count places (omega (arith, h.long, count_small)) in
+      ext_get_or 0 (take count places) (places_before m sizes n) (fits ∙ sym counted_places)
+      (λ a l. get_or-take count places a 0 (omega (arith, fits)) ∙ h.done a (omega (arith, fits, counted_places, ap length same))
+      ∙ ap (λ (ps : List ℕ). get_or ps a 0) same)
+
+  -- the kept points' places
+  module _ (places : List ℕ) (at : places ≡ places_before m sizes (point_count c)) where
+    pub long_places : length places ≡ count
+    long_places = ap length at ∙ counted_places
 
     place_fits : (a : ℕ) → a < count → get_or places a 0 < n
-    place_fits a l = omega (arith, place_is a l, place_below m sizes n a (omega (arith, counted_places)))
+    place_fits a l = omega (arith, ap (λ (ps : List ℕ). get_or ps a 0) at, place_below m sizes n a (omega (arith, counted_places)))
 
-    pub ready_system : SystemReady c.modulus c.skeleton c.points places after (8 * count)
+    pub ready_system : SystemReady c.modulus c.skeleton c.points places after (8 * length places)
     ready_system = record {
       listed = listed;
       eights = omega arith;
-      few = omega (arith, at.long, count_small);
-      most = omega (arith, columns_fit.most);
-      coordinates = λ a l. omega (arith, place_fits a (omega arith), (right_points c pass).threes);
-      room = λ a l. omega (arith, place_fits a (omega arith), few_points c pass, room_after c pass after sizes good.look);
+      few = omega arith;
+      most = omega (arith, long_places, columns_fit.most);
+      coordinates = λ a l. omega (arith, place_fits a (omega (arith, long_places)), (right_points c pass).threes);
+      room = λ a l. omega (arith, place_fits a (omega (arith, long_places)), few_points c pass, room_after c pass after sizes good.look);
       below = λ a j l b.
           let i = get_or places a 0 in
-          let same = ap (λ (f : List ℕ). get_or f j 0) (good.look.images i (place_fits a (omega arith))) in
+          let fits = place_fits a (omega (arith, long_places)) in
+          let same = ap (λ (f : List ℕ). get_or f j 0) (good.look.images i fits) in
           omega (arith, part_at 8 i after j b, same, (look_eight (look_ready c pass) i).below j);
     }
 
-    pub can_solve : CanSolve c.modulus c.skeleton c.points places after (8 * count) (length c.skeleton + count)
-    can_solve = record { system = ready_system; some = omega (arith, some_kept, good.is_count); columns_are = omega arith }
+    pub can_solve : CanSolve c.modulus c.skeleton c.points places after (8 * length places) (length c.skeleton + length places)
+    can_solve = record { system = ready_system; some = omega (arith, long_places, some_kept, good.is_count); columns_are = omega arith }
 
   abbrev d : ℕ
   d = m - 1

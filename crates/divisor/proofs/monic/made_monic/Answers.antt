@@ -16,7 +16,7 @@ inverse-inverse-requires c =
     subst Invertible (sym (c.of-lead.ensures ∙ ap (element a.p) c.leading.ensures))
     record {
       is_listed = c.requires.listed;
-      below = leading_below a.p (listed_positive c.requires.listed) (length a.skeleton.now) a.values c.requires.below;
+      below = leading_below a.p (listed_positive c.requires.listed) (length a.skeleton.now) a.values.now c.requires.below;
       nonzero = c.requires.led;
     }
 
@@ -26,10 +26,10 @@ loop-i-preserved c =
     let l = c.loop-i in
     let inverse = c.inverse-inverse.result in
     let long = c.requires.long in
-    let later = terms_left a.p inverse.value a.skeleton.now a.values (l.i + 1) in
+    let later = terms_left a.p inverse.value a.skeleton.now a.values.now (l.i + 1) in
     elim c.if-values-i-ne0.branch [
       | then-values-i-ne0 w ↦
-          let term = keyed (get_or a.skeleton.now l.i 0) (get_or a.values l.i 0 * inverse.value % a.p) in
+          let term = keyed (get_or a.skeleton.now l.i 0) (get_or a.values.now l.i 0 * inverse.value % a.p) in
           let made = w.product-coefficient.ensures ∙ ap (λ e. product_of e inverse) w.of-value.ensures in
           let pushed = w.divisor-is ∙ w.push.ensures
           ∙ ap (λ t. l.divisor ++ (t ∷ [])) (w.term.ensures ∙ ap (λ e. keyed (get_or a.skeleton.now l.i 0) e.value) made) in
@@ -38,7 +38,7 @@ loop-i-preserved c =
             made =
                 ap (λ (x : List ℕ). x ++ later) pushed ∙ append_assoc l.divisor (term ∷ []) later
                 ∙ ap (λ (x : List ℕ). l.divisor ++ x)
-                (sym (left_taken a.p inverse.value a.skeleton.now a.values l.i long c.loop-i-test.true w.if-values-i-ne0.true)) ∙ l.invariant.made;
+                (sym (left_taken a.p inverse.value a.skeleton.now a.values.now l.i long c.loop-i-test.true w.if-values-i-ne0.true)) ∙ l.invariant.made;
           }
       | else-values-i-ne0 w ↦
           record {
@@ -46,7 +46,7 @@ loop-i-preserved c =
             made =
                 ap (λ (x : List ℕ). x ++ later) w.divisor-is
                 ∙ ap (λ (x : List ℕ). l.divisor ++ x)
-                (sym (left_passed a.p inverse.value a.skeleton.now a.values l.i long c.loop-i-test.true w.if-values-i-ne0.false)) ∙ l.invariant.made;
+                (sym (left_passed a.p inverse.value a.skeleton.now a.values.now l.i long c.loop-i-test.true w.if-values-i-ne0.false)) ∙ l.invariant.made;
           }
     ]
 
@@ -57,7 +57,7 @@ returns c =
     let inverse = c.inverse-inverse.result in
     sym (append-nil l.divisor)
     ∙ ap (λ (x : List ℕ). l.divisor ++ x)
-    (sym (left_none a.p inverse.value a.skeleton.now a.values l.i c.requires.long c.loop-i-test.false)) ∙ l.invariant.made
-    ∙ ap (λ (f : ℕ). scaled_terms a.p f a.skeleton.now (take (length a.skeleton.now) a.values))
+    (sym (left_none a.p inverse.value a.skeleton.now a.values.now l.i c.requires.long c.loop-i-test.false)) ∙ l.invariant.made
+    ∙ ap (λ (f : ℕ). scaled_terms a.p f a.skeleton.now (take (length a.skeleton.now) a.values.now))
     (inverse_val _ _ (listed_prime c.requires.listed)
     (subst (λ e. Inverse e inverse) (c.of-lead.ensures ∙ ap (element a.p) c.leading.ensures) c.inverse-inverse.ensures))
