@@ -5,7 +5,7 @@ use Rattle.std.proofs.Common.{inl, inr}
 use Prim.Native.Nat.{ℕ, zero, suc, ◌≤◌, ◌<◌}
 use native.Mathlib.Omega.{arith}
 use Rattle.std.proofs.Math.ListN.{length, length-map, get_or-map}
-use Rattle.field.specs.Refusal.{Passes, Tested, Checked}
+use Rattle.field.specs.Refusal.{Passes, Tested, refused, passed, Checked}
 use Rattle.field.specs.Faults.Laws.{OnePlaceEach, whole_one_place, first_one_place, tested_determined, checked_determined}
 use Rattle.field.specs.declared.faults.Fault.{Fault}
 use Rattle.poly.specs.Keys.{keys}
@@ -62,6 +62,12 @@ module _ (ts : List ℕ) where
   checked_without_modulus count term (Err f) (inr (n, inl h)) =
       inr (n, inl (h.0, h.1, (small_coefficient h.0 h.2.0, λ j l v. h.2.1 j l (wrong_term v))))
   checked_without_modulus count term (Err f) (inr (n, inr h)) = absurd h.1
+
+  -- and of a fault that a test tells
+  pub tested_without_modulus : {count term : ℕ} {f : Fault} → Tested (of_terms count term (WrongModulo coefficient_limit ts) ts) f
+      → Tested (of_terms count term (WrongTerm ts) ts) f
+  tested_without_modulus {count} {term} {f} (refused h) = refused (checked_without_modulus count term (Err f) h)
+  tested_without_modulus {count} {term} (passed h e) = passed (checked_without_modulus count term (Ok tt) h) e
 
 -- two lists that pass do so in either order
 pub lists_swap : (p : ℕ) (A B : List ℕ) → Passes (of_lists p A B) → Passes (of_lists p B A)
