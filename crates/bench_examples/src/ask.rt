@@ -128,10 +128,10 @@ pub(crate) fn arithmetic(
 ) -> io::Result<()> {
     print_label(rt, label)?;
     match found {
-        Ok(outcome) => {
-            let rest = [outcome.modulus as usize, outcome.value as usize];
-            print::line(rt, &[0, 0, 0, rest[0], rest[1]])
-        }
+        Ok(outcome) => print::line(
+            rt,
+            &[0, 0, 0, outcome.modulus as usize, outcome.value as usize],
+        ),
         Err(fault) => {
             let number = fault.number as usize;
             let list = fault.list as usize;

@@ -6,6 +6,7 @@ pub mod Written
 pub mod Handed
 pub mod WriteCall
 pub mod RoundTrips
+pub mod Kinds
 pub mod Record
 pub mod Reader
 pub mod Writer

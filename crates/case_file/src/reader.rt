@@ -3,7 +3,7 @@ ghost use Rattle.std.specs.Prelude.{◌≡◌};
 ghost use Rattle.case_file.specs.Reading.{refused, read_one, read as read_of};
 ghost use Rattle.field.specs.Refusal.{StandsFor};
 ghost use Rattle.case_file.specs.Handed.{contents, Gives, counted, refused_counts, contained, refused_contents};
-ghost use Rattle.case_file.specs.Record.Kinds.{kind_byte};
+ghost use Rattle.case_file.specs.Kinds.{kind_byte};
 ghost use Rattle.case_file.specs.Reader.Adding.{Ready, Adds};
 
 use crate::record::{self, Kind};

@@ -3,7 +3,8 @@ ghost use Rattle.std.specs.Prelude.{◌≡◌, ◌+◌, ◌≤◌, length};
 ghost use Rattle.std.proofs.lemmas.List.Edits.{sets};
 ghost use Rattle.case_file.specs.Format.{body as body_of, limit as limit_of, follows as follows_of, today};
 ghost use Rattle.case_file.specs.Handed.{counted};
-ghost use Rattle.case_file.specs.Record.Kinds.{kind_byte, standing, Decodes, Tests};
+ghost use Rattle.case_file.specs.Kinds.{kind_byte, Decodes};
+ghost use Rattle.case_file.specs.Record.Kinds.{standing, Tests};
 ghost use Rattle.case_file.specs.Record.Room.{held as held_of, two, four};
 
 use crate::Counts;

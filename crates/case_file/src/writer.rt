@@ -9,7 +9,7 @@ ghost use Rattle.case_file.specs.WriteCall.{write_call_of, singles_of, triples, 
 ghost use Rattle.field.specs.Loops.Putting.{Puts};
 ghost use Rattle.case_file.specs.Writer.Cases.{Writable};
 ghost use Rattle.case_file.specs.Writer.Length.{file_length, of_case};
-ghost use Rattle.case_file.specs.Record.Kinds.{kind_byte};
+ghost use Rattle.case_file.specs.Kinds.{kind_byte};
 ghost use Rattle.case_file.specs.Writer.Room.{NumbersFit};
 
 use crate::record::{self, Kind};

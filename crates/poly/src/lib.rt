@@ -1,5 +1,5 @@
 // Layer 2, polynomials in x, y, z, w modulo a listed prime: keys and lists, the value and the image at a point, division.
-// Slices are gone over by `for`, which runs by an index, and not by `position` or `rev`: an iterator's `next` hands over an `Option` of a reference,
+// Slices are gone over by `for`, which runs by an index, and not by `position` or a slice's `rev`: their `next` hands over an `Option` of a reference,
 // and the module, which is made for 64-bit pointers, reads that wrongly where it is compiled for the handheld's core.
 #![tactic(auto)]
 

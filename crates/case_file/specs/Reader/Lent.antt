@@ -18,9 +18,9 @@ pub record LendsRead (o : Reading) (k : Case) : Type 0 where
   pub points : k.points.now ≡ list o point_kind
 
 -- the first numbers of an array that begins with a list within it
-head_of : (m : ℕ) (xs : List ℕ) {n : ℕ} {ys : List ℕ} → length xs ≤ m → n ≡ length xs → ys ≡ padded m xs → take (min n m) ys ≡ xs
+lent_head : (m : ℕ) (xs : List ℕ) {n : ℕ} {ys : List ℕ} → length xs ≤ m → n ≡ length xs → ys ≡ padded m xs → take (min n m) ys ≡ xs
 unfolding padded
-head_of m xs h e q = rw (e, q, min-eq_left h) (take_at xs _ (length xs) refl)
+lent_head m xs h e q = rw (e, q, min-eq_left h) (take_at xs _ (length xs) refl)
 
 lends_fit : (o : Reading) {c : ReadContents} {k : Case} → Fit today o → contained c ≡ contents o → Lends c k → LendsRead o k
 unfolding kind_of
@@ -28,14 +28,14 @@ lends_fit o h e l =
     record {
       modulus = l.modulus ∙ ap (λ (r : Contents). r.modulus) e;
       first =
-          l.first ∙ head_of 256 (list o first_kind) (h first_kind) (ap (λ (r : Contents). r.first_count) e) (ap (λ (r : Contents). r.first) e);
+          l.first ∙ lent_head 256 (list o first_kind) (h first_kind) (ap (λ (r : Contents). r.first_count) e) (ap (λ (r : Contents). r.first) e);
       second =
-          l.second ∙ head_of 256 (list o second_kind) (h second_kind) (ap (λ (r : Contents). r.second_count) e) (ap (λ (r : Contents). r.second) e);
+          l.second ∙ lent_head 256 (list o second_kind) (h second_kind) (ap (λ (r : Contents). r.second_count) e) (ap (λ (r : Contents). r.second) e);
       skeleton =
           l.skeleton
-          ∙ head_of 32 (list o skeleton_kind) (h skeleton_kind) (ap (λ (r : Contents). r.skeleton_count) e) (ap (λ (r : Contents). r.skeleton) e);
+          ∙ lent_head 32 (list o skeleton_kind) (h skeleton_kind) (ap (λ (r : Contents). r.skeleton_count) e) (ap (λ (r : Contents). r.skeleton) e);
       points =
-          l.points ∙ head_of 96 (list o point_kind) (h point_kind) (ap (λ (r : Contents). r.points_count) e) (ap (λ (r : Contents). r.points) e);
+          l.points ∙ lent_head 96 (list o point_kind) (h point_kind) (ap (λ (r : Contents). r.points_count) e) (ap (λ (r : Contents). r.points) e);
     }
 
 pub lends_read : (bs : List ℕ) {c : ReadContents} {k : Case} → contained c ≡ contents (read bs) → Lends c k → LendsRead (read bs) k

@@ -1,20 +1,12 @@
--- The kinds of the code as the kind bytes of the format: the number of each, of which a byte is the kind, and what the tests of a record give.
-use Rattle.std.specs.Prelude.{◌≡◌, ℕ, Result, MatchResult, None, Some, true, false, refl}
+-- The kinds and their bytes: each is known, no two are equal, so a byte settles what it decodes to; and what the tests of a record give.
+use Rattle.std.specs.Prelude.{◌≡◌, refl, ℕ, true, [], ◌∷◌, get_or, None, Some, Result, Ok, Err, MatchResult}
 use Rattle.std.specs.declared.option.Option.{Option}
-use Rattle.field.specs.Numbers.{KIND_UNKNOWN}
+use Rattle.std.proofs.Common.{sym, ap, ◌∙◌, true≢false}
 use Rattle.case_file.specs.declared.record.Kind.{Kind}
 use Rattle.case_file.specs.declared.record.Kind.TheVariants.{Modulus, First, Second, Skeleton, Point, End}
-use Rattle.case_file.specs.Format.{modulus_kind, first_kind, second_kind, skeleton_kind, point_kind, end_kind, known, today}
+use Rattle.case_file.specs.Format.{known, today}
+use Rattle.case_file.specs.Kinds.{kind_byte, Decodes}
 use Rattle.case_file.specs.Reading.{fault_number}
-
--- the kind byte
-abbrev pub kind_byte : Kind → ℕ
-kind_byte Modulus = modulus_kind
-kind_byte First = first_kind
-kind_byte Second = second_kind
-kind_byte Skeleton = skeleton_kind
-kind_byte Point = point_kind
-kind_byte End = end_kind
 
 -- the byte of the kind before, 0 at the start of a file
 abbrev pub standing : Option Kind → ℕ
@@ -31,9 +23,24 @@ kind_known Skeleton = refl
 kind_known Point = refl
 kind_known End = refl
 
--- the kind of a byte, or the refusal of a byte that is not known
-abbrev pub Decodes : ℕ → Result Kind ℕ → Type 0
-Decodes byte r = MatchResult r (λ k. kind_byte k ≡ byte) (λ e. (e ≡ KIND_UNKNOWN) × (known today byte ≡ false))
+-- no two kinds have one byte
+abbrev kind_at : ℕ → Kind
+kind_at n = get_or (End ∷ Modulus ∷ First ∷ Second ∷ Skeleton ∷ Point ∷ []) n End
+
+at_byte : (k : Kind) → kind_at (kind_byte k) ≡ k
+at_byte Modulus = refl
+at_byte First = refl
+at_byte Second = refl
+at_byte Skeleton = refl
+at_byte Point = refl
+at_byte End = refl
+
+-- so a byte settles the `Result`
+pub decodes_determined : (byte : ℕ) (r q : Result Kind ℕ) → Decodes byte r → Decodes byte q → r ≡ q
+decodes_determined byte (Ok k) (Ok l) h i = ap Ok (sym (at_byte k) ∙ ap kind_at (h ∙ sym i) ∙ at_byte l)
+decodes_determined byte (Ok k) (Err e) h i = absurd (true≢false (sym (kind_known k) ∙ ap (known today) h ∙ i.1))
+decodes_determined byte (Err e) (Ok l) h i = absurd (true≢false (sym (kind_known l) ∙ ap (known today) i ∙ h.1))
+decodes_determined byte (Err e) (Err f) h i = ap Err (h.0 ∙ sym i.0)
 
 -- the kind of a byte whose record passes its tests, or the number of the first test that it does not pass
 abbrev pub Tests : (before byte held left : ℕ) → Result Kind ℕ → Type 0

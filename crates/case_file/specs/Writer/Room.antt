@@ -4,7 +4,7 @@ use Rattle.case_file.specs.declared.record.Kind.{Kind}
 use Rattle.case_file.specs.Format.{widths, today}
 use Rattle.case_file.specs.Written.{records}
 use Rattle.case_file.specs.WriteCall.{singles_of}
-use Rattle.case_file.specs.Record.Kinds.{kind_byte}
+use Rattle.case_file.specs.Kinds.{kind_byte}
 
 -- the buffer has room for the records of a list, of a kind with one number of these bytes
 pub record NumbersFit {A : Type 0} (width : ℕ) (value : A → ℕ) (kind : Kind) (list : List A) (at : ℕ) (buffer : List ℕ) : Type 0 where

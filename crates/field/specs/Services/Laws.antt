@@ -8,7 +8,7 @@ use Rattle.field.specs.Elements.Inverse.{inverse_unique}
 use Rattle.field.specs.Elements.Link.{inverse_mul}
 use Rattle.field.specs.Refusal.{Line, none, Passes, Refuses, StandsFor, RefutesAnotherList}
 use Rattle.field.specs.Faults.Laws.{OnePlaceEach, placed_one_place, whole_one_place, never_placed}
-use Rattle.field.specs.Faults.Laws.{refuses_determined, refuses_names, not_passes_and_refuses, numbered, refuses_positive, stands_err}
+use Rattle.field.specs.Faults.Laws.{refuses_determined, refuses_names, not_passes_and_refuses, numbered, refuses_positive, stands_err, stands_determined}
 use Rattle.field.specs.Contract.{element, Fit, Invertible, sum_of, difference_of, product_of, Inverse}
 use Rattle.field.specs.Arithmetic.{two_operands, inverse_operand, Arithmetic, refused, answered, AskSum, AskDifference, AskProduct, AskInverse, Answer, refused_answer, given_answer}
 use Rattle.field.specs.declared.faults.Fault.{Fault}
@@ -60,6 +60,28 @@ inverses_equal a r q h k =
 pub inverse_determined : (a : Element) (r q : Answer) → AskInverse a r → AskInverse a q → r ≡ q
 inverse_determined a =
     arithmetic_determined (inverse_operand a) (whole_one_place _, (placed_one_place 0 _, (whole_one_place _, tt))) (Inverse a) (inverses_equal a) a
+
+-- so each service gives one `Result`
+abbrev pub OneResult : Element → (Answer → Type 0) → Type 0
+OneResult a Promise = (r q : Result Element Fault)
+    → StandsFor (refused_answer a) given_answer Promise r → StandsFor (refused_answer a) given_answer Promise q → r ≡ q
+
+one_result : (a : Element) (Promise : Answer → Type 0) → ((r q : Answer) → Promise r → Promise q → r ≡ q) → OneResult a Promise
+one_result a Promise =
+    stands_determined (refused_answer a) given_answer Promise (λ f g e. ap (λ (r : Answer). r.fault) e) (λ x y e. ap (λ (r : Answer). r.element) e)
+    (λ f x l e. omega (arith, l, ap (λ (r : Answer). r.fault.number) e))
+
+pub ask_sum_determined : (a b : Element) → OneResult a (AskSum a b)
+ask_sum_determined a b = one_result a (AskSum a b) (sum_determined a b)
+
+pub ask_difference_determined : (a b : Element) → OneResult a (AskDifference a b)
+ask_difference_determined a b = one_result a (AskDifference a b) (difference_determined a b)
+
+pub ask_product_determined : (a b : Element) → OneResult a (AskProduct a b)
+ask_product_determined a b = one_result a (AskProduct a b) (product_determined a b)
+
+pub ask_inverse_determined : (a : Element) → OneResult a (AskInverse a)
+ask_inverse_determined a = one_result a (AskInverse a) (inverse_determined a)
 
 -- no service names another list than its number's
 pub arithmetic_another_list : (lines : List Line) (Outcome : Element → Type 0) (a : Element) → RefutesAnotherList (λ r. r.fault) (Arithmetic lines Outcome a)

@@ -8,7 +8,7 @@ use Rattle.field.specs.Modulus.Laws.{listed_prime, listed_unique}
 use Rattle.field.specs.Numbers.{NO_GOOD_POINT, list_at_fault}
 use Rattle.field.specs.Refusal.{fault, none, Passes, Refuses, StandsFor, RefutesAnotherList}
 use Rattle.field.specs.Faults.Laws.{OnePlaceEach, whole_one_place, first_one_place, one_place_append, refuses_determined, not_passes_and_refuses}
-use Rattle.field.specs.Faults.Laws.{refuses_names, passes_front, passes_back, refuses_positive, stands_err}
+use Rattle.field.specs.Faults.Laws.{refuses_names, passes_front, passes_back, refuses_positive, stands_err, stands_determined}
 use Rattle.field.specs.declared.faults.Fault.{Fault}
 use Rattle.poly.specs.ImageCall.{ImageRecord}
 use Rattle.poly.specs.declared.PointImage.{PointImage}
@@ -99,6 +99,16 @@ image_determined c r q (answered pass listed s x) (answered pass' listed' s' y) 
     PointAnswer c.modulus (listed_prime l) (terms_of c.modulus (listed_prime l) c.first_list)
     (terms_of c.modulus (listed_prime l) c.second_list) (point_of c.modulus (listed_prime l) c.point) s')
     (listed_unique _ listed' listed) y))
+
+monic_known : (u v : MonicImage) → found_image u ≡ found_image v → u ≡ v
+monic_known u v e = λ i. record { coefficients = (e i).coefficients; degree = (e i).degree }
+
+-- and so its `Result`
+pub image_result_determined : (c : ImageCall) (r q : Result MonicImage Fault)
+    → StandsFor refused_image found_image (ImageAnswer c) r → StandsFor refused_image found_image (ImageAnswer c) q → r ≡ q
+image_result_determined c =
+    stands_determined refused_image found_image (ImageAnswer c) (λ f g e. ap (λ (r : ImageRecord). r.fault) e) monic_known
+    (λ f u l e. omega (arith, l, ap (λ (r : ImageRecord). r.fault.number) e)) (image_determined c)
 
 record_names : (size : ℕ) (u : List ℕ) → (image_record size u).fault.list ≡ list_at_fault (image_record size u).fault.number
 record_names zero u = refl

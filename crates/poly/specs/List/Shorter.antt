@@ -5,9 +5,11 @@ use Rattle.std.specs.Borrow.{Bor}
 use Rattle.field.specs.Refusal.{Refuses, Passes}
 use Rattle.field.specs.Faults.Laws.{not_passes_and_refuses}
 use Rattle.field.specs.declared.faults.Fault.{Fault}
+use Rattle.poly.specs.declared.Picked.{Picked}
+use Rattle.poly.specs.declared.Picked.TheVariants.{First, Second}
 use Rattle.poly.specs.LeadingPart.{of_list, IsLeading, LeadingTerms, LeadingPart}
 use Rattle.poly.specs.LeadingPart as one
-use Rattle.poly.specs.ShorterPart.{of_two_lists, Shorter, refused, of_first, of_second, Head, ShorterHead, picked}
+use Rattle.poly.specs.ShorterPart.{of_two_lists, Shorter, refused, of_first, of_second, Head, head_of, ShorterHead, picked}
 use Rattle.poly.specs.ShorterPart.{ShorterPart, part_of_first, part_of_second}
 use Rattle.poly.specs.Search.{Searched}
 use Rattle.poly.specs.List.Model.{Lower}
@@ -91,6 +93,16 @@ pub shorter_head_determined : {A B : List ℕ} {r q : Head} → ShorterHead A B 
 shorter_head_determined (picked i head s) (picked j other u) =
     let e = shorter_settled s u in
     ap₂ pick e.0 (ap length e.1)
+
+-- a part is known by what is told of it
+pub head_known : (r q : Picked) → head_of r ≡ head_of q → r ≡ q
+head_known (First n) (First m) e = ap (λ (h : Head). First h.terms) e
+head_known (First n) (Second m) e = absurd (omega (arith, ap (λ (h : Head). h.list) e))
+head_known (Second n) (First m) e = absurd (omega (arith, ap (λ (h : Head). h.list) e))
+head_known (Second n) (Second m) e = ap (λ (h : Head). Second h.terms) e
+
+pub picked_determined : {A B : List ℕ} (r q : Picked) → ShorterHead A B (head_of r) → ShorterHead A B (head_of q) → r ≡ q
+picked_determined r q h k = head_known r q (shorter_head_determined h k)
 
 pub shorter_determined : {first second part other : Bor (List ℕ)} → ShorterPart first second part → ShorterPart first second other
     → (part.ref_ptr ≡ other.ref_ptr) × (part.now ≡ other.now)

@@ -1,5 +1,5 @@
 -- A list over another has one quotient at most, so the promise of the quotient service settles record, output and work room.
-use Rattle.std.specs.Prelude.{◌≡◌, refl, List, [], ◌∷◌, ℕ, ◌≤◌, ◌<◌, length, Result, Err}
+use Rattle.std.specs.Prelude.{◌≡◌, refl, List, [], ◌∷◌, ℕ, ◌≤◌, ◌<◌, length, Result, Ok, Err}
 use Rattle.std.proofs.Common.{sym, ◌∙◌, ap, subst, arith}
 use Rattle.algebra.specs.SeriesRing.{S4}
 use Rattle.algebra.specs.Polynomials.{D4, domain}
@@ -11,7 +11,7 @@ use Rattle.field.specs.Modulus.Laws.{listed_prime, listed_unique}
 use Rattle.field.specs.Modulo.{Modulo}
 use Rattle.field.specs.Refusal.{Line, none, Passes, Refuses, StandsFor, RefutesAnotherList}
 use Rattle.field.specs.Faults.Laws.{OnePlaceEach, whole_one_place, one_place_append, never_placed, refuses_determined, not_passes_and_refuses}
-use Rattle.field.specs.Faults.Laws.{refuses_names, refuses_positive, stands_err, passes_front, passes_back}
+use Rattle.field.specs.Faults.Laws.{refuses_names, refuses_positive, stands_err, stands_determined, passes_front, passes_back}
 use Rattle.field.specs.declared.faults.Fault.{Fault}
 use Rattle.poly.specs.Keys.{exponents, keys}
 use Rattle.poly.specs.Terms.{key_of, poly}
@@ -19,7 +19,7 @@ use Rattle.poly.specs.Divides.{Divides}
 use Rattle.poly.specs.Lists.{of_lists, Falling}
 use Rattle.field.specs.Lent.{written}
 use Rattle.poly.specs.Room.{of_rooms, cleared}
-use Rattle.poly.specs.QuotientCall.{QuotientCall, quotient_table, IsQuotient, QuotientResult, quotient_result, refused_quotient, found_quotient, Quotient, refused, no_quotient, quotient}
+use Rattle.poly.specs.QuotientCall.{QuotientCall, QuotientRecord, quotient_table, IsQuotient, QuotientResult, quotient_result, refused_quotient, found_quotient, Quotient, refused, no_quotient, quotient}
 use Rattle.poly.specs.TrialDivision.{CanDivide}
 use Rattle.poly.specs.List.Check.{lists_one_place}
 use Rattle.poly.specs.List.Right.{lists_are_right}
@@ -95,6 +95,30 @@ module _ (c : QuotientCall) where
       ap handed
       (quotient_unique c.modulus (listed_prime listed) c.first_list c.second_list qs rs g.some_divisor g.divisor_falls q
       (exact_same listed' listed rs q'))
+
+  -- a `Result` with output and work room stands for what the promise says
+  abbrev pub Told : Result ℕ Fault → List ℕ → List ℕ → Type 0
+  Told r output work = StandsFor refused_quotient found_quotient (λ q. Quotient c (quotient_result q output work)) r
+
+  told_of : {output work : List ℕ} (r : Result ℕ Fault) → Told r output work → (q : QuotientRecord) × Quotient c (quotient_result q output work)
+  told_of (Ok n) t = (found_quotient n, t)
+  told_of (Err f) t = (refused_quotient f, t.1)
+
+  -- two of one call are equal, and so are the rooms
+  pub quotient_result_determined : (r s : Result ℕ Fault) (output output' work work' : List ℕ)
+      → Told r output work → Told s output' work' → (r ≡ s) × (output ≡ output') × (work ≡ work')
+  quotient_result_determined r s output output' work work' t u =
+      let same = quotient_determined _ _ (told_of r t).1 (told_of s u).1 in
+      let o : output ≡ output' = ap (λ (q : QuotientResult). q.output) same in
+      let w : work ≡ work' = ap (λ (q : QuotientResult). q.work) same in
+      let there : Told s output work = subst (λ (b : List ℕ). Told s b work) (sym o) (subst (Told s output') (sym w) u) in (
+        stands_determined refused_quotient found_quotient (λ q. Quotient c (quotient_result q output work))
+            (λ f g e. ap (λ (q : QuotientRecord). q.fault) e) (λ n m e. ap (λ (q : QuotientRecord). q.terms) e)
+            (λ f n l e. omega (arith, l, ap (λ (q : QuotientRecord). q.fault.number) e))
+            (λ q z h k. ap (λ (x : QuotientResult). x.found) (quotient_determined _ _ h k)) r s t there,
+        o,
+        w,
+      )
 
   -- its error, where the inputs do not pass, is the table's
   pub quotient_refused : (f : Fault) → Refuses (quotient_table c) f → {r : Result ℕ Fault} → r ≡ Err f

@@ -9,7 +9,7 @@ use Rattle.case_file.specs.declared.record.Kind.TheVariants.{Modulus, First, Sec
 use Rattle.case_file.specs.Format.{end_kind}
 use Rattle.case_file.specs.Case.{added}
 use Rattle.case_file.specs.Handed.{Counts}
-use Rattle.case_file.specs.Record.Kinds.{kind_byte}
+use Rattle.case_file.specs.Kinds.{kind_byte}
 use Rattle.case_file.specs.Record.Arrays.{gives}
 use Rattle.case_file.specs.Reader.Alone.{refused_told}
 use Rattle.case_file.specs.Reader.Progress.{begun, out, stopped, ended, fits_in, ready, carried}

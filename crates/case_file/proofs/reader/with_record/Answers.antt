@@ -1,6 +1,6 @@
 -- `with_record` adds a record to its list: in each arm of the match the kind is known, and the law of that kind says the rest.
 use Rattle.std.proofs.Common.{ap, arith}
-use Rattle.case_file.specs.Record.Kinds.{kind_byte}
+use Rattle.case_file.specs.Kinds.{kind_byte}
 use Rattle.case_file.specs.Reader.Adding.{modulus_whole, first_place, second_place, key_place, point_place}
 use Rattle.case_file.specs.Reader.Adding.{modulus_added, first_added, second_added, key_added, point_added}
 use Rattle.case_file.proofs.reader.with_record.Goals as goal

@@ -1,6 +1,6 @@
 -- The loop of `write_numbers`: of the records of the list those of what is left of it are still to be put (`Listing`).
 use Rattle.std.proofs.Common.{◌≡◌, ◌∙◌, ◌∷◌, ◌+◌, ◌<◌, ℕ, List, length, get_or, drop, refl, add-one, arith, drop-cons, drop_of_length-le}
-use Rattle.case_file.specs.Record.Kinds.{kind_byte}
+use Rattle.case_file.specs.Kinds.{kind_byte}
 use Rattle.case_file.specs.Written.{bytes}
 use Rattle.case_file.specs.Record.Packing.{length_bytes}
 use Rattle.case_file.specs.Writer.Turns.{listing_next, listing_room, listing_end, singles_turn}

@@ -9,7 +9,7 @@ use Rattle.case_file.specs.declared.record.Kind.{Kind}
 use Rattle.case_file.specs.declared.record.Kind.TheVariants.{Modulus, First, Second, Skeleton, Point, End}
 use Rattle.case_file.specs.Format.{today, follows}
 use Rattle.case_file.specs.Record.Tests.{follows_later}
-use Rattle.case_file.specs.Record.Kinds.{kind_byte}
+use Rattle.case_file.specs.Kinds.{kind_byte}
 use Rattle.case_file.proofs.record.Kind.follows.Goals as goal
 
 abbrev place : Kind → ℤ
