@@ -1,5 +1,5 @@
 -- Parts of a list with as many numbers for each index: the a numbers of index i stand from the place a * i on. Numbers that are stored as the part of
--- an index are that part, and the other parts stay. A loop stores them one after the other.
+-- an index are that part, and the other parts stay.
 use Rattle.std.specs.Prelude.{◌≡◌, refl, ◌⊎◌, List, ℕ, suc, ◌+◌, ◌-◌, ◌*◌, ◌≤◌, ◌<◌, min, length, get_or, take, drop}
 use Rattle.std.proofs.Common.{sym, ◌∙◌, ap, inl, inr, mul-suc, mul-le-mul_left, arith, length-take, length-drop, rules, length-take-le, get_or-take, get_or-drop, ext_get_or}
 use Rattle.std.proofs.Math.Decide.{dec_lt}
