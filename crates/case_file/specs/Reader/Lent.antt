@@ -17,10 +17,14 @@ pub record LendsRead (o : Reading) (k : Case) : Type 0 where
   pub skeleton : k.skeleton.now ≡ list o skeleton_kind
   pub points : k.points.now ≡ list o point_kind
 
--- the first numbers of an array that begins with a list within it
-lent_head : (m : ℕ) (xs : List ℕ) {n : ℕ} {ys : List ℕ} → length xs ≤ m → n ≡ length xs → ys ≡ padded m xs → take (min n m) ys ≡ xs
+-- the first numbers of an array that begins with a list
+pub take_padded : (n : ℕ) (xs : List ℕ) → take (length xs) (padded n xs) ≡ xs
 unfolding padded
-lent_head m xs h e q = rw (e, q, min-eq_left h) (take_at xs _ (length xs) refl)
+take_padded n xs = take_at xs _ (length xs) refl
+
+-- as many as a count says and the array holds, of a list within it
+lent_head : (m : ℕ) (xs : List ℕ) {n : ℕ} {ys : List ℕ} → length xs ≤ m → n ≡ length xs → ys ≡ padded m xs → take (min n m) ys ≡ xs
+lent_head m xs h e q = rw (e, q, min-eq_left h) (take_padded m xs)
 
 lends_fit : (o : Reading) {c : ReadContents} {k : Case} → Fit today o → contained c ≡ contents o → Lends c k → LendsRead o k
 unfolding kind_of

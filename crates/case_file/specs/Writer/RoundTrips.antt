@@ -10,12 +10,12 @@ use Rattle.case_file.specs.Case.{Case, added, flat}
 use Rattle.case_file.specs.Reading.{Reading, whole, read_one, read}
 use Rattle.case_file.specs.Reading as reading
 use Rattle.case_file.specs.Written.{file_of, Storable}
-use Rattle.case_file.specs.Handed.{Contents, Counts, padded, contents, contained, Gives, Lends}
+use Rattle.case_file.specs.Handed.{Contents, Counts, contents, contained, Gives, Lends}
 use Rattle.case_file.specs.WriteCall.{WriteCall, write_call, write_call_of, call_case, file, write_table, WriteResult, wrote, Write, refused, accepted}
 use Rattle.case_file.specs.RoundTrips.{OfWidth, lists_of, call_of, ReadOfWritten, WrittenOfRead, NeverLonger}
 use Rattle.case_file.specs.RoundTrips.{together, HandsBack, ReadIntoOfWritten, ReadOneIntoOfWritten, WrittenOfReadInto, WrittenOfReadOneInto}
 use Rattle.case_file.specs.Reader.Alone.{Numbered, read_one_numbered}
-use Rattle.case_file.specs.Reader.Lent.{lends_read}
+use Rattle.case_file.specs.Reader.Lent.{take_padded, lends_read}
 use Rattle.case_file.specs.Reader.Today as reader
 use Rattle.case_file.specs.Writer.Cases.{flat_singles, flat_triples, CanWrite, writable, not_unwritable, case_within, case_storable}
 use Rattle.case_file.specs.Writer.Cases.{lists_writable, case_of_lists}
@@ -63,10 +63,6 @@ pub read_of_written : ReadOfWritten
 read_of_written c o w h z r e =
     let b = reads_back c o w h z in
     e ∙ ap contents b.alone ∙ lists_back c b.can w.found.length
-
-take_padded : (n : ℕ) (ns : List ℕ) → take (length ns) (padded n ns) ≡ ns
-unfolding padded
-take_padded n ns = take_at ns _ (length ns) refl
 
 -- a case that is lent of what was read is written back as what was handed back
 pub lent_call : (bs : List ℕ) {r : ReadContents} {k : Lent} → contained r ≡ contents (read bs) → Lends r k → (buffer : List ℕ)

@@ -1,8 +1,9 @@
 -- A list that stands first in an array; one that is padded to an array does.
 use Rattle.std.specs.Prelude.{ℕ, ◌≡◌, List, length, take}
-use Rattle.std.proofs.Common.{arith, sym, ap, length-append, take_at}
+use Rattle.std.proofs.Common.{arith, ap, length-append}
 use Rattle.console.specs.Counts.{IsPrefixLen}
 use Rattle.case_file.specs.Handed.{padded}
+use Rattle.case_file.specs.Reader.Lent.{take_padded}
 use Rattle.console.specs.Answer.TermsFirst.{counts_within}
 
 -- the first n numbers of the array are the list
@@ -15,5 +16,5 @@ unfolding padded
 padded_first m n array numbers k e =
     record {
       counts = counts_within n array (omega (arith, simp length-append at (ap length e)));
-      is = rw (e, take_at numbers _ n (sym k));
+      is = rw (e, k) (take_padded m numbers);
     }
